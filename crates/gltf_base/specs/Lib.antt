@@ -1,0 +1,10 @@
+pub mod Lists
+pub mod Indexes
+pub mod Spelling
+pub mod Choices
+pub mod Keys
+pub mod Semantics
+pub mod Names
+pub mod Steps
+pub mod Text
+pub mod Reals

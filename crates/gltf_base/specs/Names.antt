@@ -1,0 +1,37 @@
+-- The key that the name of an attribute is read as (glTF 2.0, section 3.7.2.1).
+use Rattle.std.specs.Prelude.{ℕ, ◌^◌, ◌==◌, nat_lt, length, List, [], ◌∷◌, Bool, true, ◌&&◌, Option, Some, None, option_map, option_and_then, unwrap_or, codes, if◌then◌else◌}
+use Rattle.std.specs.Char.{digit_value}
+use Rattle.std.specs.Str.{bytes_eq}
+use Rattle.std.specs.Str.Parse.{digits_value, without_leading_plus}
+use Rattle.gltf_base.specs.Keys.{Key, extras, positions, normals, tangents, colors, tex_coords, joints, weights, unknown}
+
+abbrev pub are_digits : List ℕ → Bool
+are_digits [] = true
+are_digits (c ∷ cs) = nat_lt (digit_value c) 10 && are_digits cs
+
+-- the number of a set: one or more digits, behind at most one plus sign
+abbrev pub set_number : List ℕ → Option ℕ
+set_number text =
+    let digits = without_leading_plus text in
+    if nat_lt 0 (length digits) && are_digits digits && nat_lt (digits_value 10 digits) (2 ^ 32) then Some (digits_value 10 digits) else None
+
+-- what stands behind a prefix
+abbrev pub behind : List ℕ → List ℕ → Option (List ℕ)
+behind [] text = Some text
+behind (p ∷ ps) [] = None
+behind (p ∷ ps) (c ∷ cs) = if p == c then behind ps cs else None
+
+-- the key of a numbered set, or another
+abbrev pub set_or : List ℕ → (ℕ → Key) → List ℕ → Key → Key
+set_or prefix key text other = unwrap_or (option_map key (option_and_then set_number (behind prefix text))) other
+
+abbrev pub set_key : List ℕ → Key
+set_key text = set_or (codes "COLOR_") colors text (set_or (codes "TEXCOORD_") tex_coords text (set_or (codes "JOINTS_") joints text (set_or (codes "WEIGHTS_") weights text unknown)))
+
+abbrev pub plain_key : List ℕ → Key
+plain_key text = if bytes_eq text (codes "POSITION") then positions else if bytes_eq text (codes "NORMAL") then normals else if bytes_eq text (codes "TANGENT") then tangents else set_key text
+
+-- a name that begins with '_' (95) is the application's own
+unfoldable pub key_named : List ℕ → Key
+key_named [] = unknown
+key_named (c ∷ cs) = if c == 95 then extras cs else plain_key (c ∷ cs)

@@ -1,0 +1,84 @@
+//! Indexes into the lists of a document.
+
+ghost use Rattle.std.specs.Prelude.{◌≡◌};
+ghost use Rattle.gltf_base.specs.Lists.{ListName};
+
+use std::fmt::{self, Debug, Display, Formatter, Write};
+use std::marker::PhantomData;
+
+/// A type whose values a document lists.
+pub trait Listed {
+    ghost list: { ListName };
+}
+
+/// What the indexes into a list are written by: a pointer to what the list holds.
+pub trait Names {
+    type Item;
+
+    ghost list: { ListName };
+}
+
+impl<T: Listed + 'static> Names for *const T {
+    type Item = T;
+
+    ghost list = { T.list };
+}
+
+/// The place of a `T` in the document's list of them.
+pub type Index<T> = IndexTo<*const T>;
+
+/// A place in a list. It names what the list holds as behind a pointer, so that a node may hold
+/// indexes of nodes. No pointer is ever made.
+#[derive_where(Clone, Copy, PartialEq, Eq, PartialOrd, Ord, Hash)]
+pub struct IndexTo<P>(u32, PhantomData<P>);
+
+unsafe impl<P> Send for IndexTo<P> {}
+
+unsafe impl<P> Sync for IndexTo<P> {}
+
+impl<T> Index<T> {
+    ghost use Rattle.gltf_base.specs.Indexes.{index_number};
+
+    /// The index that a number is.
+    pub fn new(number: u32) -> Index<T>
+        ensures { index_number result ≡ number }
+    {
+        IndexTo(number, PhantomData)
+    }
+
+    /// The index as a place in a slice.
+    pub fn value(&self) -> usize
+        ensures { result ≡ index_number self.now }
+    {
+        self.0 as usize
+    }
+}
+
+impl<P> IndexTo<P> {
+    ghost use Rattle.gltf_base.specs.Indexes.{index_number};
+
+    /// The index as a place in a slice, whatever it goes into.
+    pub fn number(&self) -> u32
+        ensures { result ≡ index_number self.now }
+    {
+        self.0
+    }
+}
+
+impl<P> Display for IndexTo<P> {
+    ghost use Rattle.std.specs.Prelude.{Some};
+    ghost use Rattle.std.specs.Fmt.{decimal};
+    ghost use Rattle.gltf_base.specs.Indexes.{index_number};
+
+    ghost output = { λ i. Some (decimal (index_number i)) };
+
+    fn fmt<W: Write>(&self, f: &mut Formatter<W>) -> fmt::Result {
+        Display::fmt(&self.0, f)
+    }
+}
+
+impl<P> Debug for IndexTo<P> {
+    fn fmt<W: Write>(&self, f: &mut Formatter<W>) -> fmt::Result {
+        Debug::fmt(&self.0, f)
+    }
+}

@@ -57,7 +57,14 @@ impl<T> Index<T> {
 impl<P> IndexTo<P> {
     ghost use Rattle.gltf_base.specs.Indexes.{index_number};
 
-    /// The index as a place in a slice, whatever it goes into.
+    /// The index that a number is, whatever it goes into.
+    pub fn from_number(number: u32) -> IndexTo<P>
+        ensures { index_number result ≡ number }
+    {
+        IndexTo(number, PhantomData)
+    }
+
+    /// The number of the index, whatever it goes into.
     pub fn number(&self) -> u32
         ensures { result ≡ index_number self.now }
     {

@@ -1,0 +1,5 @@
+pub mod TakingOut
+pub mod Items
+pub mod Choosing
+pub mod RowByRow
+pub mod ReadPlain

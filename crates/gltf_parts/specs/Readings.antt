@@ -1,0 +1,39 @@
+-- Rows read from members that are under way, or that failed.
+use Rattle.std.specs.Prelude.{◌≡◌, ℕ, List, Option, Result, Ok, Err}
+use Rattle.serde_json.specs.Data.{Members}
+use Rattle.serde_json.specs.View.{members_view}
+use Rattle.std.specs.Prelude.{String}
+use Rattle.std.specs.declared.alloc.Global.{Global}
+use Rattle.std.specs.BTreeMap.{BTreeMap}
+use Rattle.serde_json.specs.declared.value.Value.{Value}
+use Rattle.gltf_parts.specs.declared.error.Error.{Error}
+use Rattle.gltf_parts.specs.declared.reading.Reading.{Reading}
+use Rattle.gltf_parts.specs.Outcome.{Reads}
+use Rattle.gltf_parts.specs.Tree.{Tree, Trees}
+use Rattle.gltf_parts.specs.Kind.{Mark, Kind, Rows}
+use Rattle.gltf_parts.specs.Taken.{take_member, take_rows}
+
+-- the members that are left, or why reading failed
+abbrev pub members_or_error : Result (BTreeMap (String Global) Value) Error → Result Members Error
+members_or_error (Ok m) = Ok (members_view m.entries)
+members_or_error (Err e) = Err e
+
+abbrev pub reading_state : Reading → Result Members Error
+reading_state r = members_or_error r.state
+
+-- a row's tree and the members left after it; what failed before stays
+abbrev pub MemberFrom : Result Members Error → List ℕ → Mark → Kind → Tree → Result Members Error → Type 0
+MemberFrom (Ok ms) n mark kind t after = Reads (λ left. (t, left)) after (take_member n mark kind ms)
+MemberFrom (Err e) n mark kind t after = after ≡ Err e
+
+abbrev pub RowsFrom : Result Members Error → Rows → Trees → Result Members Error → Type 0
+RowsFrom (Ok ms) rows ts after = Reads (λ left. (ts, left)) after (take_rows rows ms)
+RowsFrom (Err e) rows ts after = after ≡ Err e
+
+-- one row was read
+pub record ReadsMember (before : Result Members Error) (n : List ℕ) (mark : Mark) (kind : Kind) (t : Tree) (after : Result Members Error) : Type 0 where
+  pub is : MemberFrom before n mark kind t after
+
+-- each row was
+pub record ReadsRows (before : Result Members Error) (rows : Rows) (ts : Trees) (after : Result Members Error) : Type 0 where
+  pub is : RowsFrom before rows ts after

@@ -1,0 +1,49 @@
+//! Values that stand where nothing was read.
+
+use crate::schema::Schema;
+use gltf_base::choice::Choice;
+use gltf_base::validation::{Checked, USize64};
+use gltf_base::{IndexTo, Names};
+use std::alloc::Global;
+
+/// A type with a value that stands where reading failed, and that is dropped with the object.
+pub trait Blank: Schema {
+    /// That value, which takes no memory.
+    fn blank(alloc: Global) -> Self;
+}
+
+impl Blank for u32 {
+    fn blank(_alloc: Global) -> u32 {
+        0
+    }
+}
+
+impl Blank for USize64 {
+    fn blank(_alloc: Global) -> USize64 {
+        USize64(0)
+    }
+}
+
+impl Blank for String {
+    fn blank(alloc: Global) -> String {
+        String::new(alloc)
+    }
+}
+
+impl<P: Names> Blank for IndexTo<P> {
+    fn blank(_alloc: Global) -> IndexTo<P> {
+        IndexTo::from_number(0)
+    }
+}
+
+impl<T: Choice> Blank for Checked<T> {
+    fn blank(_alloc: Global) -> Checked<T> {
+        Checked::Invalid
+    }
+}
+
+impl<T: Schema> Blank for Vec<T> {
+    fn blank(alloc: Global) -> Vec<T> {
+        Vec::new(alloc)
+    }
+}

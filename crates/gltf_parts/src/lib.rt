@@ -1,0 +1,15 @@
+//! The table of glTF 2.0 objects: how its kinds are read from JSON, and the objects of accessors,
+//! buffers, images, textures and materials.
+#![tactic(auto)]
+
+mod blank;
+pub mod error;
+mod leaf;
+mod members;
+mod reading;
+mod schema;
+
+pub use blank::Blank;
+pub use error::Error;
+pub use reading::Reading;
+pub use schema::{Object, Schema};

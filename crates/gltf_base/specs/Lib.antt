@@ -2,6 +2,9 @@ pub mod Lists
 pub mod Indexes
 pub mod Spelling
 pub mod Choices
+pub mod Elements
+pub mod SceneChoices
+pub mod TextureChoices
 pub mod Keys
 pub mod Semantics
 pub mod Names

@@ -1,8 +1,9 @@
 //! The choices of accessors.
 
-ghost use Rattle.std.specs.Prelude.{◌≡◌};
+ghost use Rattle.std.specs.Prelude.{◌≡◌, map};
 ghost use Rattle.gltf_base.specs.Spelling.{by_number, by_name, item_spelled};
-ghost use Rattle.gltf_base.specs.Choices.{component_type_spelling, generic_component_type_spelling, generic_component_types, accessor_type_spelling, accessor_types};
+ghost use Rattle.gltf_base.specs.Choices.{component_type_spelling, generic_component_type_spelling, generic_component_types, index_component_type_spelling, index_component_types, accessor_type_spelling, accessor_types};
+ghost use Rattle.gltf_base.specs.Elements.{component_size, component_count};
 
 use crate::choice::{Choice, Form, Spelling, item_of};
 use crate::validation::Checked;
@@ -26,6 +27,30 @@ pub const UNSIGNED_INT: u32 = 5125;
 /// `GL_FLOAT`.
 pub const FLOAT: u32 = 5126;
 
+/// The numbers of the component types.
+pub const VALID_COMPONENT_TYPES: &[u32] = &[
+    BYTE,
+    UNSIGNED_BYTE,
+    SHORT,
+    UNSIGNED_SHORT,
+    UNSIGNED_INT,
+    FLOAT,
+];
+
+/// The numbers of the component types of indexes.
+pub const VALID_INDEX_TYPES: &[u32] = &[UNSIGNED_BYTE, UNSIGNED_SHORT, UNSIGNED_INT];
+
+/// The names of the types.
+pub const VALID_ACCESSOR_TYPES: &[&str] = &[
+    "SCALAR",
+    "VEC2",
+    "VEC3",
+    "VEC4",
+    "MAT2",
+    "MAT3",
+    "MAT4",
+];
+
 /// The type of one component of an element.
 #[derive(Clone, Copy, Debug, PartialEq, Eq)]
 pub enum ComponentType {
@@ -38,6 +63,17 @@ pub enum ComponentType {
 }
 
 impl ComponentType {
+    /// How many bytes one component takes.
+    pub fn size(&self) -> usize
+        ensures { result ≡ component_size self.now }
+    {
+        match self {
+            ComponentType::I8 | ComponentType::U8 => 1,
+            ComponentType::I16 | ComponentType::U16 => 2,
+            ComponentType::U32 | ComponentType::F32 => 4,
+        }
+    }
+
     /// The number by which a document spells the type.
     pub fn as_gl_enum(self) -> u32
         ensures { by_number result ≡ component_type_spelling self }
@@ -105,6 +141,55 @@ impl GenericComponentType {
     }
 }
 
+/// A component type of indexes. It may hold any of the six; three of them are read.
+#[derive(Clone, Copy, Debug)]
+pub struct IndexComponentType(pub ComponentType);
+
+impl Choice for IndexComponentType {
+    ghost use Rattle.std.specs.Prelude.{refl};
+    ghost use Rattle.gltf_base.specs.declared.choice.Form.TheVariants.{Number};
+
+    ghost spelling = { index_component_type_spelling };
+
+    ghost listed = { index_component_types };
+
+    ghost form = { Number };
+
+    ghost reads_back = { (refl, (refl, (refl, tt))) };
+
+    fn form() -> Form {
+        Form::Number
+    }
+
+    fn listed() -> &'static [IndexComponentType] {
+        &[
+            IndexComponentType(ComponentType::U8),
+            IndexComponentType(ComponentType::U16),
+            IndexComponentType(ComponentType::U32),
+        ]
+    }
+
+    fn spelling(self) -> Spelling<'static> {
+        Spelling::Number(u64::from(self.as_gl_enum()))
+    }
+}
+
+impl IndexComponentType {
+    /// The component type of indexes that a number spells.
+    pub fn from_gl_enum(number: u64) -> Checked<IndexComponentType>
+        ensures { result ≡ item_spelled index_component_type_spelling index_component_types (by_number number) }
+    {
+        item_of(Spelling::Number(number))
+    }
+
+    /// The number by which a document spells the type, also of one that isn't read.
+    pub fn as_gl_enum(self) -> u32
+        ensures { by_number result ≡ index_component_type_spelling self }
+    {
+        self.0.as_gl_enum()
+    }
+}
+
 /// How many components an element has, and how they lie.
 #[derive(Clone, Copy, Debug, PartialEq, Eq)]
 pub enum AccessorType {
@@ -151,6 +236,20 @@ impl Choice for AccessorType {
 }
 
 impl AccessorType {
+    /// How many components an element has.
+    pub fn multiplicity(&self) -> usize
+        ensures { result ≡ component_count self.now }
+    {
+        match self {
+            AccessorType::Scalar => 1,
+            AccessorType::Vec2 => 2,
+            AccessorType::Vec3 => 3,
+            AccessorType::Vec4 | AccessorType::Mat2 => 4,
+            AccessorType::Mat3 => 9,
+            AccessorType::Mat4 => 16,
+        }
+    }
+
     /// The type that a name spells.
     pub fn from_name(name: &str) -> Checked<AccessorType>
         ensures { result ≡ item_spelled accessor_type_spelling accessor_types (by_name name.now) }
@@ -172,4 +271,16 @@ impl AccessorType {
             AccessorType::Mat4 => "MAT4",
         }
     }
+}
+
+/// The constants of this module are those that the specification lists.
+pub fn constants_are_listed()
+    ensures numbers { (BYTE ≡ 5120) × (UNSIGNED_BYTE ≡ 5121) × (SHORT ≡ 5122) × (UNSIGNED_SHORT ≡ 5123)
+        × (UNSIGNED_INT ≡ 5125) × (FLOAT ≡ 5126) }
+    ensures component_types { map by_number VALID_COMPONENT_TYPES.now
+        ≡ map generic_component_type_spelling generic_component_types }
+    ensures index_types { map by_number VALID_INDEX_TYPES.now
+        ≡ map index_component_type_spelling index_component_types }
+    ensures types { map (λ name. by_name name.now) VALID_ACCESSOR_TYPES.now ≡ map accessor_type_spelling accessor_types }
+{
 }

@@ -1,6 +1,6 @@
 //! The choices of buffers and their views.
 
-ghost use Rattle.std.specs.Prelude.{◌≡◌};
+ghost use Rattle.std.specs.Prelude.{◌≡◌, map};
 ghost use Rattle.gltf_base.specs.Spelling.{by_number, item_spelled};
 ghost use Rattle.gltf_base.specs.Choices.{target_spelling, targets};
 
@@ -12,6 +12,9 @@ pub const ARRAY_BUFFER: u32 = 34962;
 
 /// `GL_ELEMENT_ARRAY_BUFFER`.
 pub const ELEMENT_ARRAY_BUFFER: u32 = 34963;
+
+/// The numbers of the targets.
+pub const VALID_TARGETS: &[u32] = &[ARRAY_BUFFER, ELEMENT_ARRAY_BUFFER];
 
 /// The least stride of a view, in bytes.
 pub const MIN_BYTE_STRIDE: usize = 4;
@@ -68,4 +71,12 @@ impl Target {
             Target::ElementArrayBuffer => ELEMENT_ARRAY_BUFFER,
         }
     }
+}
+
+/// The constants of this module are those that the specification lists.
+pub fn constants_are_listed()
+    ensures numbers { (ARRAY_BUFFER ≡ 34962) × (ELEMENT_ARRAY_BUFFER ≡ 34963) }
+    ensures strides { (MIN_BYTE_STRIDE ≡ 4) × (MAX_BYTE_STRIDE ≡ 252) }
+    ensures targets { map by_number VALID_TARGETS.now ≡ map target_spelling targets }
+{
 }

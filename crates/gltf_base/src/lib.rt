@@ -2,12 +2,18 @@
 #![tactic(auto)]
 
 pub mod accessor;
+pub mod animation;
 pub mod buffer;
+pub mod camera;
 pub mod choice;
+pub mod extensions;
+pub mod image;
 pub mod index;
+pub mod material;
 pub mod mesh;
 pub mod path;
 pub mod real;
+pub mod texture;
 pub mod validation;
 
 pub use index::{Index, IndexTo, Listed, Names};

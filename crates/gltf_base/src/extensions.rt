@@ -1,0 +1,3 @@
+//! The choices of extensions.
+
+pub mod scene;

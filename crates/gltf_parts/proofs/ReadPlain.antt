@@ -14,6 +14,7 @@ use Rattle.gltf_parts.specs.Kind.{Mark, required, optional, always, unless, some
 use Rattle.gltf_parts.specs.Read.{read, read_rows, read_items, read_member, read_entries, choice_among, spelling_in, small_number, whole_number, all_numbers, others, kept}
 use Rattle.gltf_parts.specs.Plain.{is_plain, are_plain, none_named, are_none, all_trees, is_null_kept, is_sound, are_sound, has_plain_default}
 use Rattle.gltf_parts.proofs.TakingOut.{IsSoundRow, sound_row}
+
 -- ---- what an optional step gave
 
 mapped : {A B : Type 0} (f : A → B) (r : Option A) (y : B) → option_map f r ≡ Some y → (x : A) × (r ≡ Some x) × (f x ≡ y)

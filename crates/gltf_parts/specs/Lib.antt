@@ -8,3 +8,9 @@ pub mod ErrorText
 pub mod Taken
 pub mod Readings
 pub mod Leaves
+pub mod Fields
+pub mod Extensions
+pub mod AccessorTable
+pub mod AccessorTrees
+pub mod BufferTable
+pub mod BufferTrees

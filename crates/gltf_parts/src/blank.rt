@@ -1,13 +1,11 @@
 //! Values that stand where nothing was read.
 
-use crate::schema::Schema;
-use gltf_base::choice::Choice;
 use gltf_base::validation::{Checked, USize64};
-use gltf_base::{IndexTo, Names};
+use gltf_base::IndexTo;
 use std::alloc::Global;
 
 /// A type with a value that stands where reading failed, and that is dropped with the object.
-pub trait Blank: Schema {
+pub trait Blank: Drop {
     /// That value, which takes no memory.
     fn blank(alloc: Global) -> Self;
 }
@@ -30,19 +28,19 @@ impl Blank for String {
     }
 }
 
-impl<P: Names> Blank for IndexTo<P> {
+impl<P> Blank for IndexTo<P> {
     fn blank(_alloc: Global) -> IndexTo<P> {
         IndexTo::from_number(0)
     }
 }
 
-impl<T: Choice> Blank for Checked<T> {
+impl<T: Drop> Blank for Checked<T> {
     fn blank(_alloc: Global) -> Checked<T> {
         Checked::Invalid
     }
 }
 
-impl<T: Schema> Blank for Vec<T> {
+impl<T: Drop> Blank for Vec<T> {
     fn blank(alloc: Global) -> Vec<T> {
         Vec::new(alloc)
     }

@@ -2,8 +2,12 @@
 //! buffers, images, textures and materials.
 #![tactic(auto)]
 
+pub mod accessor;
 mod blank;
+pub mod buffer;
 pub mod error;
+pub mod extensions;
+pub mod extras;
 mod leaf;
 mod members;
 mod reading;

@@ -58,7 +58,7 @@ impl Reading {
     }
 
     /// A member that has to be there.
-    pub fn required<T: Blank>(&mut self, name: &str) -> T
+    pub fn required<T: Schema + Blank>(&mut self, name: &str) -> T
         ensures { ReadsMember (reading_state self.old) name.now is_required T.kind
             (T.tree result) (reading_state self.new) }
     {

@@ -16,4 +16,4 @@ pub returns-in-Object-clause-plain : goal.returns-in-Object-clause-plain
 returns-in-Object-clause-plain g c =
     let t = g.T.Object in
     decoded_plain (object_kind t.named t.rows t.keeps) (λ x. object (t.members x) (t.unknown x)) c.decode_members.result (view c.args.value) g.met.T.Object.sound
-      (rw (c.in-Object.is, view-Object c.in-Object.found) (decoded c.decode_members.result t.members t.unknown t.rows t.keeps (members_view c.in-Object.found.entries) g.met.T.Object.sound c.decode_members.ensures))
+    (rw (c.in-Object.is, view-Object c.in-Object.found) (decoded c.decode_members.result t.members t.unknown t.rows t.keeps (members_view c.in-Object.found.entries) g.met.T.Object.sound c.decode_members.ensures))

@@ -1,0 +1,83 @@
+-- The rows of accessors (glTF 2.0, sections 5.1 to 5.4).
+use Rattle.std.specs.Prelude.{◌≡◌, true, false, codes, refl}
+use Rattle.gltf_base.specs.Lists.{buffer_views}
+use Rattle.gltf_base.specs.Choices.{generic_component_type_spelling, generic_component_types, index_component_type_spelling, index_component_types, accessor_type_spelling, accessor_types}
+use Rattle.gltf_base.specs.declared.choice.Form.TheVariants as form
+use Rattle.gltf_parts.specs.Tree.{whole, truth}
+use Rattle.gltf_parts.specs.Kind.{required, optional, always, unless, Kind, IndexInto, U64, Text, Truth, Any, Object, ObjectName, Rows, ◌◂◌}
+use Rattle.gltf_parts.specs.Leaves.{choice_of}
+use Rattle.gltf_parts.specs.Extensions.{kept_extensions, dropped_extensions, extensions_and_extras}
+use Rattle.gltf_parts.specs.Plain.{are_sound}
+
+abbrev pub component_type_kind : Kind
+component_type_kind = choice_of form.Number generic_component_type_spelling generic_component_types
+
+abbrev pub index_component_type_kind : Kind
+index_component_type_kind = choice_of form.Number index_component_type_spelling index_component_types
+
+abbrev pub accessor_type_kind : Kind
+accessor_type_kind = choice_of form.Name accessor_type_spelling accessor_types
+
+unfoldable pub sparse_indices_rows : Rows
+sparse_indices_rows =
+    (codes "bufferView", required, IndexInto buffer_views)
+    ◂ (codes "byteOffset", always (whole 0), U64)
+    ◂ (codes "componentType", required, index_component_type_kind)
+    ◂ extensions_and_extras (dropped_extensions ObjectName.sparse_indices)
+
+abbrev pub sparse_indices_kind : Kind
+sparse_indices_kind = Object ObjectName.sparse_indices sparse_indices_rows false
+
+unfoldable pub sparse_values_rows : Rows
+sparse_values_rows =
+    (codes "bufferView", required, IndexInto buffer_views)
+    ◂ (codes "byteOffset", always (whole 0), U64)
+    ◂ extensions_and_extras (dropped_extensions ObjectName.sparse_values)
+
+abbrev pub sparse_values_kind : Kind
+sparse_values_kind = Object ObjectName.sparse_values sparse_values_rows false
+
+unfoldable pub sparse_rows : Rows
+sparse_rows =
+    (codes "count", required, U64)
+    ◂ (codes "indices", required, sparse_indices_kind)
+    ◂ (codes "values", required, sparse_values_kind)
+    ◂ extensions_and_extras (dropped_extensions ObjectName.sparse)
+
+abbrev pub sparse_kind : Kind
+sparse_kind = Object ObjectName.sparse sparse_rows false
+
+unfoldable pub accessor_rows : Rows
+accessor_rows =
+    (codes "bufferView", optional, IndexInto buffer_views)
+    ◂ (codes "byteOffset", optional, U64)
+    ◂ (codes "count", required, U64)
+    ◂ (codes "componentType", required, component_type_kind)
+    ◂ (codes "type", required, accessor_type_kind)
+    ◂ (codes "min", optional, Any)
+    ◂ (codes "max", optional, Any)
+    ◂ (codes "name", optional, Text)
+    ◂ (codes "normalized", unless (truth false), Truth)
+    ◂ (codes "sparse", optional, sparse_kind)
+    ◂ extensions_and_extras (kept_extensions ObjectName.accessor)
+
+abbrev pub accessor_kind : Kind
+accessor_kind = Object ObjectName.accessor accessor_rows false
+
+-- ---- the rows are sound
+
+pub sparse_indices_sound : are_sound sparse_indices_rows ≡ true
+unfolding sparse_indices_rows
+sparse_indices_sound = refl
+
+pub sparse_values_sound : are_sound sparse_values_rows ≡ true
+unfolding sparse_values_rows
+sparse_values_sound = refl
+
+pub sparse_sound : are_sound sparse_rows ≡ true
+unfolding sparse_rows
+sparse_sound = rw (sparse_indices_sound, sparse_values_sound) refl
+
+pub accessor_sound : are_sound accessor_rows ≡ true
+unfolding accessor_rows
+accessor_sound = rw sparse_sound refl

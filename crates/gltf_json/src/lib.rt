@@ -1,6 +1,7 @@
 //! glTF 2.0 documents: read from JSON, and checked against the table of the format.
 #![tactic(auto)]
 
+pub mod laws;
 pub mod root;
 mod scene;
 

@@ -60,9 +60,9 @@ entries_by_places (e ∷ es) root animation base =
     let second = place_of (IndexInto ListName.accessors) (tree.index e.1) animation at in
     over-append (faults root) (first ++ second) (entry_places es animation base)
     ∙ joined
-      (over-append (faults root) first second
-        ∙ joined (leaf key_kind (key_tree e.0) root animation at refl ∙ key_told e.0 at) (leaf (IndexInto ListName.accessors) (tree.index e.1) root animation at refl))
-      (entries_by_places es root animation base)
+    (over-append (faults root) first second
+    ∙ joined (leaf key_kind (key_tree e.0) root animation at refl ∙ key_told e.0 at) (leaf (IndexInto ListName.accessors) (tree.index e.1) root animation at refl))
+    (entries_by_places es root animation base)
 
 items_by_places : (root : Tree) (f : Tree → List Step → List Place) (g : Tree → From) → ((t : Tree) (base : List Step) → flat_map (faults root) (f t base) ≡ g t base)
     → (i : ℕ) (ts : Trees) (base : List Step) → flat_map (faults root) (item_places f i ts base) ≡ items_reports g i ts base

@@ -95,17 +95,19 @@ entries_closed : (count : ℕ) (es : List (Key × ℕ)) (base : List Step) → e
 entries_closed count [] base h = tt
 entries_closed count (e ∷ es) base h =
     let at = base ++ key (key_text e.0) ∷ [] in
-    let both = first_none (key_faults e.0 at ++ number_faults count e.1 at) (entries_faults count es base) h in
-    (key_known e.0 at (first_none (key_faults e.0 at) (number_faults count e.1 at) both),
+    let both = first_none (key_faults e.0 at ++ number_faults count e.1 at) (entries_faults count es base) h in (
+      key_known e.0 at (first_none (key_faults e.0 at) (number_faults count e.1 at) both),
       below count e.1 at (second_none (key_faults e.0 at) (number_faults count e.1 at) both),
-      entries_closed count es base (second_none (key_faults e.0 at ++ number_faults count e.1 at) (entries_faults count es base) h))
+      entries_closed count es base (second_none (key_faults e.0 at ++ number_faults count e.1 at) (entries_faults count es base) h),
+    )
 
 items_closed : (f : Tree → From) (P : Tree → Type 0) → ((t : Tree) (base : List Step) → f t base ≡ [] → P t)
     → (i : ℕ) (ts : Trees) (base : List Step) → items_reports f i ts base ≡ [] → EachTree P ts
 items_closed f P each i end base h = tt
-items_closed f P each i (with_tree t ts) base h =
-    (each t (base ++ item i ∷ []) (first_none (f t (base ++ item i ∷ [])) (items_reports f (suc i) ts base) h),
-      items_closed f P each (suc i) ts base (second_none (f t (base ++ item i ∷ [])) (items_reports f (suc i) ts base) h))
+items_closed f P each i (with_tree t ts) base h = (
+  each t (base ++ item i ∷ []) (first_none (f t (base ++ item i ∷ [])) (items_reports f (suc i) ts base) h),
+  items_closed f P each (suc i) ts base (second_none (f t (base ++ item i ∷ [])) (items_reports f (suc i) ts base) h),
+)
 
 mutual
   -- the law, at every kind and place
@@ -127,12 +129,13 @@ mutual
       items_closed (λ x. reports kind x root animation) (λ x. IsClosed kind x root animation) (λ x at e. clean_is_closed kind x root animation at e) 0 (items_in t) base h
   clean_is_closed (Object named rows keeps) t root animation base h =
       members_closed (members_in t) rows root (animation_below named t animation) base
-        (first_none (member_reports (members_in t) rows root (animation_below named t animation) base) (object_faults t named root base) h)
+      (first_none (member_reports (members_in t) rows root (animation_below named t animation) base) (object_faults t named root base) h)
 
   members_closed : (ts : Trees) (rows : Rows) (root animation : Tree) (base : List Step) → member_reports ts rows root animation base ≡ [] → MembersClosed ts rows root animation
   members_closed end rows root animation base h = tt
   members_closed (with_tree t ts) no_rows root animation base h = tt
   members_closed (with_tree t ts) (row n mark kind rows) root animation base h =
-      let at = base ++ field n ∷ [] in
-      (clean_is_closed kind t root animation at (first_none (reports kind t root animation at) (member_reports ts rows root animation base) h),
-        members_closed ts rows root animation base (second_none (reports kind t root animation at) (member_reports ts rows root animation base) h))
+      let at = base ++ field n ∷ [] in (
+        clean_is_closed kind t root animation at (first_none (reports kind t root animation at) (member_reports ts rows root animation base) h),
+        members_closed ts rows root animation base (second_none (reports kind t root animation at) (member_reports ts rows root animation base) h),
+      )

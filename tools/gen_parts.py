@@ -17,7 +17,7 @@ given = arguments.parse_args()
 chance = random.Random(given.seed)
 
 SHAPES = [("VEC3", 5126, 12), ("VEC2", 5126, 8), ("VEC4", 5126, 16), ("SCALAR", 5125, 4)]
-BYTES_OF_A_PAIR = 238  # of an accessor and its view, about
+BYTES_OF_A_PAIR = 181  # of an accessor and its view, about
 
 views, accessors, offset = [], [], 0
 for number in range(max(1, int(given.mb * 1e6 / BYTES_OF_A_PAIR))):

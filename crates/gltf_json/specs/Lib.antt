@@ -10,3 +10,4 @@ pub mod Places
 pub mod Closed
 pub mod Items
 pub mod Worked
+pub mod RowNames

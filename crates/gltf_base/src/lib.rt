@@ -16,6 +16,6 @@ pub mod real;
 pub mod texture;
 pub mod validation;
 
-pub use index::{Index, IndexTo, Listed, Names};
+pub use index::{Index, IndexTo, Listed, Names, PushError};
 pub use path::{KeyStep, Path, Step, Steps};
 pub use real::Real;

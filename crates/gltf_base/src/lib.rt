@@ -9,6 +9,7 @@ pub mod choice;
 pub mod extensions;
 pub mod image;
 pub mod index;
+pub mod laws;
 pub mod material;
 pub mod mesh;
 pub mod path;

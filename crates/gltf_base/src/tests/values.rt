@@ -25,20 +25,21 @@ fn paths(rt: HostRuntime) -> Result<(), Fail> {
     Ok(())
 }
 
+/// The steps to a member of an item of an attribute.
+fn attribute_steps(semantic: &Checked<Semantic>) -> Result<Steps<'_>, Fail> {
+    let mut steps = Steps::new();
+    steps.try_push(Step::Field("a"))?;
+    steps.try_push(Step::Attribute(semantic))?;
+    steps.try_push(Step::Index(2))?;
+    steps.try_push(Step::Field("b"))?;
+    Ok(steps)
+}
+
 #[test]
 fn paths_of_steps(rt: HostRuntime) -> Result<(), Fail> {
-    let alloc = rt.alloc();
     let invalid = Checked::Invalid;
-    let mut steps = Steps::new();
-    for step in [
-        Step::Field("a"),
-        Step::Attribute(&invalid),
-        Step::Index(2),
-        Step::Field("b"),
-    ] {
-        steps.try_push(step)?;
-    }
-    let path = Path::of(alloc, &steps)?;
+    let steps = attribute_steps(&invalid)?;
+    let path = Path::of(rt.alloc(), &steps)?;
     assert_eq!(rt; path.as_str(), "a[\"<invalid semantic name>\"][2].b");
     Ok(())
 }
@@ -110,11 +111,17 @@ fn semantics(rt: HostRuntime) -> Result<(), Fail> {
             "<invalid semantic name>"
         );
     }
+    Ok(())
+}
+
+#[test]
+fn own_semantics(rt: HostRuntime) -> Result<(), Fail> {
+    let alloc = rt.alloc();
     for (text, name) in [("_", ""), ("_POSITION", "POSITION"), ("__+", "_+")] {
-        let own = String::from_str(alloc, name)?;
         let semantic = Semantic::checked(alloc, text)?;
-        assert!(rt; semantic == Checked::Valid(Semantic::Extras(own)), "{text}");
         assert_eq!(rt; semantic.to_string(alloc)?.as_str(), text);
+        let own = String::from_str(alloc, name)?;
+        assert!(rt; semantic == Checked::Valid(Semantic::Extras(own)));
     }
     Ok(())
 }

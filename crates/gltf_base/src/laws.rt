@@ -1,6 +1,6 @@
 //! Laws of the crate's types. Each function does nothing; its contract is the law.
 
-ghost use Rattle.std.specs.Prelude.{◌≡◌, ◌==◌, [], ◌∷◌, codes, Some, IsTrue};
+ghost use Rattle.std.specs.Prelude.{◌≡◌, ◌==◌, true, false, [], ◌∷◌, codes, Some, IsTrue};
 ghost use Rattle.std.specs.Cmp.{IsTotalOrder};
 ghost use Rattle.std.specs.Ordering.{nat_cmp, is_eq};
 ghost use Rattle.std.specs.declared.cmp.Ordering.TheVariants.{Less, Equal, Greater};
@@ -59,6 +59,14 @@ pub fn indexes_are_compared_as_numbers<P>()
     ensures order { (i j : AnIndex P) → ⟦<IndexTo<P> as Ord>⟧.cmp i j ≡ nat_cmp (index_number i) (index_number j) }
     ensures partial_order { (i j : AnIndex P) → ⟦<IndexTo<P> as PartialOrd>⟧.partial_cmp i j ≡ Some (nat_cmp (index_number i) (index_number j)) }
     ensures hash { (i : AnIndex P) → ⟦<IndexTo<P> as Hash>⟧.hash_input i ≡ ⟦<u32 as Hash>⟧.hash_input (index_number i) }
+{}
+
+/// Items are equal as they are, and `Invalid` equals itself alone.
+pub fn items_are_equal_as_they_are<T: PartialEq>()
+    ensures items { (x y : T) → ⟦<Checked<T> as PartialEq>⟧.eq (Valid x) (Valid y) ≡ T.eq x y }
+    ensures item { (x : T) → ⟦<Checked<T> as PartialEq>⟧.eq (Valid x) Invalid ≡ false }
+    ensures none { (x : T) → ⟦<Checked<T> as PartialEq>⟧.eq Invalid (Valid x) ≡ false }
+    ensures same { ⟦<Checked<T> as PartialEq>⟧.eq Invalid Invalid ≡ true }
 {}
 
 /// Every item is before `Invalid`, and items are compared as they are.

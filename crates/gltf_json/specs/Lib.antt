@@ -9,3 +9,4 @@ pub mod Reports
 pub mod Places
 pub mod Closed
 pub mod Items
+pub mod Walk

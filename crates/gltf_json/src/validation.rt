@@ -10,7 +10,11 @@ ghost use Rattle.gltf_json.specs.Walk.{Walked, reports_by, no_reports};
 use crate::root::Root;
 use gltf_base::Steps;
 
+mod composed;
+mod leaves;
+mod silent;
 mod sink;
+mod within;
 
 pub use gltf_base::validation::{Checked, Error, USize64};
 pub use sink::{Count, Sink, Stop};

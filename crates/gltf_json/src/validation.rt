@@ -10,7 +10,10 @@ ghost use Rattle.gltf_json.specs.Walk.{Walked, reports_by, no_reports};
 use crate::root::Root;
 use gltf_base::Steps;
 
+mod accessor;
+mod buffer;
 mod composed;
+mod document;
 mod leaves;
 mod silent;
 mod sink;

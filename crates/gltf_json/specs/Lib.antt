@@ -11,3 +11,4 @@ pub mod Closed
 pub mod Items
 pub mod Worked
 pub mod RowNames
+pub mod Walk

@@ -9,3 +9,6 @@ pub mod Reports
 pub mod Places
 pub mod Closed
 pub mod Items
+pub mod Device
+pub mod Watched
+pub mod Answer

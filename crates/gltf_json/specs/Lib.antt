@@ -12,3 +12,6 @@ pub mod Items
 pub mod Worked
 pub mod RowNames
 pub mod Walk
+pub mod Device
+pub mod Watched
+pub mod Answer

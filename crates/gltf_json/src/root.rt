@@ -13,10 +13,15 @@ use gltf_parts::{Error, Object, Reading};
 use serde_json::{Map, Value};
 use std::alloc::Global;
 
+mod device;
 pub mod get;
+mod parse;
+mod watched;
 
+pub use device::{ByteIn, ByteOut, Failed};
 pub use get::{Get, RootItem};
 pub use gltf_base::Index;
+pub use watched::Watched;
 
 /// A whole document.
 #[derive(Clone, Debug, Drop)]

@@ -15,6 +15,7 @@ mod buffer;
 mod composed;
 mod document;
 mod leaves;
+mod maps;
 mod silent;
 mod sink;
 mod within;

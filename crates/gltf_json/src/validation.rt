@@ -18,6 +18,8 @@ mod leaves;
 mod maps;
 mod silent;
 mod sink;
+#[cfg(test)]
+mod tests;
 mod within;
 
 pub use gltf_base::validation::{Checked, Error, USize64};

@@ -18,6 +18,7 @@ mod leaves;
 mod maps;
 mod silent;
 mod sink;
+mod sparse;
 #[cfg(test)]
 mod tests;
 mod within;

@@ -8,7 +8,7 @@ use Rattle.gltf_parts.specs.Tree.{Tree, absent, trees, list, tree_or_absent}
 use Rattle.gltf_parts.specs.Kind.{Kind, IndexInto, SourceImage, ChannelSampler, U32, U64, Stride, Number, Numbers, Text, Truth, Any, Choice, Attributes, ListOf, Object}
 use Rattle.gltf_parts.specs.Leaves.{checked_tree}
 use Rattle.gltf_json.specs.Faults.{From, choice_faults}
-use Rattle.gltf_json.specs.Reports.{reports, reports_of, items_reports}
+use Rattle.gltf_json.specs.Reports.{reports, items_reports}
 use Rattle.gltf_json.specs.Walk.{reports_by, reports_in, checked_reports, option_reports, list_reports, list_kind, each_at}
 
 -- nothing is wrong in what is absent

@@ -1,5 +1,5 @@
 -- Indexes that name an item, and those that don't.
-use Rattle.std.proofs.Common.{◌≡◌, ℕ, ◌<◌, ◌≤◌, List, [], ◌∷◌, Option, Some, None, length, slice_get, nat_lt, Bool, true, false, refl, sym, ◌∙◌, ap, map, arith}
+use Rattle.std.proofs.Common.{◌≡◌, ℕ, ◌<◌, List, [], ◌∷◌, Some, None, length, slice_get, nat_lt, Bool, true, false, refl, sym, ◌∙◌, ap, map, arith}
 use Rattle.std.proofs.lemmas.Bool.{ltb-true, lt-ltb}
 use Rattle.std.proofs.lemmas.Option.{slice_get_within, slice_get-get_or}
 use Rattle.gltf_base.specs.Lists.{ListName}

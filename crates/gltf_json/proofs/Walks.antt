@@ -1,17 +1,13 @@
 -- Walks of validation, one after another.
-use Rattle.std.proofs.Common.{◌≡◌, ℕ, suc, ◌+◌, ◌<◌, ◌≤◌, List, [], ◌∷◌, ◌++◌, length, get_or, drop, map, Option, Some, None, Result, Ok, Err, refl, sym, ◌∙◌, ap, subst, append_assoc, drop-cons, add-one, arith}
-use Rattle.std.proofs.Math.ListN.{drop_of_length-le}
-use Rattle.std.proofs.lemmas.List.{append-nil}
-use Rattle.std.proofs.lemmas.Result.{err_from_is_err_and}
-use Rattle.std.specs.Result.{IsErrAnd}
+use Rattle.std.proofs.Common.{◌≡◌, ℕ, ◌+◌, ◌<◌, ◌≤◌, List, [], ◌∷◌, ◌++◌, length, Some, Result, Ok, Err, refl, sym, ◌∙◌, ap, subst, append_assoc, arith}
 use Rattle.arrayvec.specs.ArrayVec.{ArrayVec}
-use Rattle.gltf_base.specs.Steps.{Step, item, steps_of}
+use Rattle.gltf_base.specs.Steps.{Step, steps_of}
 use Rattle.gltf_base.specs.declared.path.Step.{Step as Borrowed}
 use Rattle.gltf_base.specs.declared.validation.Error.{Error}
 use Rattle.gltf_json.specs.Faults.{Report, report, found_at, From}
 use Rattle.gltf_json.specs.declared.validation.sink.Stop.{Stop}
 use Rattle.gltf_json.specs.declared.validation.sink.Stop.TheVariants.{StepsFull, Sink}
-use Rattle.gltf_json.specs.Walk.{run, HandedOver, HandedOverAfter, WentOn, Walked, each_at}
+use Rattle.gltf_json.specs.Walk.{run, HandedOver, HandedOverAfter, WentOn, Walked}
 
 -- reports in two parts are taken one part after the other
 pub run-append : {S : Type 0} (next : S → List Step → Error → S) (s : S) (xs ys : List Report) → run next s (xs ++ ys) ≡ run next (run next s xs) ys

@@ -15,8 +15,12 @@ mod buffer;
 mod composed;
 mod document;
 mod leaves;
+mod maps;
 mod silent;
 mod sink;
+mod sparse;
+#[cfg(test)]
+mod tests;
 mod within;
 
 pub use gltf_base::validation::{Checked, Error, USize64};

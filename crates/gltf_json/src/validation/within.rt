@@ -33,6 +33,25 @@ pub(crate) fn within<'a, T: Validate, S: Sink>(
     walked
 }
 
+/// Goes on with what stands one step further, where nothing stopped the walk before.
+pub(crate) fn also_within<'a, T: Validate, S: Sink>(
+    before: Result<(), Stop<S::Refusal>>,
+    value: &'a T,
+    step: Step<'a>,
+    root: &Root,
+    path: &mut Steps<'a>,
+    sink: &mut S,
+) -> Result<(), Stop<S::Refusal>>
+    ensures { WentOn S.next S.refuses before path.old (S.state sink.old)
+        (λ base. reports_by T.kind (T.tree value.now) (T.own value.now) (root_tree root.now) (base ++ step_of step.entry ∷ []))
+        (T.depth + 1) result path.new (S.state sink.new) }
+{
+    match before {
+        Ok(()) => within(value, step, root, path, sink),
+        Err(stop) => Err(stop),
+    }
+}
+
 /// Goes on with a member, where nothing stopped the walk before.
 pub(crate) fn member<'a, T: Validate, S: Sink>(
     before: Result<(), Stop<S::Refusal>>,
@@ -46,10 +65,7 @@ pub(crate) fn member<'a, T: Validate, S: Sink>(
         (λ base. reports_by T.kind (T.tree value.now) (T.own value.now) (root_tree root.now) (base ++ field name.now ∷ []))
         (T.depth + 1) result path.new (S.state sink.new) }
 {
-    match before {
-        Ok(()) => within(value, Step::Field(name), root, path, sink),
-        Err(stop) => Err(stop),
-    }
+    also_within(before, value, Step::Field(name), root, path, sink)
 }
 
 /// Goes on with what was found one step further, where nothing stopped the walk before.

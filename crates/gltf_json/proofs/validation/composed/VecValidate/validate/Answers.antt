@@ -19,7 +19,7 @@ loop-i-preserved g c =
     let each = reports_in v.kind v.tree v.own (root_tree c.args.root.now) in
     let xs = c.args.self.now.items in
     underway-more (λ base. each c.item-item.result (base ++ item c.loop-i.i ∷ [])) (each_at each (c.loop-i.i + 1) (drop (c.loop-i.i + 1) xs))
-    (underway-same (each_at-next each _ xs c.item-item.result (omega arith) (search rules)) c.loop-i.invariant) c.in_ok-within.ensures
+    (underway-same {all = each_at each 0 xs} (each_at-next each _ xs c.item-item.result (omega arith) (search rules)) c.loop-i.invariant) c.in_ok-within.ensures
 
 pub returns-in_err-within-clause-walked : goal.returns-in_err-within-clause-walked
 returns-in_err-within-clause-walked g c =
@@ -28,7 +28,7 @@ returns-in_err-within-clause-walked g c =
     let xs = c.args.self.now.items in
     went_same (list-each v.kind v.tree v.own (root_tree c.args.root.now) xs)
     (underway-exit (λ base. each c.item-item.result (base ++ item c.loop-i.i ∷ [])) (each_at each (c.loop-i.i + 1) (drop (c.loop-i.i + 1) xs)) c.from_residual.ensures.1
-    (underway-same (each_at-next each _ xs c.item-item.result (omega arith) (search rules)) c.loop-i.invariant) c.in_err-within.ensures)
+    (underway-same {all = each_at each 0 xs} (each_at-next each _ xs c.item-item.result (omega arith) (search rules)) c.loop-i.invariant) c.in_err-within.ensures)
 
 pub returns-clause-walked : goal.returns-clause-walked
 returns-clause-walked g c =
@@ -36,4 +36,4 @@ returns-clause-walked g c =
     let each = reports_in v.kind v.tree v.own (root_tree c.args.root.now) in
     let xs = c.args.self.now.items in
     went_same (list-each v.kind v.tree v.own (root_tree c.args.root.now) xs)
-    (underway-end (underway-same (each_at-past each _ xs (omega arith)) c.loop-i.invariant))
+    (underway-end (underway-same {all = each_at each 0 xs} (each_at-past each _ xs (omega arith)) c.loop-i.invariant))

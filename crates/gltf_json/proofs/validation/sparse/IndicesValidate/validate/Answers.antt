@@ -7,7 +7,7 @@ use Rattle.gltf_parts.specs.AccessorTrees as made
 use Rattle.gltf_json.specs.RootTrees.{root_tree}
 use Rattle.gltf_json.proofs.ByTable.{choice-checked}
 use Rattle.gltf_json.proofs.Walks.{went_nowhere, went_same, went_then}
-use Rattle.gltf_json.proofs.validation.accessor.IndicesValidate.validate.Goals as goal
+use Rattle.gltf_json.proofs.validation.sparse.IndicesValidate.validate.Goals as goal
 
 pub returns-clause-walked : goal.returns-clause-walked
 unfolding table.sparse_indices_rows made.sparse_indices_members

@@ -3,13 +3,14 @@ use Rattle.std.proofs.Common.{lit≤}
 use Rattle.gltf_parts.specs.AccessorTable as table
 use Rattle.gltf_parts.specs.AccessorTrees as made
 use Rattle.gltf_json.proofs.Walks.{went_nowhere, went_then}
-use Rattle.gltf_json.proofs.validation.accessor.ValuesValidate.validate.Goals as goal
+use Rattle.gltf_json.proofs.validation.sparse.SparseValidate.validate.Goals as goal
 
 pub returns-clause-walked : goal.returns-clause-walked
-unfolding table.sparse_values_rows made.sparse_values_members
+unfolding table.sparse_rows made.sparse_members
 returns-clause-walked g c =
     went_then
-    (went_then c.member-buffer_view.ensures (lit≤ tt)
+    (went_then c.member-indices.ensures (lit≤ tt)
+    (went_then c.member-values.ensures (lit≤ tt)
     (went_then c.member.ensures (lit≤ tt)
-    (went_nowhere _ _ _ 1)))
-    (lit≤ tt) (went_nowhere _ _ _ 1)
+    (went_nowhere _ _ _ 2))))
+    (lit≤ tt) (went_nowhere _ _ _ 2)

@@ -1,0 +1,4 @@
+pub mod ItemLemmas
+pub mod PrefixLemmas
+pub mod SetLemmas
+pub mod KeyLemmas

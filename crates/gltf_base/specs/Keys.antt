@@ -1,9 +1,10 @@
 -- The keys of attributes: what a semantic means, or that it is none that is known.
-use Rattle.std.specs.Prelude.{ℕ, List, ◌++◌, codes}
+use Rattle.std.specs.Prelude.{ℕ, ◌==◌, List, ◌++◌, Bool, codes}
 use Rattle.std.specs.declared.cmp.Ordering.{Ordering}
 use Rattle.std.specs.Ordering.{nat_cmp}
 use Rattle.std.specs.Cmp.Lexicographic.{slice_cmp}
 use Rattle.std.specs.Fmt.{decimal}
+use Rattle.std.specs.Str.{bytes_eq}
 
 pub data Key : Type 0 where
   extras : (name : List ℕ) → Key
@@ -47,3 +48,12 @@ key_cmp (tex_coords a) (tex_coords b) = nat_cmp a b
 key_cmp (joints a) (joints b) = nat_cmp a b
 key_cmp (weights a) (weights b) = nat_cmp a b
 key_cmp a b = nat_cmp (key_rank a) (key_rank b)
+
+-- keys are equal where they mean the same, with the same set or name
+abbrev pub key_eq : Key → Key → Bool
+key_eq (extras a) (extras b) = bytes_eq a b
+key_eq (colors a) (colors b) = a == b
+key_eq (tex_coords a) (tex_coords b) = a == b
+key_eq (joints a) (joints b) = a == b
+key_eq (weights a) (weights b) = a == b
+key_eq a b = key_rank a == key_rank b

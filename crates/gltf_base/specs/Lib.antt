@@ -11,3 +11,6 @@ pub mod Names
 pub mod Steps
 pub mod Text
 pub mod Reals
+pub mod Errors
+pub mod Checked
+pub mod Pushes

@@ -1,19 +1,17 @@
 -- The key that the name of an attribute is read as (glTF 2.0, section 3.7.2.1).
-use Rattle.std.specs.Prelude.{ℕ, ◌^◌, ◌==◌, nat_lt, length, List, [], ◌∷◌, Bool, true, ◌&&◌, Option, Some, None, option_map, option_and_then, unwrap_or, codes, if◌then◌else◌}
-use Rattle.std.specs.Char.{digit_value}
-use Rattle.std.specs.Str.{bytes_eq}
+use Rattle.std.specs.Prelude.{ℕ, ◌^◌, ◌<◌, ◌==◌, nat_lt, length, List, [], ◌∷◌, ⊤, ◌&&◌, Option, Some, None, option_map, option_and_then, unwrap_or, codes, if◌then◌else◌}
+use Rattle.std.specs.Str.{bytes_eq, all_ascii_digits}
 use Rattle.std.specs.Str.Parse.{digits_value, without_leading_plus}
 use Rattle.gltf_base.specs.Keys.{Key, extras, positions, normals, tangents, colors, tex_coords, joints, weights, unknown}
 
-abbrev pub are_digits : List ℕ → Bool
-are_digits [] = true
-are_digits (c ∷ cs) = nat_lt (digit_value c) 10 && are_digits cs
+-- the number that one or more digits write, where it has 32 bits
+abbrev pub number_written : List ℕ → Option ℕ
+number_written digits =
+    if nat_lt 0 (length digits) && all_ascii_digits digits && nat_lt (digits_value 10 digits) (2 ^ 32) then Some (digits_value 10 digits) else None
 
--- the number of a set: one or more digits, behind at most one plus sign
+-- the number of a set, behind at most one plus sign
 abbrev pub set_number : List ℕ → Option ℕ
-set_number text =
-    let digits = without_leading_plus text in
-    if nat_lt 0 (length digits) && are_digits digits && nat_lt (digits_value 10 digits) (2 ^ 32) then Some (digits_value 10 digits) else None
+set_number text = number_written (without_leading_plus text)
 
 -- what stands behind a prefix
 abbrev pub behind : List ℕ → List ℕ → Option (List ℕ)
@@ -35,3 +33,12 @@ plain_key text = if bytes_eq text (codes "POSITION") then positions else if byte
 unfoldable pub key_named : List ℕ → Key
 key_named [] = unknown
 key_named (c ∷ cs) = if c == 95 then extras cs else plain_key (c ∷ cs)
+
+-- the keys that have names of their own: those of semantics, with sets of 32 bits
+abbrev pub IsNamed : Key → Type 0
+IsNamed (colors set) = set < 2 ^ 32
+IsNamed (tex_coords set) = set < 2 ^ 32
+IsNamed (joints set) = set < 2 ^ 32
+IsNamed (weights set) = set < 2 ^ 32
+IsNamed unknown = ⊥
+IsNamed _ = ⊤

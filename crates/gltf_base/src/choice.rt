@@ -1,7 +1,7 @@
 //! Choices: enumerations whose items a document spells as numbers or as names.
 
 ghost use Rattle.std.specs.Prelude.{◌≡◌, List};
-ghost use Rattle.std.specs.List.{AllByRecursion};
+ghost use Rattle.std.specs.List.{AllByRecursion, Contains};
 ghost use Rattle.gltf_base.specs.Spelling.{Spelling as Spelled, spelling_of, is_spelled, item_spelled};
 ghost use Rattle.gltf_base.specs.declared.validation.Checked.TheVariants.{Valid};
 
@@ -72,4 +72,13 @@ pub fn item_of<T: Choice>(spelling: Spelling<'_>) -> Checked<T>
         }
     }
     Checked::Invalid
+}
+
+/// Each item that is read is read back from its own spelling, and what a spelling is read as is
+/// spelled so: both for choices by number and for choices by name.
+pub fn spellings_are_read_back<T: Choice>()
+    ensures listed { AllByRecursion (λ x. item_spelled T.spelling T.listed (T.spelling x) ≡ Valid x) T.listed }
+    ensures read { (s : Spelled) (x : T) → item_spelled T.spelling T.listed s ≡ Valid x
+        → (T.spelling x ≡ s) × Contains T.listed x }
+{
 }

@@ -1,6 +1,6 @@
 //! Indexes into the lists of a document.
 
-ghost use Rattle.std.specs.Prelude.{◌≡◌};
+ghost use Rattle.std.specs.Prelude.{◌≡◌, ◌↔◌, ◌-◌, ◌^◌, ◌≤◌, [], ◌∷◌, ◌++◌, Err, IfOk, IfErr, OnErr, vec_len};
 ghost use Rattle.gltf_base.specs.Lists.{ListName};
 
 use std::fmt::{self, Debug, Display, Formatter, Write};
@@ -52,6 +52,39 @@ impl<T> Index<T> {
     {
         self.0 as usize
     }
+}
+
+impl<T> Index<T> {
+    ghost use Rattle.gltf_base.specs.Indexes.{index_number};
+    ghost use Rattle.gltf_base.specs.Pushes.{IsHandedBack};
+
+    /// Appends an item to its list, and answers its index. A list of 4294967295 items or more is
+    /// full, which is told before any memory is taken.
+    pub fn push(list: &mut Vec<T>, item: T) -> Result<Index<T>, PushError<T>>
+        ensures pushed { IfOk result (λ index. (index_number index ≡ vec_len list.old)
+            × (list.new.items ≡ list.old.items ++ item ∷ [])) }
+        ensures full { (result ≡ Err (PushError.Full item)) ↔ (2 ^ 32 - 1 ≤ vec_len list.old) }
+        ensures handed_back { IfErr result (IsHandedBack item) }
+        ensures unchanged { OnErr result (list.new.items ≡ list.old.items) }
+    {
+        let number = list.len();
+        if number >= u32::MAX as usize {
+            return Err(PushError::Full(item));
+        }
+        match list.push(item) {
+            Ok(()) => Ok(Index::new(number as u32)),
+            Err(refused) => Err(PushError::Memory(refused.value)),
+        }
+    }
+}
+
+/// Why an item was not appended; each kind hands it back.
+#[derive(Debug, Drop)]
+pub enum PushError<T> {
+    /// The list has as many items as there are indexes.
+    Full(T),
+    /// There was no memory for one item more.
+    Memory(T),
 }
 
 impl<P> IndexTo<P> {

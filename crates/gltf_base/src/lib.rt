@@ -9,6 +9,7 @@ pub mod choice;
 pub mod extensions;
 pub mod image;
 pub mod index;
+pub mod laws;
 pub mod material;
 pub mod mesh;
 pub mod path;
@@ -16,6 +17,6 @@ pub mod real;
 pub mod texture;
 pub mod validation;
 
-pub use index::{Index, IndexTo, Listed, Names};
+pub use index::{Index, IndexTo, Listed, Names, PushError};
 pub use path::{KeyStep, Path, Step, Steps};
 pub use real::Real;

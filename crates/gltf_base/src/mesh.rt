@@ -1,15 +1,18 @@
 //! What the attributes of a mesh mean.
 
-ghost use Rattle.std.specs.Prelude.{◌≡◌, [], ◌∷◌, ◌++◌, map, codes, OnOk};
+ghost use Rattle.std.specs.Prelude.{◌≡◌, false, [], ◌∷◌, ◌++◌, map, codes, nat_eq, option_and_then, IsOk, IfOk, OnOk};
+ghost use Rattle.std.specs.List.{starts_with};
+ghost use Rattle.std.specs.Option.{option_copied};
 ghost use Rattle.std.specs.String.{string_bytes};
 ghost use Rattle.gltf_base.specs.Spelling.{by_number, item_spelled};
 ghost use Rattle.gltf_base.specs.Choices.{mode_spelling, modes};
-ghost use Rattle.gltf_base.specs.Keys.{key_text};
-ghost use Rattle.gltf_base.specs.Semantics.{checked_key};
+ghost use Rattle.gltf_base.specs.Keys.{Key, key_text};
+ghost use Rattle.gltf_base.specs.Names.{behind, set_number, set_key, plain_key, key_named, IsNamed};
+ghost use Rattle.gltf_base.specs.Semantics.{semantic_key, checked_key};
 
 use crate::choice::{Choice, Form, Spelling, item_of};
 use crate::validation::Checked;
-use std::alloc::AllocError;
+use std::alloc::{AllocError, Global};
 use std::fmt::Write;
 
 /// `GL_POINTS`.
@@ -157,7 +160,94 @@ pub enum Semantic {
     Weights(u32),
 }
 
-/// Appends the text of a semantic.
+impl Semantic {
+    /// The semantic that an attribute's name means (glTF 2.0, section 3.7.2.1). Memory is taken for
+    /// the name of an application's own attribute alone.
+    #[tactic(auto, unfolding(crate::specs::Names::key_named))]
+    pub fn checked(alloc: Global, text: &str) -> Result<Checked<Semantic>, AllocError>
+        ensures key { IfOk result (λ semantic. checked_key semantic ≡ key_named text.now) }
+        ensures no_memory { starts_with nat_eq text.now (codes "_") ≡ false → IsOk result }
+    {
+        match text.strip_prefix('_') {
+            Some(name) => {
+                let name = String::from_str(alloc, name)?;
+                Ok(Checked::Valid(Semantic::Extras(name)))
+            }
+            None => Ok(plain_semantic(text)),
+        }
+    }
+
+    /// The attribute's name that means the semantic.
+    pub fn to_string(&self, alloc: Global) -> Result<String, AllocError>
+        ensures { IfOk result (λ text. string_bytes text ≡ key_text (semantic_key self.now)) }
+    {
+        let mut text = String::new(alloc);
+        write_valid(&mut text, self)?;
+        Ok(text)
+    }
+}
+
+impl Checked<Semantic> {
+    /// The attribute's name that means the semantic, or the text that stands for none.
+    pub fn to_string(&self, alloc: Global) -> Result<String, AllocError>
+        ensures { IfOk result (λ text. string_bytes text ≡ key_text (checked_key self.now)) }
+    {
+        let mut text = String::new(alloc);
+        write_semantic(&mut text, self)?;
+        Ok(text)
+    }
+}
+
+/// The semantic of a name that isn't an application's own.
+fn plain_semantic(text: &str) -> Checked<Semantic>
+    ensures { checked_key result ≡ plain_key text.now }
+{
+    match text {
+        "POSITION" => Checked::Valid(Semantic::Positions),
+        "NORMAL" => Checked::Valid(Semantic::Normals),
+        "TANGENT" => Checked::Valid(Semantic::Tangents),
+        _ => set_semantic(text),
+    }
+}
+
+/// The semantic of a name that ends in the number of a set.
+fn set_semantic(text: &str) -> Checked<Semantic>
+    ensures { checked_key result ≡ set_key text.now }
+{
+    if let Some(set) = set_behind("COLOR_", text) {
+        Checked::Valid(Semantic::Colors(set))
+    } else if let Some(set) = set_behind("TEXCOORD_", text) {
+        Checked::Valid(Semantic::TexCoords(set))
+    } else if let Some(set) = set_behind("JOINTS_", text) {
+        Checked::Valid(Semantic::Joints(set))
+    } else if let Some(set) = set_behind("WEIGHTS_", text) {
+        Checked::Valid(Semantic::Weights(set))
+    } else {
+        Checked::Invalid
+    }
+}
+
+/// The number of the set, where a prefix and nothing else stands before it.
+fn set_behind(prefix: &str, text: &str) -> Option<u32>
+    ensures { result ≡ option_and_then set_number (behind prefix.now text.now) }
+{
+    parse_set(strip(prefix, text)?)
+}
+
+/// What stands behind a prefix.
+fn strip<'a>(prefix: &str, text: &'a str) -> Option<&'a str>
+    ensures { option_copied result ≡ behind prefix.now text.now }
+{
+    text.strip_prefix(prefix)
+}
+
+fn parse_set(text: &str) -> Option<u32>
+    ensures { result ≡ set_number text.now }
+{
+    text.parse().ok()
+}
+
+/// Appends the text of a semantic or of none.
 pub(crate) fn write_semantic(
     text: &mut String,
     semantic: &Checked<Semantic>,
@@ -165,16 +255,28 @@ pub(crate) fn write_semantic(
     ensures { OnOk result (string_bytes text.new ≡ string_bytes text.old ++ key_text (checked_key semantic.now)) }
 {
     match semantic {
+        Checked::Valid(semantic) => write_valid(text, semantic),
         Checked::Invalid => text.push_str("<invalid semantic name>"),
-        Checked::Valid(semantic) => match semantic {
-            Semantic::Extras(name) => write!(text, "_{name}"),
-            Semantic::Positions => text.push_str("POSITION"),
-            Semantic::Normals => text.push_str("NORMAL"),
-            Semantic::Tangents => text.push_str("TANGENT"),
-            Semantic::Colors(set) => write!(text, "COLOR_{set}"),
-            Semantic::TexCoords(set) => write!(text, "TEXCOORD_{set}"),
-            Semantic::Joints(set) => write!(text, "JOINTS_{set}"),
-            Semantic::Weights(set) => write!(text, "WEIGHTS_{set}"),
-        },
     }
+}
+
+fn write_valid(text: &mut String, semantic: &Semantic) -> Result<(), AllocError>
+    ensures { OnOk result (string_bytes text.new ≡ string_bytes text.old ++ key_text (semantic_key semantic.now)) }
+{
+    match semantic {
+        Semantic::Extras(name) => write!(text, "_{name}"),
+        Semantic::Positions => text.push_str("POSITION"),
+        Semantic::Normals => text.push_str("NORMAL"),
+        Semantic::Tangents => text.push_str("TANGENT"),
+        Semantic::Colors(set) => write!(text, "COLOR_{set}"),
+        Semantic::TexCoords(set) => write!(text, "TEXCOORD_{set}"),
+        Semantic::Joints(set) => write!(text, "JOINTS_{set}"),
+        Semantic::Weights(set) => write!(text, "WEIGHTS_{set}"),
+    }
+}
+
+/// The text of each semantic is read as that semantic.
+pub fn texts_are_read_back()
+    ensures { (key : Key) → IsNamed key → key_named (key_text key) ≡ key }
+{
 }

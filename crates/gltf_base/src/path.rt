@@ -1,17 +1,15 @@
 //! The steps from a root to a place in a document, and their text.
 
-ghost use Rattle.std.specs.Prelude.{◌≡◌, List, ℕ, IfOk, OnOk};
+ghost use Rattle.std.specs.Prelude.{◌≡◌, List, [], ℕ, IfOk, OnOk};
 ghost use Rattle.std.specs.String.{string_bytes};
-ghost use Rattle.gltf_base.specs.Keys.{key_text};
-ghost use Rattle.gltf_base.specs.Semantics.{checked_key};
-ghost use Rattle.gltf_base.specs.Steps.{key, steps_of, step_of};
+ghost use Rattle.gltf_base.specs.Steps.{field, item, key, value, steps_of, step_of};
 ghost use Rattle.gltf_base.specs.Text.{path_text, text_with};
 
 use crate::mesh::{Semantic, write_semantic};
 use crate::validation::Checked;
 use arrayvec::ArrayVec;
 use std::alloc::{AllocError, Global};
-use std::fmt::Write;
+use std::fmt::{self, Display, Formatter, Write};
 
 /// One step of a path.
 #[derive(Clone, Copy, Debug)]
@@ -29,6 +27,10 @@ pub enum Step<'a> {
 }
 
 impl Default for Step<'_> {
+    ghost use Rattle.gltf_base.specs.Steps.{item};
+
+    ghost is_default = { λ step. step_of step ≡ item 0 };
+
     fn default() -> Self {
         Step::Index(0)
     }
@@ -56,6 +58,17 @@ impl KeyStep for String {
     }
 }
 
+impl KeyStep for Checked<Semantic> {
+    ghost use Rattle.gltf_base.specs.Semantics.{checked_key};
+    ghost use Rattle.gltf_base.specs.Keys.{key_text as text_of_key};
+
+    ghost key_text = { λ semantic. text_of_key (checked_key semantic) };
+
+    fn key_step(&self) -> Step<'_> {
+        Step::Attribute(self)
+    }
+}
+
 /// The text of a path.
 #[derive(Clone, Debug, Drop, PartialEq)]
 pub struct Path(pub String);
@@ -70,6 +83,66 @@ impl Path {
             write_step(&mut written, *step)?;
         }
         Ok(Path(written))
+    }
+
+    /// The path of no steps.
+    pub fn new(alloc: Global) -> Path
+        ensures { string_bytes result.0 ≡ [] }
+    {
+        Path(String::new(alloc))
+    }
+
+    /// The path to a member of an object.
+    pub fn field(&self, alloc: Global, name: &str) -> Result<Path, AllocError>
+        ensures { IfOk result (λ path. string_bytes path.0 ≡ text_with (string_bytes self.now.0) (field name.now)) }
+    {
+        self.with(alloc, Step::Field(name))
+    }
+
+    /// The path to an item of a list.
+    pub fn index(&self, alloc: Global, n: usize) -> Result<Path, AllocError>
+        ensures { IfOk result (λ path. string_bytes path.0 ≡ text_with (string_bytes self.now.0) (item n)) }
+    {
+        self.with(alloc, Step::Index(n))
+    }
+
+    /// The path to an entry of a map. Nothing in the key is escaped.
+    pub fn key(&self, alloc: Global, k: &str) -> Result<Path, AllocError>
+        ensures { IfOk result (λ path. string_bytes path.0 ≡ text_with (string_bytes self.now.0) (key k.now)) }
+    {
+        self.with(alloc, Step::Key(k))
+    }
+
+    /// The path that also names the value at its end. Nothing in the value is escaped.
+    pub fn value_str(&self, alloc: Global, v: &str) -> Result<Path, AllocError>
+        ensures { IfOk result (λ path. string_bytes path.0 ≡ text_with (string_bytes self.now.0) (value v.now)) }
+    {
+        self.with(alloc, Step::Value(v))
+    }
+
+    /// The text of the path.
+    pub fn as_str(&self) -> &str
+        ensures { result.now ≡ string_bytes self.now.0 }
+    {
+        self.0.as_str()
+    }
+
+    fn with(&self, alloc: Global, step: Step<'_>) -> Result<Path, AllocError>
+        ensures { IfOk result (λ path. string_bytes path.0 ≡ text_with (string_bytes self.now.0) (step_of step.entry)) }
+    {
+        let mut longer = String::from_str(alloc, self.as_str())?;
+        write_step(&mut longer, step)?;
+        Ok(Path(longer))
+    }
+}
+
+impl Display for Path {
+    ghost use Rattle.std.specs.Prelude.{Some};
+
+    ghost output = { λ path. Some (string_bytes path.0) };
+
+    fn fmt<W: Write>(&self, f: &mut Formatter<W>) -> fmt::Result {
+        f.write_str(self.as_str())
     }
 }
 

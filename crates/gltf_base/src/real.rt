@@ -5,6 +5,7 @@ ghost use Rattle.serde_json.specs.Find.{as_number};
 ghost use Rattle.serde_json.specs.View.{view};
 
 use serde_json::Value;
+use std::alloc::AllocError;
 
 /// A JSON number, carried untouched.
 #[derive(Debug, Drop)]
@@ -15,7 +16,8 @@ pub struct Real {
 
 impl Real {
     ghost use Rattle.std.specs.Prelude.{IfOk, IfErr, None};
-    ghost use Rattle.gltf_base.specs.Reals.{real_value};
+    ghost use Rattle.serde_json.specs.Find.{of_integer};
+    ghost use Rattle.gltf_base.specs.Reals.{real_value, real_number};
 
     /// The number that a value is; a value that is none is handed back.
     pub fn from_value(value: Value) -> Result<Real, Value>
@@ -29,10 +31,30 @@ impl Real {
         }
     }
 
+    /// A whole number.
+    pub fn from_i64(number: i64) -> Real
+        ensures { real_number result ≡ of_integer number }
+    {
+        Real {
+            value: Value::from(number),
+        }
+    }
+
     /// The number held, as a value.
     pub fn as_value(&self) -> &Value
         ensures { result.now ≡ real_value self.now }
     {
         &self.value
+    }
+}
+
+impl Clone for Real {
+    ghost use Rattle.gltf_base.specs.Reals.{real_number};
+
+    ghost is_clone = { λ from to. real_number to ≡ real_number from };
+
+    fn clone(&self) -> Result<Real, AllocError> {
+        let value = self.value.clone()?;
+        Ok(Real { value })
     }
 }

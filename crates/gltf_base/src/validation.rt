@@ -1,5 +1,9 @@
 //! What is wrong at a place of a document, and items of a choice that may be none of its values.
 
+ghost use Rattle.std.specs.Prelude.{◌≡◌};
+
+use std::fmt::{self, Display, Formatter, Write};
+
 /// What is wrong at a place of a document.
 #[derive(Clone, Copy, Debug, PartialEq, Eq, PartialOrd, Ord, Hash)]
 pub enum Error {
@@ -15,6 +19,25 @@ pub enum Error {
     Unsupported,
 }
 
+impl Display for Error {
+    ghost use Rattle.std.specs.Prelude.{Some};
+    ghost use Rattle.gltf_base.specs.Errors.{error_text};
+
+    ghost output = { λ error. Some (error_text error) };
+
+    fn fmt<W: Write>(&self, f: &mut Formatter<W>) -> fmt::Result {
+        f.write_str(match self {
+            Error::IndexOutOfBounds => "Index out of bounds",
+            Error::Invalid => "Invalid value",
+            Error::Missing => "Missing data",
+            Error::Oversize => "Size exceeds system limits",
+            Error::Unsupported => "Unsupported extension",
+        })
+    }
+}
+
+impl std::error::Error for Error {}
+
 /// An item of a choice, or a value that is none of the choice's.
 #[derive(Clone, Copy, Debug, Drop, PartialEq, Eq, PartialOrd, Ord, Hash)]
 pub enum Checked<T> {
@@ -24,6 +47,65 @@ pub enum Checked<T> {
     Invalid,
 }
 
+impl<T> Checked<T> {
+    ghost use Rattle.gltf_base.specs.Checked.{IsValid, checked_copied};
+
+    /// The item behind a reference.
+    pub fn as_ref(&self) -> Checked<&T>
+        ensures { checked_copied result ≡ self.now }
+    {
+        match self {
+            Checked::Valid(item) => Checked::Valid(item),
+            Checked::Invalid => Checked::Invalid,
+        }
+    }
+
+    /// The item, of what holds one.
+    pub fn unwrap(self) -> T
+        requires { IsValid self }
+        ensures { self ≡ Checked.Valid result }
+    {
+        match self {
+            Checked::Valid(item) => item,
+            Checked::Invalid => unreachable!(),
+        }
+    }
+}
+
+impl<T: Default> Default for Checked<T> {
+    ghost use Rattle.gltf_base.specs.Checked.{IsValidAnd};
+
+    ghost is_default = { λ checked. IsValidAnd checked T.is_default };
+
+    fn default() -> Checked<T> {
+        Checked::Valid(T::default())
+    }
+}
+
 /// A number of bytes or items, as JSON can hold it.
-#[derive(Clone, Copy, Debug, Default, PartialEq, Eq, Hash)]
+#[derive(Clone, Copy, Debug, PartialEq, Eq, Hash)]
 pub struct USize64(pub u64);
+
+impl Default for USize64 {
+    ghost is_default = { λ size. size.0 ≡ 0 };
+
+    fn default() -> USize64 {
+        USize64(0)
+    }
+}
+
+impl From<u64> for USize64 {
+    ghost from_gives = { λ number size. size.0 ≡ number };
+
+    fn from(number: u64) -> USize64 {
+        USize64(number)
+    }
+}
+
+impl From<usize> for USize64 {
+    ghost from_gives = { λ number size. size.0 ≡ number };
+
+    fn from(number: usize) -> USize64 {
+        USize64(number as u64)
+    }
+}

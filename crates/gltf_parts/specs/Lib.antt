@@ -9,8 +9,13 @@ pub mod Taken
 pub mod Readings
 pub mod Leaves
 pub mod Fields
+pub mod Defaults
 pub mod Extensions
 pub mod AccessorTable
 pub mod AccessorTrees
 pub mod BufferTable
 pub mod BufferTrees
+pub mod ImageTable
+pub mod ImageTrees
+pub mod TextureTable
+pub mod TextureTrees

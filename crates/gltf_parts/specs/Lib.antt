@@ -19,3 +19,7 @@ pub mod ImageTable
 pub mod ImageTrees
 pub mod TextureTable
 pub mod TextureTrees
+pub mod MaterialExtensionTable
+pub mod MaterialExtensionTrees
+pub mod MaterialTable
+pub mod MaterialTrees

@@ -15,6 +15,7 @@ use std::alloc::Global;
 pub mod accessor;
 pub mod buffer;
 pub mod image;
+pub mod material;
 pub mod texture;
 
 /// An extension object of which no member is known: it keeps them all, or drops them all.

@@ -10,6 +10,7 @@ pub mod extensions;
 pub mod extras;
 pub mod image;
 mod leaf;
+pub mod material;
 mod members;
 mod reading;
 mod schema;

@@ -1,10 +1,10 @@
 -- What an item that a spelling means is.
-use Rattle.std.proofs.Common.{◌≡◌, ℕ, suc, zero, ◌<◌, ◌+◌, Bool, true, false, cond, List, [], ◌∷◌, length, get_or, ap, sym, refl, ◌∙◌, arith}
+use Rattle.std.proofs.Common.{◌≡◌, suc, Bool, true, false, cond, List, [], ◌∷◌, ap, sym, refl, ◌∙◌, arith}
 use Rattle.std.specs.List.{Contains}
 use Rattle.std.proofs.lemmas.Bool.Decides.{Decides-eqb}
 use Rattle.std.proofs.lemmas.Slice.Eq.{bytes_eq-Decides}
 use Rattle.gltf_base.specs.Spelling.{Spelling, by_number, by_name, is_spelled, item_spelled}
-use Rattle.gltf_base.specs.declared.validation.Checked.TheVariants.{Valid, Invalid}
+use Rattle.gltf_base.specs.declared.validation.Checked.TheVariants.{Valid}
 
 -- two spellings that are the same are equal
 pub same_spelling : (s t : Spelling) → is_spelled s t ≡ true → s ≡ t

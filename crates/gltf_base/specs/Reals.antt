@@ -1,5 +1,4 @@
 -- The number that a real is.
-use Rattle.std.specs.Prelude.{ℕ}
 use Rattle.serde_json.specs.Data.{Num, unsigned, Data, number}
 use Rattle.serde_json.specs.View.{view}
 use Rattle.serde_json.specs.declared.value.Value.{Value}

@@ -1,5 +1,5 @@
 -- How a document spells the items of a choice: each by a number, or each by a name.
-use Rattle.std.specs.Prelude.{ℕ, ◌==◌, List, [], ◌∷◌, Bool, true, false, if◌then◌else◌}
+use Rattle.std.specs.Prelude.{ℕ, ◌==◌, List, [], ◌∷◌, Bool, false, if◌then◌else◌}
 use Rattle.std.specs.Str.{bytes_eq}
 use Rattle.gltf_base.specs.declared.choice.Spelling.{Spelling as Borrowed}
 use Rattle.gltf_base.specs.declared.choice.Spelling.TheVariants as borrowed

@@ -42,13 +42,7 @@ pub const VALID_INDEX_TYPES: &[u32] = &[UNSIGNED_BYTE, UNSIGNED_SHORT, UNSIGNED_
 
 /// The names of the types.
 pub const VALID_ACCESSOR_TYPES: &[&str] = &[
-    "SCALAR",
-    "VEC2",
-    "VEC3",
-    "VEC4",
-    "MAT2",
-    "MAT3",
-    "MAT4",
+    "SCALAR", "VEC2", "VEC3", "VEC4", "MAT2", "MAT3", "MAT4",
 ];
 
 /// The type of one component of an element.
@@ -130,7 +124,7 @@ impl GenericComponentType {
     pub fn from_gl_enum(number: u64) -> Checked<GenericComponentType>
         ensures { result ≡ item_spelled generic_component_type_spelling generic_component_types (by_number number) }
     {
-        item_of(Spelling::Number(number))
+        item_of::<GenericComponentType>(Spelling::Number(number))
     }
 
     /// The number by which a document spells the type.
@@ -179,7 +173,7 @@ impl IndexComponentType {
     pub fn from_gl_enum(number: u64) -> Checked<IndexComponentType>
         ensures { result ≡ item_spelled index_component_type_spelling index_component_types (by_number number) }
     {
-        item_of(Spelling::Number(number))
+        item_of::<IndexComponentType>(Spelling::Number(number))
     }
 
     /// The number by which a document spells the type, also of one that isn't read.
@@ -254,7 +248,7 @@ impl AccessorType {
     pub fn from_name(name: &str) -> Checked<AccessorType>
         ensures { result ≡ item_spelled accessor_type_spelling accessor_types (by_name name.now) }
     {
-        item_of(Spelling::Name(name))
+        item_of::<AccessorType>(Spelling::Name(name))
     }
 
     /// The name by which a document spells the type.
@@ -282,5 +276,4 @@ pub fn constants_are_listed()
     ensures index_types { map by_number VALID_INDEX_TYPES.now
         ≡ map index_component_type_spelling index_component_types }
     ensures types { map (λ name. by_name name.now) VALID_ACCESSOR_TYPES.now ≡ map accessor_type_spelling accessor_types }
-{
-}
+{}

@@ -68,7 +68,7 @@ impl Interpolation {
     pub fn from_name(name: &str) -> Checked<Interpolation>
         ensures { result ≡ item_spelled interpolation_spelling interpolations (by_name name.now) }
     {
-        item_of(Spelling::Name(name))
+        item_of::<Interpolation>(Spelling::Name(name))
     }
 
     /// The name by which a document spells the interpolation.
@@ -131,7 +131,7 @@ impl Property {
     pub fn from_name(name: &str) -> Checked<Property>
         ensures { result ≡ item_spelled property_spelling properties (by_name name.now) }
     {
-        item_of(Spelling::Name(name))
+        item_of::<Property>(Spelling::Name(name))
     }
 
     /// The name by which a document spells the property.
@@ -151,5 +151,4 @@ impl Property {
 pub fn constants_are_listed()
     ensures interpolations { map (λ name. by_name name.now) VALID_INTERPOLATIONS.now ≡ map interpolation_spelling interpolations }
     ensures properties { map (λ name. by_name name.now) VALID_PROPERTIES.now ≡ map property_spelling properties }
-{
-}
+{}

@@ -59,7 +59,7 @@ impl Target {
     pub fn from_gl_enum(number: u64) -> Checked<Target>
         ensures { result ≡ item_spelled target_spelling targets (by_number number) }
     {
-        item_of(Spelling::Number(number))
+        item_of::<Target>(Spelling::Number(number))
     }
 
     /// The number by which a document spells the target.
@@ -78,5 +78,4 @@ pub fn constants_are_listed()
     ensures numbers { (ARRAY_BUFFER ≡ 34962) × (ELEMENT_ARRAY_BUFFER ≡ 34963) }
     ensures strides { (MIN_BYTE_STRIDE ≡ 4) × (MAX_BYTE_STRIDE ≡ 252) }
     ensures targets { map by_number VALID_TARGETS.now ≡ map target_spelling targets }
-{
-}
+{}

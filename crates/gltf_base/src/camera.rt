@@ -37,10 +37,7 @@ impl Choice for CameraType {
     }
 
     fn listed() -> &'static [CameraType] {
-        &[
-            CameraType::Perspective,
-            CameraType::Orthographic,
-        ]
+        &[CameraType::Perspective, CameraType::Orthographic]
     }
 
     fn spelling(self) -> Spelling<'static> {
@@ -53,7 +50,7 @@ impl CameraType {
     pub fn from_name(name: &str) -> Checked<CameraType>
         ensures { result ≡ item_spelled camera_type_spelling camera_types (by_name name.now) }
     {
-        item_of(Spelling::Name(name))
+        item_of::<CameraType>(Spelling::Name(name))
     }
 
     /// The name by which a document spells the type.
@@ -70,5 +67,4 @@ impl CameraType {
 /// The constants of this module are those by which the choices are spelled.
 pub fn constants_are_listed()
     ensures { map (λ name. by_name name.now) VALID_CAMERA_TYPES.now ≡ map camera_type_spelling camera_types }
-{
-}
+{}

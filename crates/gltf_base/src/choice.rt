@@ -80,5 +80,4 @@ pub fn spellings_are_read_back<T: Choice>()
     ensures listed { AllByRecursion (λ x. item_spelled T.spelling T.listed (T.spelling x) ≡ Valid x) T.listed }
     ensures read { (s : Spelled) (x : T) → item_spelled T.spelling T.listed s ≡ Valid x
         → (T.spelling x ≡ s) × Contains T.listed x }
-{
-}
+{}

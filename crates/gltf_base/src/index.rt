@@ -38,6 +38,7 @@ unsafe impl<P> Sync for IndexTo<P> {}
 
 impl<T> Index<T> {
     ghost use Rattle.gltf_base.specs.Indexes.{index_number};
+    ghost use Rattle.gltf_base.specs.Pushes.{IsHandedBack};
 
     /// The index that a number is.
     pub fn new(number: u32) -> Index<T>
@@ -52,11 +53,6 @@ impl<T> Index<T> {
     {
         self.0 as usize
     }
-}
-
-impl<T> Index<T> {
-    ghost use Rattle.gltf_base.specs.Indexes.{index_number};
-    ghost use Rattle.gltf_base.specs.Pushes.{IsHandedBack};
 
     /// Appends an item to its list, and answers its index. A list of 4294967295 items or more is
     /// full, which is told before any memory is taken.

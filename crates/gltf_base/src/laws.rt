@@ -1,6 +1,6 @@
 //! Laws of the crate's types. Each function does nothing; its contract is the law.
 
-ghost use Rattle.std.specs.Prelude.{◌≡◌, ◌==◌, [], ◌∷◌, codes, Some, IsTrue};
+ghost use Rattle.std.specs.Prelude.{◌≡◌, ◌==◌, true, false, [], ◌∷◌, codes, Some, IsTrue};
 ghost use Rattle.std.specs.Cmp.{IsTotalOrder};
 ghost use Rattle.std.specs.Ordering.{nat_cmp, is_eq};
 ghost use Rattle.std.specs.declared.cmp.Ordering.TheVariants.{Less, Equal, Greater};
@@ -51,8 +51,7 @@ pub fn orders_agree_with_equality<T: Ord + Hash>()
     ensures total { IsTotalOrder T.cmp }
     ensures equality { (x y : T) → T.eq x y ≡ is_eq (T.cmp x y) }
     ensures hash { (x y : T) → IsTrue (T.eq x y) → T.hash_input x ≡ T.hash_input y }
-{
-}
+{}
 
 /// Indexes are compared and hashed as their numbers.
 pub fn indexes_are_compared_as_numbers<P>()
@@ -60,8 +59,15 @@ pub fn indexes_are_compared_as_numbers<P>()
     ensures order { (i j : AnIndex P) → ⟦<IndexTo<P> as Ord>⟧.cmp i j ≡ nat_cmp (index_number i) (index_number j) }
     ensures partial_order { (i j : AnIndex P) → ⟦<IndexTo<P> as PartialOrd>⟧.partial_cmp i j ≡ Some (nat_cmp (index_number i) (index_number j)) }
     ensures hash { (i : AnIndex P) → ⟦<IndexTo<P> as Hash>⟧.hash_input i ≡ ⟦<u32 as Hash>⟧.hash_input (index_number i) }
-{
-}
+{}
+
+/// Items are equal as they are, and `Invalid` equals itself alone.
+pub fn items_are_equal_as_they_are<T: PartialEq>()
+    ensures items { (x y : T) → ⟦<Checked<T> as PartialEq>⟧.eq (Valid x) (Valid y) ≡ T.eq x y }
+    ensures item { (x : T) → ⟦<Checked<T> as PartialEq>⟧.eq (Valid x) Invalid ≡ false }
+    ensures none { (x : T) → ⟦<Checked<T> as PartialEq>⟧.eq Invalid (Valid x) ≡ false }
+    ensures same { ⟦<Checked<T> as PartialEq>⟧.eq Invalid Invalid ≡ true }
+{}
 
 /// Every item is before `Invalid`, and items are compared as they are.
 pub fn items_are_before_invalid<T: Ord>()
@@ -69,22 +75,19 @@ pub fn items_are_before_invalid<T: Ord>()
     ensures before { (x : T) → ⟦<Checked<T> as Ord>⟧.cmp (Valid x) Invalid ≡ Less }
     ensures behind { (x : T) → ⟦<Checked<T> as Ord>⟧.cmp Invalid (Valid x) ≡ Greater }
     ensures same { ⟦<Checked<T> as Ord>⟧.cmp Invalid Invalid ≡ Equal }
-{
-}
+{}
 
 /// Errors stand in the order in which they are declared.
 pub fn errors_are_ordered_by_rank()
     ensures order { (a b : AnError) → ⟦<Error as Ord>⟧.cmp a b ≡ nat_cmp (error_rank a) (error_rank b) }
     ensures equality { (a b : AnError) → ⟦<Error as PartialEq>⟧.eq a b ≡ (error_rank a == error_rank b) }
-{
-}
+{}
 
 /// Sizes are equal where their numbers are.
 pub fn sizes_are_compared_as_numbers()
     ensures equality { (a b : ASize) → ⟦<USize64 as PartialEq>⟧.eq a b ≡ (a.0 == b.0) }
     ensures hash { (a : ASize) → ⟦<USize64 as Hash>⟧.hash_input a ≡ ⟦<u64 as Hash>⟧.hash_input a.0 }
-{
-}
+{}
 
 /// Items of a choice are equal where they are spelled alike.
 pub fn items_are_equal_by_spelling()
@@ -112,15 +115,13 @@ pub fn items_are_equal_by_spelling()
         ≡ is_spelled (min_filter_spelling a) (min_filter_spelling b) }
     ensures wrapping_mode { (a b : AWrappingMode) → ⟦<WrappingMode as PartialEq>⟧.eq a b
         ≡ is_spelled (wrapping_mode_spelling a) (wrapping_mode_spelling b) }
-{
-}
+{}
 
 /// Keys of attributes are ordered and equal as what they mean.
 pub fn semantics_are_ordered_as_keys()
     ensures order { (a b : Either Meaning) → ⟦<Checked<Semantic> as Ord>⟧.cmp a b ≡ key_cmp (checked_key a) (checked_key b) }
     ensures equality { (a b : Either Meaning) → ⟦<Checked<Semantic> as PartialEq>⟧.eq a b ≡ key_eq (checked_key a) (checked_key b) }
-{
-}
+{}
 
 /// What some spellings, names and steps mean, computed from the definitions.
 #[tactic(auto, unfolding(crate::specs::Names::key_named))]
@@ -128,10 +129,10 @@ pub fn worked_values()
     ensures component_types { (item_spelled generic_component_type_spelling generic_component_types (by_number 4294972416) ≡ Invalid)
         × (item_spelled generic_component_type_spelling generic_component_types (by_number 5124) ≡ Invalid)
         × (item_spelled generic_component_type_spelling generic_component_types (by_number 5126)
-            ≡ Valid (record { 0 = ComponentType.F32 })) }
+        ≡ Valid (record { 0 = ComponentType.F32 })) }
     ensures index_types { (item_spelled index_component_type_spelling index_component_types (by_number 5126) ≡ Invalid)
         × (item_spelled index_component_type_spelling index_component_types (by_number 5123)
-            ≡ Valid (record { 0 = ComponentType.U16 })) }
+        ≡ Valid (record { 0 = ComponentType.U16 })) }
     ensures sets { (key_named (codes "TEXCOORD_007") ≡ tex_coords 7) × (key_named (codes "JOINTS_+0") ≡ joints 0)
         × (key_named (codes "COLOR_4294967295") ≡ colors 4294967295) }
     ensures no_sets { (key_named (codes "COLOR_") ≡ unknown) × (key_named (codes "COLOR_4294967296") ≡ unknown)
@@ -140,6 +141,5 @@ pub fn worked_values()
     ensures paths { (path_text (field (codes "foo") ∷ item 0 ∷ value (codes "baz") ∷ []) ≡ codes "foo[0] = \"baz\"")
         × (path_text (field (codes "foo") ∷ field (codes "bar") ∷ item 123 ∷ []) ≡ codes "foo.bar[123]")
         × (path_text (field (codes "a") ∷ key (key_text unknown) ∷ item 2 ∷ field (codes "b") ∷ [])
-            ≡ codes "a[\"<invalid semantic name>\"][2].b") }
-{
-}
+        ≡ codes "a[\"<invalid semantic name>\"][2].b") }
+{}

@@ -20,3 +20,6 @@ pub mod validation;
 pub use index::{Index, IndexTo, Listed, Names, PushError};
 pub use path::{KeyStep, Path, Step, Steps};
 pub use real::Real;
+
+#[cfg(test)]
+mod tests;

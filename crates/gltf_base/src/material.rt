@@ -48,11 +48,7 @@ impl Choice for AlphaMode {
     }
 
     fn listed() -> &'static [AlphaMode] {
-        &[
-            AlphaMode::Opaque,
-            AlphaMode::Mask,
-            AlphaMode::Blend,
-        ]
+        &[AlphaMode::Opaque, AlphaMode::Mask, AlphaMode::Blend]
     }
 
     fn spelling(self) -> Spelling<'static> {
@@ -65,7 +61,7 @@ impl AlphaMode {
     pub fn from_name(name: &str) -> Checked<AlphaMode>
         ensures { result ≡ item_spelled alpha_mode_spelling alpha_modes (by_name name.now) }
     {
-        item_of(Spelling::Name(name))
+        item_of::<AlphaMode>(Spelling::Name(name))
     }
 
     /// The name by which a document spells the mode.
@@ -83,5 +79,4 @@ impl AlphaMode {
 /// The constants of this module are those by which the choices are spelled.
 pub fn constants_are_listed()
     ensures { map (λ name. by_name name.now) VALID_ALPHA_MODES.now ≡ map alpha_mode_spelling alpha_modes }
-{
-}
+{}

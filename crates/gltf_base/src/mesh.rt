@@ -117,7 +117,7 @@ impl Mode {
     pub fn from_gl_enum(number: u64) -> Checked<Mode>
         ensures { result ≡ item_spelled mode_spelling modes (by_number number) }
     {
-        item_of(Spelling::Number(number))
+        item_of::<Mode>(Spelling::Number(number))
     }
 
     /// The number by which a document spells the mode.
@@ -143,8 +143,7 @@ pub fn constants_are_listed()
     ensures modes { map by_number VALID_MODES.now ≡ map mode_spelling modes }
     ensures morph_targets { map (λ name. name.now) VALID_MORPH_TARGETS.now
         ≡ codes "POSITION" ∷ codes "NORMAL" ∷ codes "TANGENT" ∷ [] }
-{
-}
+{}
 
 /// What an attribute of a mesh means.
 #[derive(Clone, Debug, Drop, PartialEq, Eq, PartialOrd, Ord, Hash)]
@@ -278,5 +277,4 @@ fn write_valid(text: &mut String, semantic: &Semantic) -> Result<(), AllocError>
 /// The text of each semantic is read as that semantic.
 pub fn texts_are_read_back()
     ensures { (key : Key) → IsNamed key → key_named (key_text key) ≡ key }
-{
-}
+{}

@@ -76,10 +76,7 @@ impl Choice for MagFilter {
     }
 
     fn listed() -> &'static [MagFilter] {
-        &[
-            MagFilter::Nearest,
-            MagFilter::Linear,
-        ]
+        &[MagFilter::Nearest, MagFilter::Linear]
     }
 
     fn spelling(self) -> Spelling<'static> {
@@ -92,7 +89,7 @@ impl MagFilter {
     pub fn from_gl_enum(number: u64) -> Checked<MagFilter>
         ensures { result ≡ item_spelled mag_filter_spelling mag_filters (by_number number) }
     {
-        item_of(Spelling::Number(number))
+        item_of::<MagFilter>(Spelling::Number(number))
     }
 
     /// The number by which a document spells the filter.
@@ -160,7 +157,7 @@ impl MinFilter {
     pub fn from_gl_enum(number: u64) -> Checked<MinFilter>
         ensures { result ≡ item_spelled min_filter_spelling min_filters (by_number number) }
     {
-        item_of(Spelling::Number(number))
+        item_of::<MinFilter>(Spelling::Number(number))
     }
 
     /// The number by which a document spells the filter.
@@ -233,7 +230,7 @@ impl WrappingMode {
     pub fn from_gl_enum(number: u64) -> Checked<WrappingMode>
         ensures { result ≡ item_spelled wrapping_mode_spelling wrapping_modes (by_number number) }
     {
-        item_of(Spelling::Number(number))
+        item_of::<WrappingMode>(Spelling::Number(number))
     }
 
     /// The number by which a document spells the mode.
@@ -256,5 +253,4 @@ pub fn constants_are_listed()
     ensures mag_filters { map by_number VALID_MAG_FILTERS.now ≡ map mag_filter_spelling mag_filters }
     ensures min_filters { map by_number VALID_MIN_FILTERS.now ≡ map min_filter_spelling min_filters }
     ensures wrapping_modes { map by_number VALID_WRAPPING_MODES.now ≡ map wrapping_mode_spelling wrapping_modes }
-{
-}
+{}

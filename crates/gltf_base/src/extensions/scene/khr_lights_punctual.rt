@@ -39,11 +39,7 @@ impl Choice for LightType {
     }
 
     fn listed() -> &'static [LightType] {
-        &[
-            LightType::Directional,
-            LightType::Point,
-            LightType::Spot,
-        ]
+        &[LightType::Directional, LightType::Point, LightType::Spot]
     }
 
     fn spelling(self) -> Spelling<'static> {
@@ -56,7 +52,7 @@ impl LightType {
     pub fn from_name(name: &str) -> Checked<LightType>
         ensures { result ≡ item_spelled light_type_spelling light_types (by_name name.now) }
     {
-        item_of(Spelling::Name(name))
+        item_of::<LightType>(Spelling::Name(name))
     }
 
     /// The name by which a document spells the type.
@@ -74,5 +70,4 @@ impl LightType {
 /// The constants of this module are those by which the choices are spelled.
 pub fn constants_are_listed()
     ensures { map (λ name. by_name name.now) VALID_TYPES.now ≡ map light_type_spelling light_types }
-{
-}
+{}

@@ -1,0 +1,73 @@
+-- What readers and writers show of their calls, and when reading to the end ends how.
+use Rattle.std.specs.Prelude.{◌≡◌, ℕ, ◌-◌, ◌^◌, ◌<◌, ◌≤◌, ◌⊎◌, min, List, length, take, Bool, true, false, Option}
+use Rattle.std.specs.Io.KnownBytes.{Appends, Consumes, IsAtEnd}
+use Rattle.gltf_parts.specs.declared.error.Error.{Error}
+use Rattle.gltf_parts.specs.declared.error.Error.TheVariants as errors
+
+-- what a document may have of bytes, and its reader of calls, that of the end among them
+abbrev pub byte_limit : ℕ
+byte_limit = 1073741824
+
+abbrev pub call_limit : ℕ
+call_limit = 2147483648
+
+-- a count that stops at the largest number of 64 bits
+abbrev pub counted : ℕ → ℕ
+counted n = min n (2 ^ 64 - 1)
+
+-- what a reader's calls have shown: whether one failed, how many there were, how many bytes they gave, and whether the last one
+-- gave the end
+pub record Seen : Type 0 where
+  pub has_failed : Bool
+  pub calls : ℕ
+  pub given : ℕ
+  pub has_ended : Bool
+
+-- no call has shown anything yet
+pub record IsFresh (seen : Seen) : Type 0 where
+  pub works : seen.has_failed ≡ false
+  pub uncalled : seen.calls ≡ 0
+  pub nothing_given : seen.given ≡ 0
+  pub going_on : seen.has_ended ≡ false
+
+-- the reader gave these bytes, and has none left
+pub record IsReadToEnd (old new : Option (List ℕ)) (bytes : List ℕ) : Type 0 where
+  pub gives : Consumes old new bytes
+  pub at_end : IsAtEnd new
+
+-- a reader that was fresh gave its end within the limits
+pub record IsWithin (bytes calls : ℕ) (seen : Seen) : Type 0 where
+  pub works : seen.has_failed ≡ false
+  pub ended : seen.has_ended ≡ true
+  pub short : seen.given ≤ bytes
+  pub soon : seen.calls ≤ calls
+
+-- a reader that was fresh gave too many bytes, or not its end in all its calls
+pub record IsPastLimit (bytes calls : ℕ) (seen : Seen) : Type 0 where
+  pub works : seen.has_failed ≡ false
+  pub past : (bytes < seen.given) ⊎ ((seen.calls ≡ calls) × (seen.has_ended ≡ false))
+
+-- why reading a reader that was fresh was given up
+abbrev pub IsCause : ℕ → ℕ → Seen → Error → Type 0
+IsCause bytes calls seen errors.Read = seen.has_failed ≡ true
+IsCause bytes calls seen (errors.Memory e) = seen.has_failed ≡ false
+IsCause bytes calls seen errors.TooLong = IsPastLimit bytes calls seen
+IsCause bytes calls seen _ = ⊥
+
+-- what reading is given up for
+abbrev pub IsReadError : Error → Type 0
+IsReadError errors.Read = Unit {0}
+IsReadError (errors.Memory e) = Unit {0}
+IsReadError errors.TooLong = Unit {0}
+IsReadError _ = ⊥
+
+-- reading was given up for one of its errors, and of a fresh reader for its cause
+pub record GaveUp (bytes calls : ℕ) (old new : Seen) (error : Error) : Type 0 where
+  pub kind : IsReadError error
+  pub cause : IsFresh old → IsCause bytes calls new error
+
+-- the known bytes grow by a front of these
+pub record AppendsFront (old new : Option (List ℕ)) (bytes : List ℕ) : Type 0 where
+  pub count : ℕ
+  pub within : count ≤ length bytes
+  pub appends : Appends old new (take count bytes)

@@ -1,0 +1,17 @@
+pub mod AssetTable
+pub mod AssetTrees
+pub mod RootTable
+pub mod RootTrees
+pub mod Lists
+pub mod Faults
+pub mod Rules
+pub mod Reports
+pub mod Places
+pub mod Closed
+pub mod Items
+pub mod Worked
+pub mod RowNames
+pub mod Walk
+pub mod Device
+pub mod Watched
+pub mod Answer

@@ -1,0 +1,3 @@
+//! The objects of a scene.
+
+pub mod asset;

@@ -2,4 +2,5 @@ pub mod TakingOut
 pub mod Items
 pub mod Choosing
 pub mod RowByRow
+pub mod ArrayOfNumbers
 pub mod ReadPlain

@@ -8,13 +8,14 @@ use Rattle.gltf_parts.specs.declared.error.Error.TheVariants as errors
 use Rattle.gltf_parts.specs.Outcome.{Reads, Refuses}
 use Rattle.gltf_parts.specs.Maybe.{◌>>=◌}
 use Rattle.gltf_parts.specs.Tree.{Tree, Trees, end, with_tree}
-use Rattle.gltf_parts.specs.Kind.{Mark, Kind, Rows, no_rows, row}
+use Rattle.gltf_base.specs.Lists.{images}
+use Rattle.gltf_parts.specs.Kind.{Mark, Kind, IndexInto, SourceImage, Rows, no_rows, row}
 use Rattle.gltf_parts.specs.Taken.{take_member, take_rows, take_all, left}
 use Rattle.gltf_parts.specs.Readings.{MemberFrom, RowsFrom, ReadsMember, ReadsRows, members_or_error}
 use Rattle.gltf_parts.proofs.TakingOut.{refused}
 
 -- a step that is refused refuses what comes after it
-refused_then : {A B : Type 0} (e : Error) (f : A → Option B) (read : Option A) → Refuses e read → Refuses e (read >>= f)
+pub refused_then : {A B : Type 0} (e : Error) (f : A → Option B) (read : Option A) → Refuses e read → Refuses e (read >>= f)
 refused_then (errors.Memory e) f read h = tt
 refused_then errors.Schema f read h = ap (λ o. o >>= f) h
 refused_then errors.Json f read h = h
@@ -91,3 +92,19 @@ pub read_exit : {X : Type 0} {s s' : Result Members Error} {rows : Rows} {ts : T
 read_exit {X} {s} {s'} {rows} {ts} {ms} {e} view r keeps is begun h ended =
     let exit = err_from_is_err_and r is in
     rw (exit.1, exit.2) (all_refused e rows keeps ms (subst (λ r. Reads (λ left. (ts, left)) r (take_rows rows ms)) (sym ended) (from_members s s' rows ts ms begun h.is)))
+
+-- a row's mark said in another way
+pub marked : {before after : Result Members Error} {n : List ℕ} {mark mark' : Mark} {kind : Kind} {t : Tree}
+    → mark ≡ mark' → ReadsMember before n mark kind t after → ReadsMember before n mark' kind t after
+marked {before} {after} {n} {mark} {mark'} {kind} {t} is h = subst (λ m. ReadsMember before n m kind t after) is h
+
+source_from : (before after : Result Members Error) (n : List ℕ) (mark : Mark) (t : Tree)
+    → MemberFrom before n mark (IndexInto images) t after → MemberFrom before n mark SourceImage t after
+unfolding take_member
+source_from (Ok ms) after n mark t h = h
+source_from (Err e) after n mark t h = h
+
+-- the image of a texture is read as an index into the images
+pub source_read : {before after : Result Members Error} {n : List ℕ} {mark : Mark} {t : Tree}
+    → ReadsMember before n mark (IndexInto images) t after → ReadsMember before n mark SourceImage t after
+source_read {before} {after} {n} {mark} {t} h = record { is = source_from before after n mark t h.is }

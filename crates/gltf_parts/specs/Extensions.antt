@@ -10,7 +10,7 @@ kept_extensions of = Object (extensions_of of) no_rows true
 abbrev pub dropped_extensions : ObjectName → Kind
 dropped_extensions of = Object (extensions_of of) no_rows false
 
--- an object's extensions, and what an application adds of its own (glTF 2.0, section 5.19 and 5.20)
+-- an object's extensions, and what an application adds of its own (glTF 2.0, sections 5.15 and 5.16)
 abbrev pub extensions_and_extras : Kind → Rows
 extensions_and_extras kind =
     (codes "extensions", optional, kind)

@@ -9,7 +9,7 @@ use Rattle.gltf_base.specs.Reals.{real_number}
 use Rattle.gltf_base.specs.declared.index.IndexTo.{IndexTo}
 use Rattle.gltf_base.specs.declared.real.Real.{Real}
 use Rattle.gltf_base.specs.declared.validation.USize64.{USize64}
-use Rattle.gltf_parts.specs.Tree.{Tree, Trees, trees, tree_or_absent, whole, number, text, any, index, list, object}
+use Rattle.gltf_parts.specs.Tree.{Tree, Trees, trees, tree_or_absent, whole, number, numbers, text, any, index, list, object}
 
 abbrev pub index_tree : {P : Type 0} → IndexTo P → Tree
 index_tree i = index (index_number i)
@@ -19,6 +19,9 @@ size_tree n = whole n.0
 
 abbrev pub real_tree : Real → Tree
 real_tree x = number (real_number x)
+
+abbrev pub reals_tree : List Real → Tree
+reals_tree xs = numbers (map real_number xs)
 
 abbrev pub text_tree : String Global → Tree
 text_tree s = text (string_bytes s)

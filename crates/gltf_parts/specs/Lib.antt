@@ -9,8 +9,17 @@ pub mod Taken
 pub mod Readings
 pub mod Leaves
 pub mod Fields
+pub mod Defaults
 pub mod Extensions
 pub mod AccessorTable
 pub mod AccessorTrees
 pub mod BufferTable
 pub mod BufferTrees
+pub mod ImageTable
+pub mod ImageTrees
+pub mod TextureTable
+pub mod TextureTrees
+pub mod MaterialExtensionTable
+pub mod MaterialExtensionTrees
+pub mod MaterialTable
+pub mod MaterialTrees

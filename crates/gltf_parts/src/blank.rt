@@ -1,7 +1,7 @@
 //! Values that stand where nothing was read.
 
-use gltf_base::validation::{Checked, USize64};
 use gltf_base::IndexTo;
+use gltf_base::validation::{Checked, USize64};
 use std::alloc::Global;
 
 /// A type with a value that stands where reading failed, and that is dropped with the object.
@@ -13,6 +13,12 @@ pub trait Blank: Drop {
 impl Blank for u32 {
     fn blank(_alloc: Global) -> u32 {
         0
+    }
+}
+
+impl Blank for bool {
+    fn blank(_alloc: Global) -> bool {
+        false
     }
 }
 

@@ -14,6 +14,9 @@ use std::alloc::Global;
 
 pub mod accessor;
 pub mod buffer;
+pub mod image;
+pub mod material;
+pub mod texture;
 
 /// An extension object of which no member is known: it keeps them all, or drops them all.
 pub trait Unlisted: Drop {

@@ -1,4 +1,4 @@
-//! What an application adds of its own (glTF 2.0, section 5.20).
+//! What an application adds of its own (glTF 2.0, section 5.16).
 
 use serde_json::Value;
 

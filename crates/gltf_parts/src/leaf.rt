@@ -5,8 +5,9 @@ ghost use Rattle.serde_json.specs.View.{view, items_view};
 ghost use Rattle.gltf_base.specs.Indexes.{index_number};
 ghost use Rattle.gltf_base.specs.Reals.{real_number};
 ghost use Rattle.gltf_parts.specs.Tree.{whole, number, text, truth, any, index, list, trees};
-ghost use Rattle.gltf_parts.specs.Kind.{IndexInto, U32, U64, Number, Text, Truth, Any, ListOf};
+ghost use Rattle.gltf_parts.specs.Kind.{IndexInto, U32, U64, Number, Numbers, Text, Truth, Any, ListOf};
 ghost use Rattle.gltf_parts.specs.Read.{read, read_items, small_number as number_of_32_bits};
+ghost use Rattle.gltf_parts.specs.Fields.{reals_tree};
 ghost use Rattle.gltf_parts.specs.Outcome.{Reads};
 ghost use Rattle.gltf_parts.specs.Leaves.{checked_tree, choice_of, checked_tree-present};
 
@@ -72,6 +73,22 @@ impl Schema for Real {
             Ok(number) => Ok(number),
             Err(_) => Err(Error::Schema),
         }
+    }
+}
+
+impl<const N: usize> Schema for [Real; N] {
+    ghost kind = { Numbers N };
+
+    ghost tree = { reals_tree };
+
+    ghost present = { λ _. refl };
+
+    fn decode(alloc: Global, value: Value) -> Result<[Real; N], Error> {
+        let Value::Array(items) = value else {
+            return Err(Error::Schema);
+        };
+        let found: Vec<Real> = decode_items(alloc, items)?;
+        <[Real; N]>::try_from(found).ok().ok_or(Error::Schema)
     }
 }
 

@@ -8,10 +8,13 @@ pub mod buffer;
 pub mod error;
 pub mod extensions;
 pub mod extras;
+pub mod image;
 mod leaf;
+pub mod material;
 mod members;
 mod reading;
 mod schema;
+pub mod texture;
 
 pub use blank::Blank;
 pub use error::Error;

@@ -92,13 +92,13 @@ impl Reading {
     }
 
     /// A member that is the default where it is missing, whether or not it is written then.
-    pub fn or_default<T: Schema + Copy>(&mut self, name: &str, default: T) -> T
+    pub fn or_default<T: Schema + Blank>(&mut self, name: &str, default: T) -> T
         ensures always { ReadsMember (reading_state self.old) name.now (always (T.tree default)) T.kind
             (T.tree result) (reading_state self.new) }
         ensures unless { ReadsMember (reading_state self.old) name.now (unless (T.tree default)) T.kind
             (T.tree result) (reading_state self.new) }
     {
-        read_on!(self, or_default(name, default), default)
+        read_on!(self, or_default(name, default), T::blank(self.alloc))
     }
 
     /// A member with which no document is read so far.

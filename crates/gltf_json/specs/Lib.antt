@@ -12,3 +12,4 @@ pub mod Items
 pub mod Device
 pub mod Watched
 pub mod Answer
+pub mod Walk

@@ -3,6 +3,7 @@
 
 pub mod root;
 mod scene;
+pub mod validation;
 
 pub use gltf_base::{Index, Path};
 pub use gltf_parts::accessor::Accessor;

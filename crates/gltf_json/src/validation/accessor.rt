@@ -1,0 +1,189 @@
+//! Accessors and their sparse storage.
+
+ghost use Rattle.std.specs.Prelude.{◌≡◌, List, ◌∷◌, [], ◌++◌, Some, codes, refl};
+ghost use Rattle.gltf_base.specs.Steps.{Step as Mathematical, field};
+ghost use Rattle.gltf_parts.specs.AccessorTable.{accessor_kind, sparse_kind, sparse_indices_kind, sparse_values_kind};
+ghost use Rattle.gltf_parts.specs.AccessorTrees.{accessor_members, sparse_members, sparse_indices_members, sparse_values_members, accessor_extensions, sparse_extensions, indices_extensions, values_extensions};
+ghost use Rattle.gltf_parts.specs.Extensions.{kept_extensions, dropped_extensions};
+ghost use Rattle.gltf_parts.specs.Fields.{closed_object};
+ghost use Rattle.gltf_parts.specs.Kind.{ObjectName};
+ghost use Rattle.gltf_json.specs.Faults.{found_at};
+ghost use Rattle.gltf_json.specs.Rules.{accessor_rule};
+ghost use Rattle.gltf_json.specs.Walk.{no_reports};
+
+use super::Validate;
+use super::silent::Silent;
+use super::sink::{Sink, Stop};
+use super::within::{member, told};
+use crate::root::Root;
+use gltf_base::validation::Error;
+use gltf_base::{Step, Steps};
+use gltf_parts::accessor::Accessor;
+use gltf_parts::accessor::sparse::{Indices, Sparse, Values};
+use gltf_parts::extensions::accessor as extensions;
+
+impl Validate for Accessor {
+    ghost kind = { Some accessor_kind };
+
+    ghost tree = { λ v. closed_object (accessor_members v) };
+
+    ghost own = { no_reports };
+
+    ghost depth = { 3 };
+
+    /// Reports what is wrong in its members, and then `Missing` at `bufferView` where there is no data
+    /// at all.
+    fn validate<'a, S: Sink>(
+        &'a self,
+        root: &Root,
+        path: &mut Steps<'a>,
+        sink: &mut S,
+    ) -> Result<(), Stop<S::Refusal>> {
+        let buffer_view = member(Ok(()), &self.buffer_view, "bufferView", root, path, sink);
+        let component_type = member(
+            buffer_view,
+            &self.component_type,
+            "componentType",
+            root,
+            path,
+            sink,
+        );
+        let type_ = member(component_type, &self.type_, "type", root, path, sink);
+        let sparse = member(type_, &self.sparse, "sparse", root, path, sink);
+        let extensions = member(sparse, &self.extensions, "extensions", root, path, sink);
+        told(
+            extensions,
+            data_fault(self),
+            Step::Field("bufferView"),
+            path,
+            sink,
+        )
+    }
+}
+
+/// What is wrong where an accessor has neither a view nor sparse storage.
+#[tactic(auto, unfolding(gltf_parts::specs::AccessorTrees::accessor_members))]
+fn data_fault(accessor: &Accessor) -> Option<Error>
+    ensures { (base : List Mathematical) → found_at result (base ++ field (codes "bufferView") ∷ [])
+        ≡ accessor_rule (accessor_members accessor.now) base }
+{
+    match (&accessor.sparse, &accessor.buffer_view) {
+        (None, None) => Some(Error::Missing),
+        _ => None,
+    }
+}
+
+impl Validate for Sparse {
+    ghost kind = { Some sparse_kind };
+
+    ghost tree = { λ v. closed_object (sparse_members v) };
+
+    ghost own = { no_reports };
+
+    ghost depth = { 2 };
+
+    fn validate<'a, S: Sink>(
+        &'a self,
+        root: &Root,
+        path: &mut Steps<'a>,
+        sink: &mut S,
+    ) -> Result<(), Stop<S::Refusal>> {
+        let indices = member(Ok(()), &self.indices, "indices", root, path, sink);
+        let values = member(indices, &self.values, "values", root, path, sink);
+        member(values, &self.extensions, "extensions", root, path, sink)
+    }
+}
+
+impl Validate for Indices {
+    ghost kind = { Some sparse_indices_kind };
+
+    ghost tree = { λ v. closed_object (sparse_indices_members v) };
+
+    ghost own = { no_reports };
+
+    ghost depth = { 1 };
+
+    fn validate<'a, S: Sink>(
+        &'a self,
+        root: &Root,
+        path: &mut Steps<'a>,
+        sink: &mut S,
+    ) -> Result<(), Stop<S::Refusal>> {
+        let buffer_view = member(Ok(()), &self.buffer_view, "bufferView", root, path, sink);
+        let component_type = member(
+            buffer_view,
+            &self.component_type,
+            "componentType",
+            root,
+            path,
+            sink,
+        );
+        member(
+            component_type,
+            &self.extensions,
+            "extensions",
+            root,
+            path,
+            sink,
+        )
+    }
+}
+
+impl Validate for Values {
+    ghost kind = { Some sparse_values_kind };
+
+    ghost tree = { λ v. closed_object (sparse_values_members v) };
+
+    ghost own = { no_reports };
+
+    ghost depth = { 1 };
+
+    fn validate<'a, S: Sink>(
+        &'a self,
+        root: &Root,
+        path: &mut Steps<'a>,
+        sink: &mut S,
+    ) -> Result<(), Stop<S::Refusal>> {
+        let buffer_view = member(Ok(()), &self.buffer_view, "bufferView", root, path, sink);
+        member(
+            buffer_view,
+            &self.extensions,
+            "extensions",
+            root,
+            path,
+            sink,
+        )
+    }
+}
+
+impl Silent for extensions::Accessor {
+    ghost kind = { Some (kept_extensions ObjectName.accessor) };
+
+    ghost tree = { accessor_extensions };
+
+    ghost is_silent = { λ _ _ _. refl };
+}
+
+impl Silent for extensions::sparse::Sparse {
+    ghost kind = { Some (dropped_extensions ObjectName.sparse) };
+
+    ghost tree = { sparse_extensions };
+
+    ghost is_silent = { λ _ _ _. refl };
+}
+
+impl Silent for extensions::sparse::Indices {
+    ghost kind = { Some (dropped_extensions ObjectName.sparse_indices) };
+
+    ghost tree = { indices_extensions };
+
+    ghost is_silent = { λ _ _ _. refl };
+}
+
+impl Silent for extensions::sparse::Values {
+    ghost kind = { Some (dropped_extensions ObjectName.sparse_values) };
+
+    ghost tree = { values_extensions };
+
+    ghost is_silent = { λ _ _ _. refl };
+}

@@ -1,0 +1,95 @@
+-- What a run wrote, from how its document was read and what the writer took.
+use Rattle.std.proofs.Common.{◌≡◌, ◌≢◌, ◌⊎◌, inl, inr, ⊎_elim, ℕ, List, [], ◌∷◌, Bool, true, false, Option, Some, None, IfSome, IsSomeAnd, Result, Ok, Err, refl, sym, ◌∙◌, ap, subst, arith}
+use Rattle.std.proofs.lemmas.Bool.{true≢false}
+use Rattle.std.specs.Io.KnownBytes.{Appends}
+use Rattle.gltf_parts.specs.declared.error.Error.{Error}
+use Rattle.gltf_parts.specs.declared.error.Error.TheVariants.{Json, Schema, InvalidItem, Read, Write, Memory, TooLong}
+use Rattle.gltf_json.specs.Answer.{Answer, no_json, no_document, document, answer, IsReadAnswer, IsReading}
+use Rattle.gltf_json.specs.Device.{Seen, IsWithin, AppendsFront}
+use Rattle.gltf_json.specs.Faults.{Report}
+use Rattle.gltf_json.specs.RootTrees.{root_tree}
+use Rattle.gltf_json.specs.declared.root.Root.{Root}
+use Rattle.gltf_lines.specs.Output.{Output, answer_output, reports_output, document_reports, output, refusal}
+use Rattle.gltf_lines.specs.Run.{IsRun, IsWritten, reading_output}
+
+-- no output of an answer has the refusal's status
+reports_output-status : (rs : List Report) → (reports_output rs).status ≢ 4
+reports_output-status [] = λ e. omega arith
+reports_output-status (r ∷ rs) = λ e. omega arith
+
+answer_output-status : (a : Answer) → (answer_output a).status ≢ 4
+answer_output-status no_json = λ e. omega arith
+answer_output-status no_document = λ e. omega arith
+answer_output-status (document t) = reports_output-status (document_reports t)
+
+-- what holds of the output of the told bytes' answer
+output-told : (input : Option (List ℕ)) (a : Answer) (P : Output → Type 0) → IfSome input (λ bytes. answer bytes ≡ a) → P (answer_output a) → IfSome input (λ bytes. P (output bytes))
+output-told None a P told h = tt
+output-told (Some bytes) a P told h = subst (λ x. P (answer_output x)) (sym told) h
+
+module _ (input old new : Option (List ℕ)) where
+  -- the refusal was written
+  IsRun-refused : (failed : Bool) (status : ℕ) → IsWritten refusal old new failed status → IsRun input old new failed status
+  IsRun-refused false status h = record {
+    answered = λ some. absurd (some (h.whole refl).0);
+    refused = λ _ _. (h.whole refl).1;
+    broke_off = λ e. absurd (true≢false (sym e));
+  }
+  IsRun-refused true status h = record {
+    answered = λ some. absurd (some (h.front refl).0);
+    refused = λ _ e. absurd (true≢false e);
+    broke_off = λ _. ((h.front refl).0, inl (h.front refl).1);
+  }
+
+  -- the output of the answer was written
+  IsRun-answered : (a : Answer) (failed : Bool) (status : ℕ) → IfSome input (λ bytes. answer bytes ≡ a) → IsWritten (answer_output a) old new failed status
+      → IsRun input old new failed status
+  IsRun-answered a false status told h = record {
+    answered = λ _. (refl, output-told input a (λ due. (status ≡ due.status) × Appends old new due.text) told (h.whole refl));
+    refused = λ four _. absurd (answer_output-status a (sym (h.whole refl).0 ∙ four));
+    broke_off = λ e. absurd (true≢false (sym e));
+  }
+  IsRun-answered a true status told h = record {
+    answered = λ some. absurd (some (h.front refl).0);
+    refused = λ _ e. absurd (true≢false e);
+    broke_off = λ _. ((h.front refl).0, inr (output-told input a (λ due. AppendsFront old new due.text) told (h.front refl).1));
+  }
+
+  IsRun-read : (r : Result Root Error) (failed : Bool) (status : ℕ) → IfSome input (λ bytes. IsReadAnswer (answer bytes) r)
+      → IsSomeAnd (reading_output r) (λ due. IsWritten due old new failed status) → IsRun input old new failed status
+  IsRun-read (Ok root) failed status told h = IsRun-answered (document (root_tree root)) failed status told h
+  IsRun-read (Err Json) failed status told h = IsRun-answered no_json failed status told h
+  IsRun-read (Err Schema) failed status told h = IsRun-answered no_document failed status told h
+  IsRun-read (Err (Memory e)) failed status told h = absurd h
+  IsRun-read (Err Read) failed status told h = absurd h
+  IsRun-read (Err Write) failed status told h = absurd h
+  IsRun-read (Err TooLong) failed status told h = absurd h
+  IsRun-read (Err InvalidItem) failed status told h = absurd h
+
+  -- one of the two was written, by how the document was read
+  pub IsRun-either : (r : Result Root Error) (failed : Bool) (status : ℕ) → IfSome input (λ bytes. IsReadAnswer (answer bytes) r)
+      → IsWritten refusal old new failed status ⊎ IsSomeAnd (reading_output r) (λ due. IsWritten due old new failed status) → IsRun input old new failed status
+  IsRun-either r failed status told (inl h) = IsRun-refused failed status h
+  IsRun-either r failed status told (inr h) = IsRun-read r failed status told h
+
+-- where a fresh reader failed there is no output
+pub reading_output-failed : (bytes calls : ℕ) (seen : Seen) (r : Result Root Error) → IsReading bytes calls seen r → seen.has_failed ≡ true → reading_output r ≡ None
+reading_output-failed bytes calls seen (Ok root) h failed = absurd (true≢false (sym failed ∙ h.works))
+reading_output-failed bytes calls seen (Err Json) h failed = absurd (true≢false (sym failed ∙ h.works))
+reading_output-failed bytes calls seen (Err Schema) h failed = absurd (true≢false (sym failed ∙ h.works))
+reading_output-failed bytes calls seen (Err (Memory e)) h failed = refl
+reading_output-failed bytes calls seen (Err Read) h failed = refl
+reading_output-failed bytes calls seen (Err Write) h failed = refl
+reading_output-failed bytes calls seen (Err TooLong) h failed = refl
+reading_output-failed bytes calls seen (Err InvalidItem) h failed = refl
+
+-- where there is an output a fresh reader was read within the limits
+pub IsReading-output : (bytes calls : ℕ) (seen : Seen) (r : Result Root Error) → IsReading bytes calls seen r → (reading_output r ≡ None → ⊥) → IsWithin bytes calls seen
+IsReading-output bytes calls seen (Ok root) h some = h
+IsReading-output bytes calls seen (Err Json) h some = h
+IsReading-output bytes calls seen (Err Schema) h some = h
+IsReading-output bytes calls seen (Err (Memory e)) h some = absurd (some refl)
+IsReading-output bytes calls seen (Err Read) h some = absurd (some refl)
+IsReading-output bytes calls seen (Err Write) h some = absurd (some refl)
+IsReading-output bytes calls seen (Err TooLong) h some = absurd (some refl)
+IsReading-output bytes calls seen (Err InvalidItem) h some = absurd (some refl)

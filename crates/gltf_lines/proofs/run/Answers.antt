@@ -1,0 +1,15 @@
+-- What a run wrote, by what its reading answered.
+use Rattle.gltf_json.specs.Device.{byte_limit, call_limit}
+use Rattle.gltf_lines.proofs.RunLemmas.{IsRun-either, reading_output-failed, IsReading-output}
+use Rattle.gltf_lines.proofs.run.Goals as goal
+
+pub returns-clause-run : goal.returns-clause-run
+returns-clause-run g c = λ works. IsRun-either _ _ _ c.from_reader-reading.result _ _ c.from_reader-reading.ensures.told (c.answer.ensures.written works)
+
+pub returns-clause-reader_failed : goal.returns-clause-reader_failed
+returns-clause-reader_failed g c = λ fresh failed.
+    c.answer.ensures.given_up (reading_output-failed byte_limit call_limit _ c.from_reader-reading.result (c.from_reader-reading.ensures.fresh fresh) failed)
+
+pub returns-clause-within : goal.returns-clause-within
+returns-clause-within g c = λ fresh some.
+    IsReading-output byte_limit call_limit _ c.from_reader-reading.result (c.from_reader-reading.ensures.fresh fresh) (λ none. some (c.answer.ensures.given_up none).0)

@@ -1,0 +1,52 @@
+-- What is written and answered for the bytes of a document.
+use Rattle.std.specs.Prelude.{ℕ, List, [], ◌∷◌, ◌++◌, codes}
+use Rattle.gltf_base.specs.Errors.{error_text}
+use Rattle.gltf_base.specs.Steps.{Step}
+use Rattle.gltf_base.specs.Text.{path_text}
+use Rattle.gltf_base.specs.declared.validation.Error.{Error}
+use Rattle.gltf_parts.specs.Tree.{Tree}
+use Rattle.gltf_json.specs.Answer.{Answer, no_json, no_document, document, answer}
+use Rattle.gltf_json.specs.Faults.{Report, report}
+use Rattle.gltf_json.specs.Reports.{reports_of}
+use Rattle.gltf_json.specs.RootTable.{root_kind}
+
+-- a text, and an exit status
+pub record Output : Type 0 where
+  pub text : List ℕ
+  pub status : ℕ
+
+abbrev pub line : List ℕ → List ℕ
+line text = text ++ 10 ∷ []
+
+-- a report's place and what is wrong there
+abbrev pub report_line : Report → List ℕ
+report_line r = line (path_text r.steps ++ codes ": " ++ error_text r.error)
+
+-- a line for each report, in order
+abbrev pub report_lines : List Report → List ℕ
+report_lines [] = []
+report_lines (r ∷ rs) = report_line r ++ report_lines rs
+
+-- a text with the line of one more report
+abbrev pub with_report : List ℕ → List Step → Error → List ℕ
+with_report text steps error = text ++ report_line (report steps error)
+
+-- what is wrong in a document, its indexes resolved in itself
+abbrev pub document_reports : Tree → List Report
+document_reports t = reports_of root_kind t t []
+
+abbrev pub reports_output : List Report → Output
+reports_output [] = record { text = line (codes "clean"); status = 0 }
+reports_output (r ∷ rs) = record { text = report_lines (r ∷ rs); status = 1 }
+
+abbrev pub answer_output : Answer → Output
+answer_output no_json = record { text = line (codes "refused: not JSON"); status = 2 }
+answer_output no_document = record { text = line (codes "refused: not a glTF document"); status = 3 }
+answer_output (document t) = reports_output (document_reports t)
+
+abbrev pub output : List ℕ → Output
+output bytes = answer_output (answer bytes)
+
+-- where the document was not read to its end, or there is no memory
+abbrev pub refusal : Output
+refusal = record { text = line (codes "refused: input or output"); status = 4 }

@@ -1,0 +1,65 @@
+//! Reads a document and writes what is wrong in it, a line for each report.
+#![tactic(auto)]
+
+ghost use Rattle.std.specs.Prelude.{◌≡◌, ◌≢◌, ◌≤◌, ◌⊎◌, false, true, None, IsSomeAnd};
+ghost use Rattle.gltf_json.specs.Device.{IsFresh, IsWithin, AppendsFront, byte_limit, call_limit};
+ghost use Rattle.gltf_lines.specs.Output.{refusal};
+ghost use Rattle.gltf_lines.specs.Run.{IsRun, IsWritten, reading_output};
+
+use gltf_json::root::{ByteIn, ByteOut};
+use gltf_json::{Error, Root};
+use std::alloc::Global;
+
+mod lines;
+mod writing;
+
+use lines::lines_of;
+use writing::write_output;
+
+const REFUSAL: &str = "refused: input or output\n";
+
+/// Reads a document to its end and writes a line for each report, `clean` where there is none, or
+/// why the document was refused. It answers the exit status:
+///
+/// | Status | Output |
+/// |---|---|
+/// | 0 | `clean` |
+/// | 1 | a line `path: error` for each report, in order |
+/// | 2 | `refused: not JSON` |
+/// | 3 | `refused: not a glTF document` |
+/// | 4 | `refused: input or output`, where the reader failed, a limit of [`Root::from_reader`] was passed or memory was refused; a front of the output that was due, where the writer failed |
+///
+/// The whole output is made before its first byte is written.
+pub fn run<R: ByteIn, W: ByteOut>(alloc: Global, reader: &mut R, writer: &mut W) -> u8
+    ensures status { result ≤ 4 }
+    ensures run { W.has_failed writer.old ≡ false → IsRun (R.left reader.old) (W.taken writer.old)
+        (W.taken writer.new) (W.has_failed writer.new) result }
+    ensures reader_failed { IsFresh (R.seen reader.old) → (R.seen reader.new).has_failed ≡ true
+        → (result ≡ 4) × AppendsFront (W.taken writer.old) (W.taken writer.new) refusal.text }
+    ensures within { IsFresh (R.seen reader.old) → result ≢ 4 → IsWithin byte_limit call_limit (R.seen reader.new) }
+{
+    let reading = Root::from_reader(alloc, reader);
+    answer(alloc, &reading, writer)
+}
+
+/// Writes the output of a reading.
+fn answer<W: ByteOut>(alloc: Global, reading: &Result<Root, Error>, writer: &mut W) -> u8
+    ensures status { result ≤ 4 }
+    ensures given_up { reading_output reading.now ≡ None
+        → (result ≡ 4) × AppendsFront (W.taken writer.old) (W.taken writer.new) refusal.text }
+    ensures written { W.has_failed writer.old ≡ false
+        → IsWritten refusal (W.taken writer.old) (W.taken writer.new) (W.has_failed writer.new) result
+        ⊎ IsSomeAnd (reading_output reading.now) (λ due.
+        IsWritten due (W.taken writer.old) (W.taken writer.new) (W.has_failed writer.new) result) }
+{
+    match reading {
+        Ok(root) => match lines_of(alloc, root) {
+            Ok(lines) if lines.is_empty() => write_output(writer, "clean\n", 0),
+            Ok(lines) => write_output(writer, &lines, 1),
+            Err(_) => write_output(writer, REFUSAL, 4),
+        },
+        Err(Error::Json) => write_output(writer, "refused: not JSON\n", 2),
+        Err(Error::Schema) => write_output(writer, "refused: not a glTF document\n", 3),
+        Err(_) => write_output(writer, REFUSAL, 4),
+    }
+}

@@ -1,0 +1,32 @@
+//! Reads a glTF document from standard input and writes what is wrong in it to standard output, a
+//! line for each report.
+#![tactic(auto)]
+
+ghost use Rattle.std.specs.Prelude.{◌≡◌, ◌≢◌, ◌≤◌, false};
+ghost use Rattle.std.specs.Process.{exit_status};
+ghost use Rattle.gltf_json.specs.Device.{IsFresh, IsWithin, byte_limit, call_limit};
+ghost use Rattle.gltf_lines.specs.Run.{IsRun};
+
+use gltf_json::root::{ByteIn, ByteOut, Watched};
+use std::alloc::Global;
+use std::process::ExitCode;
+
+// No crate can stand on a program: from Rust, `run` is called in `gltf_lines`.
+pub use gltf_lines::run;
+
+/// Runs, and makes the status of the run that of the program.
+fn exit_code<R: ByteIn, W: ByteOut>(alloc: Global, reader: &mut R, writer: &mut W) -> ExitCode
+    ensures status { exit_status result ≤ 4 }
+    ensures run { W.has_failed writer.old ≡ false → IsRun (R.left reader.old) (W.taken writer.old)
+        (W.taken writer.new) (W.has_failed writer.new) (exit_status result) }
+    ensures within { IsFresh (R.seen reader.old) → exit_status result ≢ 4
+        → IsWithin byte_limit call_limit (R.seen reader.new) }
+{
+    ExitCode::from(run(alloc, reader, writer))
+}
+
+fn main(rt: HostRuntime) -> ExitCode {
+    let mut reader = Watched::new(rt.reader());
+    let mut writer = Watched::new(rt.stdout());
+    exit_code(rt.alloc(), &mut reader, &mut writer)
+}

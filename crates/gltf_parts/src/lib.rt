@@ -9,6 +9,7 @@ pub mod error;
 pub mod extensions;
 pub mod extras;
 pub mod image;
+pub mod laws;
 mod leaf;
 pub mod material;
 mod members;

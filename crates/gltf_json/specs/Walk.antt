@@ -1,5 +1,5 @@
 -- What validation hands to a sink.
-use Rattle.std.specs.Prelude.{◌≡◌, ℕ, suc, ◌+◌, ◌<◌, List, [], ◌∷◌, ◌++◌, length, Option, Some, None, Result, Ok, Err}
+use Rattle.std.specs.Prelude.{◌≡◌, ℕ, suc, ◌+◌, ◌-◌, ◌^◌, ◌<◌, min, List, [], ◌∷◌, ◌++◌, length, Option, Some, None, Result, Ok, Err}
 use Rattle.gltf_base.specs.Steps.{Step, item, key, steps_of}
 use Rattle.gltf_base.specs.declared.path.Step.{Step as Borrowed}
 use Rattle.gltf_base.specs.declared.validation.Error.{Error}
@@ -68,6 +68,10 @@ run next s (r ∷ rs) = run next (next s r.steps r.error) rs
 -- the reports that a count has counted
 abbrev pub counted : Count → ℕ
 counted c = c.count
+
+-- one report more, as far as 64 bits hold it
+abbrev pub one_more : ℕ → List Step → Error → ℕ
+one_more n steps error = min (n + 1) (2 ^ 64 - 1)
 
 module _ {S R : Type 0} (next : S → List Step → Error → S) (refuses : S → List Step → Error → R → S → Type 0) where
   -- a sink took the first of the reports

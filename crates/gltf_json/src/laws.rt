@@ -12,6 +12,7 @@ ghost use Rattle.gltf_parts.specs.AccessorTable.{accessor_rows};
 ghost use Rattle.gltf_json.specs.RowNames.{name_at};
 ghost use Rattle.gltf_json.specs.RootTable.{root_kind, root_rows};
 ghost use Rattle.gltf_json.specs.RootTrees.{root_tree};
+ghost use Rattle.gltf_json.specs.Walk.{run, one_more};
 ghost use Rattle.gltf_json.specs.declared.root.Root.{Root as Document};
 
 pub mod worked;

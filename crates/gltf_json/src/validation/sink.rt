@@ -1,11 +1,10 @@
 //! What takes reports.
 
-ghost use Rattle.std.specs.Prelude.{◌≡◌, ℕ, ◌+◌, List, Some, OnOk, IfErr, min};
-ghost use Rattle.std.below.core.specs.declared.int.u64.TheConstants.{MAX};
+ghost use Rattle.std.specs.Prelude.{◌≡◌, ℕ, List, Some, OnOk, IfErr};
 ghost use Rattle.gltf_base.specs.Steps.{Step, steps_of};
 ghost use Rattle.gltf_base.specs.declared.validation.Error.{Error};
 ghost use Rattle.gltf_json.specs.Faults.{found_at};
-ghost use Rattle.gltf_json.specs.Walk.{Walked, counted};
+ghost use Rattle.gltf_json.specs.Walk.{Walked, counted, one_more};
 
 use gltf_base::Steps;
 use gltf_base::validation::Error;
@@ -70,7 +69,7 @@ impl Sink for Count {
 
     ghost state = { counted };
 
-    ghost next = { λ n _ _. min (n + 1) MAX };
+    ghost next = { one_more };
 
     ghost refuses = { λ _ _ _ _ _. ⊥ };
 

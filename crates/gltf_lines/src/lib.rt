@@ -63,3 +63,6 @@ fn answer<W: ByteOut>(alloc: Global, reading: &Result<Root, Error>, writer: &mut
         Err(_) => write_output(writer, REFUSAL, 4),
     }
 }
+
+#[cfg(test)]
+mod tests;

@@ -1,0 +1,147 @@
+//! Documents, and what is wrong in them.
+
+use super::run_over;
+use gltf_json::root::Watched;
+use gltf_json::{Error, Root};
+use serde_json::Value;
+use std::test::Fail;
+
+/// A document, the status of its run, and the text.
+type Case = (&'static str, u8, &'static str);
+
+const CLEAN: &str = "clean\n";
+
+const NOT_JSON: &str = "refused: not JSON\n";
+
+const NOT_GLTF: &str = "refused: not a glTF document\n";
+
+const NO_VIEW: &str = "accessors[0].bufferView: Missing data\n";
+
+const CASES: [Case; 20] = [
+    ("{}", 3, NOT_GLTF),
+    ("[]", 3, NOT_GLTF),
+    ("", 2, NOT_JSON),
+    (r#"{"asset":{"version":"2.0"}}"#, 0, CLEAN),
+    (r#"{"asset":{"version":"2.0"}"#, 2, NOT_JSON),
+    (r#"{"asset":{"version":"2.0"},"nodes":[]}"#, 3, NOT_GLTF),
+    (r#"{"asset":{"version":"2.0","extras":1}}"#, 3, NOT_GLTF),
+    (
+        r#"{"asset":{"version":"2.0"},"accessors":[{"count":1,"componentType":5126,"type":"VEC3"}]}"#,
+        1,
+        NO_VIEW,
+    ),
+    (
+        r#"{"asset":{"version":"2.0"},"accessors":[{"count":-1,"componentType":5126,"type":"VEC3"}]}"#,
+        3,
+        NOT_GLTF,
+    ),
+    (
+        r#"{"asset":{"version":"2.0"},"accessors":[{"count":1.5,"componentType":5126,"type":"VEC3"}]}"#,
+        3,
+        NOT_GLTF,
+    ),
+    (
+        r#"{"asset":{"version":"2.0"},"accessors":[{"count":18446744073709551615,"componentType":5126,"type":"VEC3"}]}"#,
+        1,
+        NO_VIEW,
+    ),
+    (
+        r#"{"asset":{"version":"2.0"},"accessors":[{"count":1,"componentType":-1,"type":"VEC3"}]}"#,
+        3,
+        NOT_GLTF,
+    ),
+    (
+        r#"{"asset":{"version":"2.0"},"accessors":[{"count":1,"componentType":0,"type":"VEC3"}]}"#,
+        1,
+        "accessors[0].componentType: Invalid value\naccessors[0].bufferView: Missing data\n",
+    ),
+    (
+        r#"{"asset":{"version":"2.0"},"buffers":[{"byteLength":4}],"bufferViews":[{"buffer":0,"byteLength":4}],"accessors":[{"bufferView":0,"count":1,"componentType":4294972416,"type":"SCALAR"}]}"#,
+        1,
+        "accessors[0].componentType: Invalid value\n",
+    ),
+    (
+        r#"{"asset":{"version":"2.0"},"bufferViews":[{"buffer":0,"byteLength":4}]}"#,
+        1,
+        "bufferViews[0].buffer: Index out of bounds\n",
+    ),
+    (
+        r#"{"asset":{"version":"2.0"},"buffers":[{"byteLength":256}],"bufferViews":[{"buffer":0,"byteLength":256,"byteStride":0}]}"#,
+        1,
+        "bufferViews[0].byteStride: Invalid value\n",
+    ),
+    (
+        r#"{"asset":{"version":"2.0"},"buffers":[{"byteLength":256}],"bufferViews":[{"buffer":0,"byteLength":256,"byteStride":3}]}"#,
+        1,
+        "bufferViews[0].byteStride: Invalid value\n",
+    ),
+    (
+        r#"{"asset":{"version":"2.0"},"buffers":[{"byteLength":256}],"bufferViews":[{"buffer":0,"byteLength":256,"byteStride":4}]}"#,
+        0,
+        CLEAN,
+    ),
+    (
+        r#"{"asset":{"version":"2.0"},"buffers":[{"byteLength":256}],"bufferViews":[{"buffer":0,"byteLength":256,"byteStride":252}]}"#,
+        0,
+        CLEAN,
+    ),
+    (
+        r#"{"asset":{"version":"2.0"},"buffers":[{"byteLength":256}],"bufferViews":[{"buffer":0,"byteLength":256,"byteStride":253}]}"#,
+        1,
+        "bufferViews[0].byteStride: Invalid value\n",
+    ),
+];
+
+/// The status that a run answers for a reading, where it has no fault, else that of the fault.
+fn status_without_reports(reading: &Result<Root, Error>) -> u8 {
+    match reading {
+        Ok(_) => 0,
+        Err(Error::Json) => 2,
+        Err(Error::Schema) => 3,
+        Err(_) => 4,
+    }
+}
+
+#[test]
+fn written_lines(rt: HostRuntime) {
+    for (document, status, text) in CASES {
+        let (written, answered) = run_over(rt.alloc(), document);
+        assert_eq!(rt; answered, status, "{document}");
+        assert_eq!(rt; written.as_slice(), text.as_bytes(), "{document}");
+    }
+}
+
+#[test]
+fn answers(rt: HostRuntime) {
+    for (document, status, _) in CASES {
+        let expected = if status == 1 { 0 } else { status };
+        let sliced = Root::from_slice(rt.alloc(), document.as_bytes());
+        assert_eq!(rt; status_without_reports(&sliced), expected, "{document}");
+        let mut reader = Watched::new(document.as_bytes());
+        let read = Root::from_reader(rt.alloc(), &mut reader);
+        assert_eq!(rt; status_without_reports(&read), expected, "{document}");
+        assert!(rt; !reader.failed());
+    }
+}
+
+#[test]
+fn bytes_that_are_no_text(rt: HostRuntime) {
+    let answer = Root::from_slice(rt.alloc(), b"{\"asset\":{\"version\":\"\xff\"}}");
+    assert!(rt; matches!(answer, Err(Error::Json)));
+}
+
+#[test]
+fn values(rt: HostRuntime) -> Result<(), Fail> {
+    let asset = Value::from_str(rt.alloc(), r#"{"asset":{"version":"2.0"}}"#)?;
+    match Root::from_value(rt.alloc(), asset) {
+        Ok(root) => assert_eq!(rt; root.asset.version.as_str(), "2.0"),
+        Err(_) => assert!(rt; false),
+    }
+    assert!(rt;
+        matches!(
+            Root::from_value(rt.alloc(), Value::Null),
+            Err(Error::Schema)
+        )
+    );
+    Ok(())
+}

@@ -34,7 +34,12 @@ pub struct IndexTo<P>(u32, PhantomData<P>);
 
 unsafe impl<P> Send for IndexTo<P> {}
 
-unsafe impl<P> Sync for IndexTo<P> {
+unsafe impl<P> Sync for IndexTo<P> {}
+
+impl<T> Index<T> {
+    ghost use Rattle.gltf_base.specs.Indexes.{index_number};
+    ghost use Rattle.gltf_base.specs.Pushes.{IsHandedBack};
+
     /// The index that a number is.
     pub fn new(number: u32) -> Index<T>
         ensures { index_number result ≡ number }

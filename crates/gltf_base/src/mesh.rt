@@ -1,4 +1,4 @@
-//! What the attributes of a mesh mean.
+//! The choices of meshes, and what their attributes mean.
 
 ghost use Rattle.std.specs.Prelude.{◌≡◌, false, [], ◌∷◌, ◌++◌, map, codes, nat_eq, option_and_then, IsOk, IfOk, OnOk};
 ghost use Rattle.std.specs.List.{starts_with};
@@ -150,12 +150,19 @@ pub fn constants_are_listed()
 pub enum Semantic {
     /// An attribute of an application's own, without the underscore.
     Extras(String),
+    /// Where the vertices stand.
     Positions,
+    /// What is upright on the surface.
     Normals,
+    /// What runs along the surface.
     Tangents,
+    /// The colors of a set, by its number.
     Colors(u32),
+    /// The texture coordinates of a set, by its number.
     TexCoords(u32),
+    /// The joints of a set, by its number.
     Joints(u32),
+    /// The weights of a set's joints, by its number.
     Weights(u32),
 }
 

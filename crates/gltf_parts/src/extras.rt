@@ -31,6 +31,6 @@ impl Debug for Void {
     ghost debug_output = { λ _. Some (codes "{}") };
 
     fn fmt<W: Write>(&self, f: &mut Formatter<W>) -> fmt::Result {
-        f.write_str("{}")
+        Display::fmt(self, f)
     }
 }

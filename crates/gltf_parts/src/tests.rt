@@ -1,0 +1,22 @@
+//! What no clause says: that calls succeed, printed texts, and what objects given as JSON texts are
+//! read as.
+
+mod answers;
+mod kept;
+mod rows;
+
+use crate::{Error, Schema};
+use serde_json::Value;
+use std::alloc::Global;
+use std::test::Fail;
+
+/// What a JSON text is read as.
+fn read<T: Schema>(alloc: Global, text: &str) -> Result<Result<T, Error>, Fail> {
+    let value = Value::from_str(alloc, text)?;
+    Ok(T::decode(alloc, value))
+}
+
+/// Whether a text is refused as no glTF.
+fn is_refused<T: Schema>(alloc: Global, text: &str) -> Result<bool, Fail> {
+    Ok(matches!(read::<T>(alloc, text)?, Err(Error::Schema)))
+}

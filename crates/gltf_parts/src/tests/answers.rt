@@ -1,0 +1,79 @@
+//! What single texts are read as.
+
+use super::{is_refused, read};
+use crate::accessor::Accessor;
+use crate::extras::Void;
+use crate::image::Image;
+use crate::material::{Material, PbrMetallicRoughness};
+use crate::texture::{Info, MinFilter, Sampler, Texture, WrappingMode};
+use gltf_base::validation::Checked;
+use std::test::Fail;
+
+#[test]
+fn samplers(rt: HostRuntime) -> Result<(), Fail> {
+    let alloc = rt.alloc();
+    let plain: Sampler = read(alloc, "{}")??;
+    assert!(rt; matches!(plain.wrap_s, Checked::Valid(WrappingMode::Repeat)));
+    assert!(rt; matches!(plain.wrap_t, Checked::Valid(WrappingMode::Repeat)));
+    assert!(rt; plain.mag_filter.is_none() && plain.min_filter.is_none());
+    let filtered: Sampler = read(alloc, r#"{"magFilter":9984,"minFilter":9984}"#)??;
+    assert!(rt; matches!(filtered.mag_filter, Some(Checked::Invalid)));
+    assert!(rt;
+        matches!(
+            filtered.min_filter,
+            Some(Checked::Valid(MinFilter::NearestMipmapNearest))
+        )
+    );
+    Ok(())
+}
+
+#[test]
+fn textures(rt: HostRuntime) -> Result<(), Fail> {
+    let alloc = rt.alloc();
+    let texture: Texture = read(alloc, "{}")??;
+    assert_eq!(rt; texture.source.value(), 4294967295);
+    assert!(rt; is_refused::<Texture>(alloc, r#"{"source":null}"#)?);
+    assert!(rt; is_refused::<Texture>(alloc, r#"{"source":4294967296}"#)?);
+    let info: Info = read(
+        alloc,
+        r#"{"index":0,"extensions":{"EXT_y":null,"KHR_texture_transform":null}}"#,
+    )??;
+    let extensions = info.extensions.ok_or("no extensions")?;
+    assert!(rt; extensions.texture_transform.is_none());
+    assert_eq!(rt; extensions.others.len(), 1);
+    assert!(rt; extensions.others.contains_key("EXT_y"));
+    Ok(())
+}
+
+#[test]
+fn materials(rt: HostRuntime) -> Result<(), Fail> {
+    let alloc = rt.alloc();
+    assert!(rt; is_refused::<PbrMetallicRoughness>(alloc, r#"{"metallicFactor":null}"#)?);
+    let metallic: PbrMetallicRoughness = read(alloc, r#"{"metallicFactor":0.5}"#)??;
+    let factor = metallic.metallic_factor.0.ok_or("no factor")?;
+    assert_eq!(rt; factor.as_value().as_f64(), Some(0.5));
+    assert!(rt; is_refused::<Material>(alloc, r#"{"emissiveFactor":[0,0]}"#)?);
+    let dark: Material = read(alloc, r#"{"emissiveFactor":[0,0,0]}"#)??;
+    assert!(rt; dark.emissive_factor.0.is_some());
+    assert!(rt; is_refused::<Material>(alloc, r#"{"pbrMetallicRoughness":null}"#)?);
+    Ok(())
+}
+
+#[test]
+fn images_and_accessors(rt: HostRuntime) -> Result<(), Fail> {
+    let alloc = rt.alloc();
+    let image: Image = read(alloc, r#"{"mimeType":"image/gif"}"#)??;
+    assert!(rt; image.mime_type.is_some());
+    assert!(rt; is_refused::<Accessor>(alloc, "[]")?);
+    Ok(())
+}
+
+#[test]
+fn void_is_printed_as_no_members(rt: HostRuntime) -> Result<(), Fail> {
+    let void = Void::new();
+    assert_eq!(rt;
+        format!(in rt.alloc(); "{void} {void:?}")?.as_str(),
+        "{} {}"
+    );
+    Ok(())
+}

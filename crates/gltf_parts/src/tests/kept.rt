@@ -1,0 +1,43 @@
+//! Members that no row names: kept by some extension objects, and dropped elsewhere.
+
+use super::read;
+use crate::extensions::{accessor, buffer, image, material, texture};
+use serde_json::{Map, Value};
+use std::test::Fail;
+
+const UNKNOWN: &str = r#"{"zz":null}"#;
+
+/// Whether the unknown member is all that is kept.
+fn is_kept(others: &Map<String, Value>) -> bool {
+    others.len() == 1 && others.get("zz").is_some_and(Value::is_null)
+}
+
+#[test]
+fn by_extensions_of_storage(rt: HostRuntime) -> Result<(), Fail> {
+    let alloc = rt.alloc();
+    assert!(rt; is_kept(&read::<accessor::Accessor>(alloc, UNKNOWN)??.others));
+    assert!(rt; is_kept(&read::<buffer::Buffer>(alloc, UNKNOWN)??.others));
+    assert!(rt; is_kept(&read::<buffer::View>(alloc, UNKNOWN)??.others));
+    assert!(rt; is_kept(&read::<image::Image>(alloc, UNKNOWN)??.others));
+    Ok(())
+}
+
+#[test]
+fn by_extensions_of_textures(rt: HostRuntime) -> Result<(), Fail> {
+    let alloc = rt.alloc();
+    assert!(rt; is_kept(&read::<texture::Sampler>(alloc, UNKNOWN)??.others));
+    assert!(rt; is_kept(&read::<texture::Texture>(alloc, UNKNOWN)??.others));
+    assert!(rt; is_kept(&read::<texture::Info>(alloc, UNKNOWN)??.others));
+    Ok(())
+}
+
+#[test]
+fn by_extensions_of_materials(rt: HostRuntime) -> Result<(), Fail> {
+    let alloc = rt.alloc();
+    assert!(rt; is_kept(&read::<material::Material>(alloc, UNKNOWN)??.others));
+    assert!(rt; is_kept(&read::<material::PbrMetallicRoughness>(alloc, UNKNOWN)??.others));
+    assert!(rt; is_kept(&read::<material::NormalTexture>(alloc, UNKNOWN)??.others));
+    assert!(rt; is_kept(&read::<material::OcclusionTexture>(alloc, UNKNOWN)??.others));
+    assert!(rt; is_kept(&read::<material::PbrSpecularGlossiness>(alloc, UNKNOWN)??.others));
+    Ok(())
+}

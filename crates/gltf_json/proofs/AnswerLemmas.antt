@@ -8,10 +8,11 @@ use Rattle.serde_json.specs.Data.{Data}
 use Rattle.serde_json.specs.Read.{read as read_json}
 use Rattle.gltf_parts.specs.Outcome.{Reads}
 use Rattle.gltf_parts.specs.Read.{read}
+use Rattle.gltf_parts.specs.Tree.{Tree}
 use Rattle.gltf_parts.specs.declared.error.Error.{Error}
 use Rattle.gltf_parts.specs.declared.error.Error.TheVariants.{Json, Schema, InvalidItem, Read, Write, Memory, TooLong}
 use Rattle.gltf_json.specs.Answer.{Answer, no_json, tree_answer, answer, IsAnswer, IsReadAnswer, IsReading}
-use Rattle.gltf_json.specs.Device.{Seen, IsFresh, IsWithin, IsCause, IsReadError, IsReadToEnd, GaveUp}
+use Rattle.gltf_json.specs.Device.{Seen, IsWithin, IsCause, IsReadError, IsReadToEnd}
 use Rattle.gltf_json.specs.RootTable.{root_kind}
 use Rattle.gltf_json.specs.RootTrees.{root_tree}
 use Rattle.gltf_json.specs.declared.root.Root.{Root}
@@ -28,7 +29,7 @@ answer-no_json bytes none = ⊎_elim
     (cases_Bool (is_utf8 bytes))
 
 -- what the table reads is the answer
-IsAnswer-tree : (r : Result Root Error) (t : Option _) → Reads root_tree r t → IsAnswer (tree_answer t) r
+IsAnswer-tree : (r : Result Root Error) (t : Option Tree) → Reads root_tree r t → IsAnswer (tree_answer t) r
 IsAnswer-tree (Ok root) t h = rw h
 IsAnswer-tree (Err Json) t h = absurd h
 IsAnswer-tree (Err Schema) t h = rw h

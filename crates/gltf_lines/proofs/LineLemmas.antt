@@ -1,5 +1,5 @@
 -- The lines of reports, and walks with a sink of lines.
-use Rattle.std.proofs.Common.{◌≡◌, ◌<◌, ◌+◌, ℕ, List, [], ◌∷◌, ◌++◌, Result, Ok, Err, refl, sym, ◌∙◌, append_assoc, length, map, ap, subst, arith, length-append}
+use Rattle.std.proofs.Common.{◌≡◌, ◌<◌, ◌+◌, ℕ, List, [], ◌∷◌, ◌++◌, Ok, Err, sym, ◌∙◌, append_assoc, length, map, ap, subst, arith}
 use Rattle.std.proofs.lemmas.List.{append-nil}
 use Rattle.arrayvec.specs.ArrayVec.{ArrayVec}
 use Rattle.gltf_base.specs.Steps.{Step, steps_of, step_of}
@@ -8,7 +8,7 @@ use Rattle.gltf_base.specs.declared.validation.Error.{Error}
 use Rattle.gltf_json.specs.Faults.{Report, From}
 use Rattle.gltf_json.specs.Walk.{run, Walked}
 use Rattle.gltf_json.specs.declared.validation.sink.Stop.TheVariants.{StepsFull}
-use Rattle.gltf_lines.specs.Output.{line, report_line, report_lines, reports_output, with_report, Output}
+use Rattle.gltf_lines.specs.Output.{report_line, report_lines, with_report}
 
 -- a sink of lines appends the lines of all reports
 run-lines : (text : List ℕ) (rs : List Report) → run with_report text rs ≡ text ++ report_lines rs

@@ -24,9 +24,12 @@ pub fn reports_are_the_faults_of_places()
 {}
 
 /// A document without reports is closed: every index in it names an item, a channel's sampler one
-/// of its own animation, and every choice and every key is one that is known.
+/// of its own animation, and every choice and every key is one that is known. So is a document of
+/// which validation against itself left a new count at zero.
 pub fn clean_documents_are_closed()
-    ensures { (r : Document) → reports_of root_kind (root_tree r) (root_tree r) [] ≡ []
+    ensures clean { (r : Document) → reports_of root_kind (root_tree r) (root_tree r) [] ≡ []
+        → IsClosed root_kind (root_tree r) (root_tree r) absent }
+    ensures none_counted { (r : Document) → run one_more 0 (reports_of root_kind (root_tree r) (root_tree r) []) ≡ 0
         → IsClosed root_kind (root_tree r) (root_tree r) absent }
 {}
 

@@ -7,8 +7,9 @@ use Rattle.gltf_json.proofs.CleanIsClosed.{clean_is_closed}
 use Rattle.gltf_json.proofs.Counting.{none_counted}
 use Rattle.gltf_json.proofs.laws.clean_documents_are_closed.Goals as goal
 
-pub returns : goal.returns
-returns c = record {
-  clean = λ r clean. clean_is_closed root_kind (root_tree r) (root_tree r) absent [] clean;
-  none_counted = λ r none. clean_is_closed root_kind (root_tree r) (root_tree r) absent [] (none_counted (reports_of root_kind (root_tree r) (root_tree r) []) none);
-}
+pub returns-clause-clean : goal.returns-clause-clean
+returns-clause-clean c r clean = clean_is_closed root_kind (root_tree r) (root_tree r) absent [] clean
+
+pub returns-clause-none_counted : goal.returns-clause-none_counted
+returns-clause-none_counted c r none =
+    clean_is_closed root_kind (root_tree r) (root_tree r) absent [] (none_counted (reports_of root_kind (root_tree r) (root_tree r) []) none)

@@ -44,7 +44,7 @@ impl<T> Index<T> {
     pub fn new(number: u32) -> Index<T>
         ensures { index_number result ≡ number }
     {
-        IndexTo(number, PhantomData)
+        IndexTo::from_number(number)
     }
 
     /// The index as a place in a slice.

@@ -8,9 +8,9 @@ use Rattle.gltf_base.specs.Lists.{ListName}
 use Rattle.gltf_base.specs.Steps.{Step, field, item, key}
 use Rattle.gltf_parts.specs.Tree as tree
 use Rattle.gltf_parts.specs.Tree.{Tree, absent, Trees, end, with_tree, items_in, members_in, entries_in}
-use Rattle.gltf_parts.specs.Kind.{Mark, Kind, IndexInto, SourceImage, ChannelSampler, U32, U64, Stride, Number, Numbers, Text, Truth, Any, Choice, Attributes, ListOf, Object, ObjectName, Rows, no_rows, row}
+use Rattle.gltf_parts.specs.Kind.{Kind, IndexInto, SourceImage, ChannelSampler, U32, U64, Stride, Number, Numbers, Text, Truth, Any, Choice, Attributes, ListOf, Object, ObjectName, Rows, no_rows, row}
 use Rattle.gltf_json.specs.Lists.{count_in}
-use Rattle.gltf_json.specs.Faults.{Report, From, choice_faults, key_faults, number_faults, entries_faults}
+use Rattle.gltf_json.specs.Faults.{From, choice_faults, key_faults, entries_faults}
 use Rattle.gltf_json.specs.Rules.{object_faults}
 use Rattle.gltf_json.specs.Reports.{animation_below, items_reports, reports, member_reports}
 use Rattle.gltf_json.specs.Places.{Place, place_of, object_place, key_kind, key_tree, entry_places, item_places, places, member_places, kind_faults, faults, reports_by_places}

@@ -1,17 +1,16 @@
 -- What has no report is closed.
-use Rattle.std.proofs.Common.{◌≡◌, ℕ, suc, ◌<◌, List, [], ◌∷◌, ◌++◌, Bool, true, false, not, cond, nat_lt, nat_eq, refl, sym, ◌∙◌, ap}
+use Rattle.std.proofs.Common.{◌≡◌, ℕ, suc, ◌<◌, List, [], ◌∷◌, ◌++◌, Bool, true, false, not, cond, nat_lt, refl}
 use Rattle.std.proofs.lemmas.Bool.{ltb-true}
 use Rattle.gltf_base.specs.Keys.{Key, key_text}
 use Rattle.gltf_base.specs.Keys as keys
 use Rattle.gltf_base.specs.Lists.{ListName}
 use Rattle.gltf_base.specs.Steps.{Step, field, item, key}
-use Rattle.gltf_base.specs.declared.validation.Error.{Error}
 use Rattle.gltf_base.specs.declared.validation.Error.TheVariants.{IndexOutOfBounds, Missing}
 use Rattle.gltf_parts.specs.Tree as tree
 use Rattle.gltf_parts.specs.Tree.{Tree, absent, Trees, end, with_tree, items_in, members_in, entries_in}
-use Rattle.gltf_parts.specs.Kind.{Mark, Kind, IndexInto, SourceImage, ChannelSampler, U32, U64, Stride, Number, Numbers, Text, Truth, Any, Choice, Attributes, ListOf, Object, ObjectName, Rows, no_rows, row}
+use Rattle.gltf_parts.specs.Kind.{Kind, IndexInto, SourceImage, ChannelSampler, U32, U64, Stride, Number, Numbers, Text, Truth, Any, Choice, Attributes, ListOf, Object, Rows, no_rows, row}
 use Rattle.gltf_json.specs.Lists.{count_in, sampler_count}
-use Rattle.gltf_json.specs.Faults.{Report, From, report, report_if, number_faults, index_faults, source_faults, choice_faults, key_faults, entries_faults}
+use Rattle.gltf_json.specs.Faults.{From, report, number_faults, index_faults, source_faults, choice_faults, key_faults, entries_faults}
 use Rattle.gltf_json.specs.Rules.{object_faults}
 use Rattle.gltf_json.specs.Reports.{animation_below, items_reports, reports, member_reports}
 use Rattle.gltf_json.specs.Closed.{NamesItem, IsListed, IsKnown, EntriesClosed, EachTree, IsClosed, MembersClosed}

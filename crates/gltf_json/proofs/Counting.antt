@@ -1,5 +1,5 @@
 -- What a count that stays at zero was handed.
-use Rattle.std.proofs.Common.{◌≡◌, ℕ, ◌+◌, ◌-◌, ◌^◌, ◌<◌, ◌≤◌, List, [], ◌∷◌, min, refl, arith}
+use Rattle.std.proofs.Common.{◌≡◌, ℕ, ◌+◌, ◌-◌, ◌^◌, ◌≤◌, List, [], ◌∷◌, min, refl, arith}
 use Rattle.gltf_json.specs.Faults.{Report}
 use Rattle.gltf_json.specs.Walk.{run, one_more}
 

@@ -6,7 +6,7 @@ use Rattle.std.specs.Str.{bytes_eq}
 use Rattle.serde_json.specs.Data.{Data, array, number, no_items, item as data_item}
 use Rattle.gltf_base.specs.Keys.{Key, positions}
 use Rattle.gltf_base.specs.Spelling.{by_name}
-use Rattle.gltf_base.specs.Steps.{Step, field, item, key, value}
+use Rattle.gltf_base.specs.Steps.{field, item, key, value}
 use Rattle.gltf_base.specs.Lists.{ListName}
 use Rattle.gltf_base.specs.declared.validation.Error.TheVariants.{Invalid, Missing, Unsupported}
 use Rattle.gltf_parts.specs.Tree.{Tree, absent, any, text, chosen, object, Trees, end, with_tree, is_absent, tree_at, items_in, entries_in}

@@ -1,6 +1,6 @@
 -- Documents worked by hand, to test the definitions by.
 use Rattle.std.specs.Prelude.{ℕ, List, [], ◌∷◌, codes, Option, option_map}
-use Rattle.serde_json.specs.Data.{Data, number, unsigned, string, array, object, Items, no_items, item as data_item, Members, no_members, member}
+use Rattle.serde_json.specs.Data.{Data, number, unsigned, string, array, object, no_items, item as data_item, Members, no_members, member}
 use Rattle.gltf_base.specs.Steps.{Step, field, item}
 use Rattle.gltf_json.specs.Faults.{Report}
 use Rattle.gltf_json.specs.Reports.{reports_of}

@@ -1,13 +1,12 @@
 -- An item of a choice, and the tree of its spelling.
-use Rattle.std.proofs.Common.{◌≡◌, ℕ, Bool, true, false, ◌||◌, List, [], ◌∷◌, map, refl, sym, ap, ◌∙◌}
-use Rattle.std.proofs.lemmas.Bool.{ltb-true, eqb-true}
+use Rattle.std.proofs.Common.{◌≡◌, Bool, true, false, ◌||◌, List, [], ◌∷◌, map, refl, ap}
+use Rattle.std.proofs.lemmas.Bool.{eqb-true}
 use Rattle.std.proofs.lemmas.Slice.Eq.{bytes_eq-Decides}
 use Rattle.std.specs.List.{list_any}
-use Rattle.std.proofs.Common.{cond, nat_eq, bytes_eq}
+use Rattle.std.proofs.Common.{cond}
 use Rattle.gltf_base.specs.Spelling.{Spelling, by_number, by_name, is_spelled, item_spelled}
-use Rattle.gltf_base.specs.declared.validation.Checked.{Checked}
-use Rattle.gltf_base.specs.declared.validation.Checked.TheVariants.{Valid, Invalid}
-use Rattle.gltf_parts.specs.Tree.{Tree, chosen, invalid}
+use Rattle.gltf_base.specs.declared.validation.Checked.TheVariants.{Valid}
+use Rattle.gltf_parts.specs.Tree.{chosen, invalid}
 use Rattle.gltf_parts.specs.Read.{choice_among}
 use Rattle.gltf_parts.specs.Leaves.{checked_tree}
 

@@ -1,10 +1,9 @@
 -- Items read in turn.
-use Rattle.std.proofs.Common.{◌≡◌, ℕ, false, nat_eq, length, List, [], ◌∷◌, ◌++◌, Option, Some, None, option_map, map, refl, sym, ap, ◌∙◌, subst}
-use Rattle.serde_json.specs.Data.{Data, Items, item, no_items, Members}
+use Rattle.std.proofs.Common.{◌≡◌, List, [], ◌∷◌, ◌++◌, Option, Some, None, option_map, refl, ap, ◌∙◌}
+use Rattle.serde_json.specs.Data.{Data, Items, item}
 use Rattle.gltf_parts.specs.declared.error.Error.{Error}
 use Rattle.gltf_parts.specs.declared.error.Error.TheVariants as errors
-use Rattle.gltf_parts.specs.Tree.{Tree, list, Trees, end, with_tree, trees}
-use Rattle.gltf_parts.specs.Maybe.{◌>>=◌}
+use Rattle.gltf_parts.specs.Tree.{Tree, Trees, end, with_tree, trees}
 use Rattle.gltf_parts.specs.Read.{read_items}
 use Rattle.gltf_parts.specs.Outcome.{Refuses}
 

@@ -1,9 +1,9 @@
 -- What is read is plain.
-use Rattle.std.proofs.Common.{◌≡◌, ℕ, List, [], ◌∷◌, Bool, true, false, ◌&&◌, ◌||◌, not, cond, Option, Some, None, option_map, is_some, refl, sym, ap, ◌∙◌, length, nat_lt, nat_eq, Result, Ok, Err, IfOk}
+use Rattle.std.proofs.Common.{◌≡◌, ℕ, List, [], Bool, true, false, ◌&&◌, ◌||◌, not, cond, Option, Some, None, option_map, is_some, refl, length, nat_eq, Result, Ok, Err, IfOk}
 use Rattle.std.specs.List.{list_any}
 use Rattle.serde_json.specs.Data.{Num, Data, null, boolean, number, string, array, object as json_object, Items, no_items, item, Members, no_members, member}
 use Rattle.serde_json.specs.Find.{get_member, as_null, as_bool, as_number, as_str, as_array, as_object}
-use Rattle.gltf_base.specs.Spelling.{Spelling, by_number, by_name, is_spelled}
+use Rattle.gltf_base.specs.Spelling.{Spelling, is_spelled}
 use Rattle.gltf_base.specs.declared.choice.Form.{Form}
 use Rattle.gltf_parts.specs.declared.error.Error.{Error}
 use Rattle.gltf_parts.specs.Outcome.{Reads}
@@ -13,7 +13,7 @@ use Rattle.gltf_parts.specs.Tree.{Tree, Trees, end, with_tree}
 use Rattle.gltf_parts.specs.Kind.{Mark, required, optional, always, unless, sometimes, or_null, not_yet, Kind, IndexInto, SourceImage, ChannelSampler, U32, U64, Stride, Number, Numbers, Text, Truth, Any, Choice, Attributes, ListOf, Object, Rows, no_rows, row, has_row}
 use Rattle.gltf_parts.specs.Read.{read, read_rows, read_items, read_member, read_entries, choice_among, spelling_in, small_number, whole_number, all_numbers, others, kept}
 use Rattle.gltf_parts.specs.Plain.{is_plain, are_plain, none_named, are_none, all_trees, is_null_kept, is_sound, are_sound, has_plain_default}
-use Rattle.gltf_parts.proofs.TakingOut.{IsSoundRow, sound_row}
+use Rattle.gltf_parts.proofs.TakingOut.{sound_row}
 
 -- ---- what an optional step gave
 

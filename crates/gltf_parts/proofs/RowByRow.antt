@@ -1,5 +1,5 @@
 -- Rows read one after another, by a state that goes on or stays failed.
-use Rattle.std.proofs.Common.{◌≡◌, ℕ, List, Option, Some, None, Bool, option_map, Result, Ok, Err, refl, sym, ap, subst}
+use Rattle.std.proofs.Common.{◌≡◌, ℕ, List, Option, Some, Bool, Result, Ok, Err, refl, sym, ap, subst}
 use Rattle.std.specs.Result.{IsErrAnd}
 use Rattle.std.proofs.lemmas.Result.{err_from_is_err_and}
 use Rattle.serde_json.specs.Data.{Members}
@@ -11,7 +11,7 @@ use Rattle.gltf_parts.specs.Tree.{Tree, Trees, end, with_tree}
 use Rattle.gltf_base.specs.Lists.{images}
 use Rattle.gltf_parts.specs.Kind.{Mark, Kind, IndexInto, SourceImage, Rows, no_rows, row}
 use Rattle.gltf_parts.specs.Taken.{take_member, take_rows, take_all, left}
-use Rattle.gltf_parts.specs.Readings.{MemberFrom, RowsFrom, ReadsMember, ReadsRows, members_or_error}
+use Rattle.gltf_parts.specs.Readings.{MemberFrom, RowsFrom, ReadsMember, ReadsRows}
 use Rattle.gltf_parts.proofs.TakingOut.{refused}
 
 -- a step that is refused refuses what comes after it

@@ -10,13 +10,12 @@ use Rattle.std.proofs.lemmas.Slice.Eq.{bytes_eq-Decides}
 use Rattle.std.specs.BTreeMap.{is_at}
 use Rattle.std.specs.Cmp.Lexicographic.{slice_cmp}
 use Rattle.std.specs.Map.{lookup, remove_entry}
-use Rattle.std.specs.List.{AllZip}
 use Rattle.serde_json.specs.Data.{Data, Members, no_members, member}
 use Rattle.serde_json.specs.Find.{get_member}
 use Rattle.serde_json.specs.View.{members_view, view}
 use Rattle.serde_json.specs.declared.value.Value.{Value}
 use Rattle.serde_json.proofs.Views.{Entry, view-lookup}
-use Rattle.gltf_parts.specs.Tree.{Tree, object, Trees, end, with_tree}
+use Rattle.gltf_parts.specs.Tree.{Tree, object, Trees, with_tree}
 use Rattle.gltf_parts.specs.Kind.{Mark, Kind, Rows, no_rows, row, has_row}
 use Rattle.gltf_parts.specs.Maybe.{◌>>=◌}
 use Rattle.gltf_parts.specs.Read.{read, read_member, read_rows, others, kept}

@@ -1,5 +1,5 @@
 -- The rows that most objects end in, and extension objects that have no rows.
-use Rattle.std.specs.Prelude.{Bool, true, false, codes}
+use Rattle.std.specs.Prelude.{true, false, codes}
 use Rattle.gltf_parts.specs.Kind.{optional, Kind, Any, Object, ObjectName, extensions_of, Rows, no_rows, ◌◂◌}
 
 -- unknown extensions are kept

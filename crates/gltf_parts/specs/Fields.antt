@@ -1,15 +1,15 @@
 -- The trees of an object's fields.
-use Rattle.std.specs.Prelude.{List, [], ◌∷◌, map, String, string_bytes, Option}
+use Rattle.std.specs.Prelude.{List, map, String, string_bytes}
 use Rattle.std.specs.declared.alloc.Global.{Global}
-use Rattle.serde_json.specs.Data.{Members, no_members}
-use Rattle.serde_json.specs.View.{view, members_view}
+use Rattle.serde_json.specs.Data.{no_members}
+use Rattle.serde_json.specs.View.{view}
 use Rattle.serde_json.specs.declared.value.Value.{Value}
 use Rattle.gltf_base.specs.Indexes.{index_number}
 use Rattle.gltf_base.specs.Reals.{real_number}
 use Rattle.gltf_base.specs.declared.index.IndexTo.{IndexTo}
 use Rattle.gltf_base.specs.declared.real.Real.{Real}
 use Rattle.gltf_base.specs.declared.validation.USize64.{USize64}
-use Rattle.gltf_parts.specs.Tree.{Tree, Trees, trees, tree_or_absent, whole, number, numbers, text, any, index, list, object}
+use Rattle.gltf_parts.specs.Tree.{Tree, Trees, trees, whole, number, numbers, text, any, index, list, object}
 
 abbrev pub index_tree : {P : Type 0} → IndexTo P → Tree
 index_tree i = index (index_number i)

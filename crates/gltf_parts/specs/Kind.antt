@@ -1,5 +1,5 @@
 -- The legend of the table: what a member may be, and when it is written.
-use Rattle.std.specs.Prelude.{ℕ, List, Bool, true, false, ◌||◌}
+use Rattle.std.specs.Prelude.{ℕ, List, Bool, false, ◌||◌}
 use Rattle.std.specs.Str.{bytes_eq}
 use Rattle.gltf_base.specs.Lists.{ListName}
 use Rattle.gltf_base.specs.Spelling.{Spelling}

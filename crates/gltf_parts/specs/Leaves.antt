@@ -1,5 +1,5 @@
 -- The trees of values without rows.
-use Rattle.std.specs.Prelude.{◌≡◌, Bool, true, false, is_none, refl, List, map}
+use Rattle.std.specs.Prelude.{◌≡◌, Bool, false, is_none, refl, List, map}
 use Rattle.serde_json.specs.Data.{Data}
 use Rattle.serde_json.specs.Find.{as_object}
 use Rattle.gltf_base.specs.Spelling.{Spelling}

@@ -1,6 +1,6 @@
 -- Each document computes.
 use Rattle.std.proofs.Common.{refl}
-use Rattle.gltf_parts.specs.AccessorTable.{accessor_rows, sparse_rows, sparse_indices_rows, sparse_values_rows}
+use Rattle.gltf_parts.specs.AccessorTable.{accessor_rows}
 use Rattle.gltf_parts.specs.BufferTable.{buffer_rows, view_rows}
 use Rattle.gltf_json.specs.AssetTable.{asset_rows}
 use Rattle.gltf_json.specs.RootTable.{root_rows}

@@ -1,6 +1,5 @@
-use Rattle.std.proofs.Common.{sym, ap, ◌∙◌}
 use Rattle.std.proofs.lemmas.Result.{err_from_is_err_and}
-use Rattle.serde_json.specs.View.{view, items_view}
+use Rattle.serde_json.specs.View.{items_view}
 use Rattle.serde_json.proofs.Views.{view-Array}
 use Rattle.gltf_parts.proofs.ArrayOfNumbers.{array_filled, array_read, array_refused}
 use Rattle.gltf_parts.proofs.leaf.ArrayRealSchema.decode.Goals as goal

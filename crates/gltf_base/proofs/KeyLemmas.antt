@@ -1,7 +1,6 @@
 -- The text of a key, read again.
-use Rattle.std.proofs.Common.{◌≡◌, ℕ, ◌==◌, Bool, true, false, cond, codes, List, [], ◌∷◌, ap, refl}
+use Rattle.std.proofs.Common.{◌≡◌, ℕ, Bool, true, false, codes, List, refl}
 use Rattle.std.specs.Str.{bytes_eq}
-use Rattle.std.proofs.lemmas.Bool.Decides.{Decides-eqb}
 use Rattle.std.proofs.lemmas.Slice.Eq.{bytes_eq-Decides}
 use Rattle.gltf_base.specs.Keys.{Key, extras, positions, normals, tangents, colors, tex_coords, joints, weights, unknown, key_text}
 use Rattle.gltf_base.specs.Names.{set_key, plain_key, key_named, IsNamed}
@@ -32,14 +31,3 @@ plain_key-others text not_position not_normal not_tangent =
     let normal = bytes_eq-other text (codes "NORMAL") (bytes_eq text (codes "NORMAL")) refl not_normal in
     let tangent = bytes_eq-other text (codes "TANGENT") (bytes_eq text (codes "TANGENT")) refl not_tangent in
     rw (position, normal, tangent) refl
-
--- a text whose first byte is another is no application's own
-key_named-head : (c : ℕ) (cs : List ℕ) (b : Bool) → c == 95 ≡ b → (c ≡ 95 → ⊥) → cond b (extras cs) (plain_key (c ∷ cs)) ≡ plain_key (c ∷ cs)
-key_named-head c cs true h other = absurd (other ((Decides-eqb c 95).0 h))
-key_named-head c cs false h other = refl
-
--- a text that doesn't begin with '_' (95) has the key of a plain name
-pub key_named-plain : (text : List ℕ) → ((rest : List ℕ) → text ≡ 95 ∷ rest → ⊥) → key_named text ≡ plain_key text
-unfolding key_named
-key_named-plain [] other = refl
-key_named-plain (c ∷ cs) other = key_named-head c cs (c == 95) refl (λ e. other cs (ap (λ d. d ∷ cs) e))

@@ -29,10 +29,9 @@ set_key text = set_or (codes "COLOR_") colors text (set_or (codes "TEXCOORD_") t
 abbrev pub plain_key : List ℕ → Key
 plain_key text = if bytes_eq text (codes "POSITION") then positions else if bytes_eq text (codes "NORMAL") then normals else if bytes_eq text (codes "TANGENT") then tangents else set_key text
 
--- a name that begins with '_' (95) is the application's own
+-- a name that begins with '_' is an application's own
 unfoldable pub key_named : List ℕ → Key
-key_named [] = unknown
-key_named (c ∷ cs) = if c == 95 then extras cs else plain_key (c ∷ cs)
+key_named text = unwrap_or (option_map extras (behind (codes "_") text)) (plain_key text)
 
 -- the keys that have names of their own: those of semantics, with sets of 32 bits
 abbrev pub IsNamed : Key → Type 0

@@ -1,7 +1,6 @@
 //! The choices of meshes, and what their attributes mean.
 
-ghost use Rattle.std.specs.Prelude.{◌≡◌, false, [], ◌∷◌, ◌++◌, map, codes, nat_eq, option_and_then, IsOk, IfOk, OnOk};
-ghost use Rattle.std.specs.List.{starts_with};
+ghost use Rattle.std.specs.Prelude.{◌≡◌, [], ◌∷◌, ◌++◌, map, codes, option_and_then, IsOk, IfOk, OnOk};
 ghost use Rattle.std.specs.Option.{option_copied};
 ghost use Rattle.std.specs.String.{string_bytes};
 ghost use Rattle.gltf_base.specs.Spelling.{by_number, item_spelled};
@@ -172,9 +171,9 @@ impl Semantic {
     #[tactic(auto, unfolding(crate::specs::Names::key_named))]
     pub fn checked(alloc: Global, text: &str) -> Result<Checked<Semantic>, AllocError>
         ensures key { IfOk result (λ semantic. checked_key semantic ≡ key_named text.now) }
-        ensures no_memory { starts_with nat_eq text.now (codes "_") ≡ false → IsOk result }
+        ensures no_memory { behind (codes "_") text.now ≡ None → IsOk result }
     {
-        match text.strip_prefix('_') {
+        match strip("_", text) {
             Some(name) => {
                 let name = String::from_str(alloc, name)?;
                 Ok(Checked::Valid(Semantic::Extras(name)))

@@ -17,7 +17,7 @@ const NOT_GLTF: &str = "refused: not a glTF document\n";
 
 const NO_VIEW: &str = "accessors[0].bufferView: Missing data\n";
 
-const CASES: [Case; 20] = [
+const CASES: [Case; 21] = [
     ("{}", 3, NOT_GLTF),
     ("[]", 3, NOT_GLTF),
     ("", 2, NOT_JSON),
@@ -59,6 +59,11 @@ const CASES: [Case; 20] = [
         r#"{"asset":{"version":"2.0"},"buffers":[{"byteLength":4}],"bufferViews":[{"buffer":0,"byteLength":4}],"accessors":[{"bufferView":0,"count":1,"componentType":4294972416,"type":"SCALAR"}]}"#,
         1,
         "accessors[0].componentType: Invalid value\n",
+    ),
+    (
+        r#"{"asset":{"version":"2.0"},"accessors":[{"count":1,"componentType":5126,"type":"VEC3","sparse":{"count":1,"indices":{"bufferView":0,"componentType":5126},"values":{"bufferView":0}}}]}"#,
+        1,
+        "accessors[0].sparse.indices.bufferView: Index out of bounds\naccessors[0].sparse.indices.componentType: Invalid value\naccessors[0].sparse.values.bufferView: Index out of bounds\n",
     ),
     (
         r#"{"asset":{"version":"2.0"},"bufferViews":[{"buffer":0,"byteLength":4}]}"#,

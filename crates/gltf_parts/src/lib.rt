@@ -21,6 +21,3 @@ pub use blank::Blank;
 pub use error::Error;
 pub use reading::Reading;
 pub use schema::{Object, Schema};
-
-#[cfg(test)]
-mod tests;

@@ -5,7 +5,7 @@ mod answers;
 mod kept;
 mod rows;
 
-use crate::{Error, Schema};
+use gltf_parts::{Error, Schema};
 use serde_json::Value;
 use std::alloc::Global;
 use std::test::Fail;

@@ -1,12 +1,12 @@
 //! What single texts are read as.
 
 use super::{is_refused, read};
-use crate::accessor::Accessor;
-use crate::extras::Void;
-use crate::image::Image;
-use crate::material::{Material, PbrMetallicRoughness};
-use crate::texture::{Info, MinFilter, Sampler, Texture, WrappingMode};
 use gltf_base::validation::Checked;
+use gltf_parts::accessor::Accessor;
+use gltf_parts::extras::Void;
+use gltf_parts::image::Image;
+use gltf_parts::material::{Material, PbrMetallicRoughness};
+use gltf_parts::texture::{Info, MinFilter, Sampler, Texture, WrappingMode};
 use std::test::Fail;
 
 #[test]

@@ -1,7 +1,7 @@
 //! Members that no row names: kept by some extension objects, and dropped elsewhere.
 
 use super::read;
-use crate::extensions::{accessor, buffer, image, material, texture};
+use gltf_parts::extensions::{accessor, buffer, image, material, texture};
 use serde_json::{Map, Value};
 use std::test::Fail;
 

@@ -1,11 +1,11 @@
 //! Each row's member left out and null, in an object that is otherwise as small as it can be.
 
-use crate::accessor::{Accessor, sparse};
-use crate::buffer::{Buffer, View};
-use crate::image::Image;
-use crate::material::{Material, NormalTexture, OcclusionTexture, PbrMetallicRoughness};
-use crate::texture::{Info, Sampler, Texture};
-use crate::{Error, Schema, extensions};
+use gltf_parts::accessor::{Accessor, sparse};
+use gltf_parts::buffer::{Buffer, View};
+use gltf_parts::image::Image;
+use gltf_parts::material::{Material, NormalTexture, OcclusionTexture, PbrMetallicRoughness};
+use gltf_parts::texture::{Info, Sampler, Texture};
+use gltf_parts::{Error, Schema, extensions};
 use serde_json::{Map, Value};
 use std::alloc::Global;
 use std::test::Fail;

@@ -12,8 +12,8 @@ abbrev pub call_limit : ℕ
 call_limit = 2147483648
 
 -- a count that stops at the largest number of 64 bits
-abbrev pub counted : ℕ → ℕ
-counted n = min n (2 ^ 64 - 1)
+abbrev pub saturated : ℕ → ℕ
+saturated n = min n (2 ^ 64 - 1)
 
 -- what a reader's calls have shown: whether one failed, how many there were, how many bytes they gave, and whether the last one
 -- gave the end

@@ -66,8 +66,8 @@ run next s [] = s
 run next s (r ∷ rs) = run next (next s r.steps r.error) rs
 
 -- the reports that a count has counted
-abbrev pub counted : Count → ℕ
-counted c = c.count
+abbrev pub reports_counted : Count → ℕ
+reports_counted c = c.count
 
 -- one report more, as far as 64 bits hold it
 abbrev pub one_more : ℕ → List Step → Error → ℕ

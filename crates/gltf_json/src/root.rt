@@ -66,8 +66,7 @@ impl Object for Root {
         reading.not_yet("scenes");
         reading.not_yet("skins");
         reading.not_yet("textures");
-        reading.finish()?;
-        Ok(Root {
+        reading.finish(Root {
             accessors,
             asset,
             buffers,

@@ -1,8 +1,6 @@
 -- Rows read one after another, by a state that goes on or stays failed.
-use Rattle.std.proofs.Common.{◌≡◌, ℕ, List, Option, Some, Bool, Result, Ok, Err, refl, sym, ap, subst}
-use Rattle.std.specs.Result.{IsErrAnd}
-use Rattle.std.proofs.lemmas.Result.{err_from_is_err_and}
-use Rattle.serde_json.specs.Data.{Members}
+use Rattle.std.proofs.Common.{◌≡◌, ℕ, List, Option, Some, Bool, true, false, Result, Ok, Err, refl, sym, ap, subst}
+use Rattle.serde_json.specs.Data.{Members, no_members}
 use Rattle.gltf_parts.specs.declared.error.Error.{Error}
 use Rattle.gltf_parts.specs.declared.error.Error.TheVariants as errors
 use Rattle.gltf_parts.specs.Outcome.{Reads, Refuses}
@@ -11,7 +9,7 @@ use Rattle.gltf_parts.specs.Tree.{Tree, Trees, end, with_tree}
 use Rattle.gltf_base.specs.Lists.{images}
 use Rattle.gltf_parts.specs.Kind.{Mark, Kind, IndexInto, SourceImage, Rows, no_rows, row}
 use Rattle.gltf_parts.specs.Taken.{take_member, take_rows, take_all, left}
-use Rattle.gltf_parts.specs.Readings.{MemberFrom, RowsFrom, ReadsMember, ReadsRows}
+use Rattle.gltf_parts.specs.Readings.{MemberFrom, RowsFrom, OthersFrom, FinishFrom, ReadsMember, ReadsRows, TakesOthers, Finishes}
 use Rattle.gltf_parts.proofs.TakingOut.{refused}
 
 -- a step that is refused refuses what comes after it
@@ -77,21 +75,32 @@ all_refused : (e : Error) (rows : Rows) (keeps : Bool) (ms : Members) → Refuse
 unfolding take_all
 all_refused e rows keeps ms h = refused e _ (take_rows rows ms) h
 
-from_members : (s s' : Result Members Error) (rows : Rows) (ts : Trees) (ms : Members) → s ≡ Ok ms → RowsFrom s rows ts s' → Reads (λ left. (ts, left)) s' (take_rows rows ms)
-from_members s s' rows ts ms is h = subst (λ (r : Result Members Error). RowsFrom r rows ts s') is h
+rows_read : (s s' : Result Members Error) (rows : Rows) (ts : Trees) (ms : Members) → s ≡ Ok ms → RowsFrom s rows ts s' → Reads (λ left. (ts, left)) s' (take_rows rows ms)
+rows_read s s' rows ts ms is h = subst (λ (r : Result Members Error). RowsFrom r rows ts s') is h
 
--- each row was read: the object's members, and those that are left
-pub all_read : {s s' : Result Members Error} {rows : Rows} {ts : Trees} {ms rest : Members} (keeps : Bool)
-    → s ≡ Ok ms → ReadsRows s rows ts s' → Ok rest ≡ s' → take_all rows keeps ms ≡ Some (ts, left keeps rest)
-all_read {s} {s'} {rows} {ts} {ms} {rest} keeps begun h ended =
-    all_taken rows keeps ms rest ts (subst (λ r. Reads (λ left. (ts, left)) r (take_rows rows ms)) (sym ended) (from_members s s' rows ts ms begun h.is))
+closed : {X : Type 0} (members : X → Trees) (x : X) (r : Result X Error) (rows : Rows) (ms : Members) (s : Result Members Error)
+    → Reads (λ left. (members x, left)) s (take_rows rows ms) → FinishFrom s x r → Reads (λ y. (members y, no_members)) r (take_all rows false ms)
+closed {X} members x r rows ms (Ok rest) h is = rw is (all_taken rows false ms rest (members x) h)
+closed {X} members x r rows ms (Err e) h is = rw is (all_refused e rows false ms h)
 
--- a row was refused, and the function returns by `?`
-pub read_exit : {X : Type 0} {s s' : Result Members Error} {rows : Rows} {ts : Trees} {ms : Members} {e : Error} (view : X → Trees × Members) (r : Result X Error) (keeps : Bool)
-    → IsErrAnd r (λ x. x ≡ e) → s ≡ Ok ms → ReadsRows s rows ts s' → Err e ≡ s' → Reads view r (take_all rows keeps ms)
-read_exit {X} {s} {s'} {rows} {ts} {ms} {e} view r keeps is begun h ended =
-    let exit = err_from_is_err_and r is in
-    rw (exit.1, exit.2) (all_refused e rows keeps ms (subst (λ r. Reads (λ left. (ts, left)) r (take_rows rows ms)) (sym ended) (from_members s s' rows ts ms begun h.is)))
+kept : {X : Type 0} (members : X → Trees) (unknown : X → Members) (x : X) (r : Result X Error) (rows : Rows) (ms : Members) (s s' : Result Members Error)
+    → Reads (λ left. (members x, left)) s (take_rows rows ms) → OthersFrom s (unknown x) s' → FinishFrom s' x r → Reads (λ y. (members y, unknown y)) r (take_all rows true ms)
+kept {X} members unknown x r rows ms (Ok rest) s' h taken is =
+    rw (subst (λ (o : Result Members Error). FinishFrom o x r) taken.1 is, taken.0) (all_taken rows true ms rest (members x) h)
+kept {X} members unknown x r rows ms (Err e) s' h taken is =
+    rw (subst (λ (o : Result Members Error). FinishFrom o x r) taken is) (all_refused e rows true ms h)
+
+-- each row was read, and what else there was is dropped
+pub all_read : {X : Type 0} {s s' : Result Members Error} {rows : Rows} {ms : Members} {x : X} {r : Result X Error} (members : X → Trees)
+    → s ≡ Ok ms → ReadsRows s rows (members x) s' → Finishes s' x r → Reads (λ y. (members y, no_members)) r (take_all rows false ms)
+all_read {X} {s} {s'} {rows} {ms} {x} {r} members begun h ended =
+    closed members x r rows ms s' (rows_read s s' rows (members x) ms begun h.is) ended.is
+
+-- each row was read, and what else there was is kept
+pub all_kept : {X : Type 0} {s s' s'' : Result Members Error} {rows : Rows} {ms : Members} {x : X} {r : Result X Error} (members : X → Trees) (unknown : X → Members)
+    → s ≡ Ok ms → ReadsRows s rows (members x) s' → TakesOthers s' (unknown x) s'' → Finishes s'' x r → Reads (λ y. (members y, unknown y)) r (take_all rows true ms)
+all_kept {X} {s} {s'} {s''} {rows} {ms} {x} {r} members unknown begun h taken ended =
+    kept members unknown x r rows ms s' s'' (rows_read s s' rows (members x) ms begun h.is) taken.is ended.is
 
 -- a row's mark said in another way
 pub marked : {before after : Result Members Error} {n : List ℕ} {mark mark' : Mark} {kind : Kind} {t : Tree}

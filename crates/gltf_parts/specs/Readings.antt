@@ -1,6 +1,6 @@
 -- Rows read from members that are under way, or that failed.
 use Rattle.std.specs.Prelude.{◌≡◌, ℕ, List, Result, Ok, Err}
-use Rattle.serde_json.specs.Data.{Members}
+use Rattle.serde_json.specs.Data.{Members, no_members}
 use Rattle.serde_json.specs.View.{members_view}
 use Rattle.std.specs.Prelude.{String}
 use Rattle.std.specs.declared.alloc.Global.{Global}
@@ -37,3 +37,19 @@ pub record ReadsMember (before : Result Members Error) (n : List ℕ) (mark : Ma
 -- each row was
 pub record ReadsRows (before : Result Members Error) (rows : Rows) (ts : Trees) (after : Result Members Error) : Type 0 where
   pub is : RowsFrom before rows ts after
+
+abbrev pub OthersFrom : Result Members Error → Members → Result Members Error → Type 0
+OthersFrom (Ok ms) others after = (others ≡ ms) × (after ≡ Ok no_members)
+OthersFrom (Err e) others after = after ≡ Err e
+
+-- the members that are left were taken out
+pub record TakesOthers (before : Result Members Error) (others : Members) (after : Result Members Error) : Type 0 where
+  pub is : OthersFrom before others after
+
+abbrev pub FinishFrom : {X : Type 0} → Result Members Error → X → Result X Error → Type 0
+FinishFrom (Ok ms) x result = result ≡ Ok x
+FinishFrom (Err e) x result = result ≡ Err e
+
+-- an object made of what was read, or the error that reading met
+pub record Finishes {X : Type 0} (before : Result Members Error) (x : X) (result : Result X Error) : Type 0 where
+  pub is : FinishFrom before x result

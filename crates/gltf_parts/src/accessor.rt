@@ -83,8 +83,7 @@ impl Object for Accessor {
         let sparse = reading.optional("sparse");
         let extensions = reading.optional("extensions");
         let extras = reading.optional("extras");
-        reading.finish()?;
-        Ok(Accessor {
+        reading.finish(Accessor {
             buffer_view,
             byte_offset,
             count,

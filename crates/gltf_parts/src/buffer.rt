@@ -75,8 +75,7 @@ impl Object for Buffer {
         let uri = reading.optional("uri");
         let extensions = reading.optional("extensions");
         let extras = reading.optional("extras");
-        reading.finish()?;
-        Ok(Buffer {
+        reading.finish(Buffer {
             byte_length,
             name,
             uri,
@@ -131,8 +130,7 @@ impl Object for View {
         let target = reading.optional("target");
         let extensions = reading.optional("extensions");
         let extras = reading.optional("extras");
-        reading.finish()?;
-        Ok(View {
+        reading.finish(View {
             buffer,
             byte_length,
             byte_offset,

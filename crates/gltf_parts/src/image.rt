@@ -73,8 +73,7 @@ impl Object for Image {
         let uri = reading.optional("uri");
         let extensions = reading.optional("extensions");
         let extras = reading.optional("extras");
-        reading.finish()?;
-        Ok(Image {
+        reading.finish(Image {
             buffer_view,
             mime_type,
             name,

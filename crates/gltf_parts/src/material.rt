@@ -100,8 +100,7 @@ impl Object for Material {
         let emissive_factor = reading.sometimes("emissiveFactor");
         let extensions = reading.optional("extensions");
         let extras = reading.optional("extras");
-        reading.finish()?;
-        Ok(Material {
+        reading.finish(Material {
             alpha_cutoff,
             alpha_mode,
             double_sided,
@@ -177,8 +176,7 @@ impl Object for PbrMetallicRoughness {
         let metallic_roughness_texture = reading.optional("metallicRoughnessTexture");
         let extensions = reading.optional("extensions");
         let extras = reading.optional("extras");
-        reading.finish()?;
-        Ok(PbrMetallicRoughness {
+        reading.finish(PbrMetallicRoughness {
             base_color_factor: PbrBaseColorFactor(base_color_factor),
             base_color_texture,
             metallic_factor: StrengthFactor(metallic_factor),
@@ -229,8 +227,7 @@ impl Object for NormalTexture {
         let tex_coord = reading.or_default("texCoord", 0);
         let extensions = reading.optional("extensions");
         let extras = reading.optional("extras");
-        reading.finish()?;
-        Ok(NormalTexture {
+        reading.finish(NormalTexture {
             index,
             scale,
             tex_coord,
@@ -273,8 +270,7 @@ impl Object for OcclusionTexture {
         let tex_coord = reading.or_default("texCoord", 0);
         let extensions = reading.optional("extensions");
         let extras = reading.optional("extras");
-        reading.finish()?;
-        Ok(OcclusionTexture {
+        reading.finish(OcclusionTexture {
             index,
             strength: StrengthFactor(strength),
             tex_coord,

@@ -1,10 +1,10 @@
 //! An object's members as they are read, row by row.
 
-ghost use Rattle.std.specs.Prelude.{◌≡◌, Ok, Err, map};
+ghost use Rattle.std.specs.Prelude.{◌≡◌, Ok, map};
 ghost use Rattle.serde_json.specs.View.{members_view};
 ghost use Rattle.gltf_parts.specs.Tree.{Tree, tree_or_absent, trees, list as list_tree, end, absent};
 ghost use Rattle.gltf_parts.specs.Kind.{required as is_required, optional as is_optional, always, unless, sometimes as is_sometimes, or_null, not_yet as is_not_yet, Any, ListOf};
-ghost use Rattle.gltf_parts.specs.Readings.{reading_state, members_or_error, ReadsMember};
+ghost use Rattle.gltf_parts.specs.Readings.{reading_state, ReadsMember, TakesOthers, Finishes};
 
 use crate::blank::Blank;
 use crate::error::Error;
@@ -12,11 +12,12 @@ use crate::members::{list, not_yet, optional, or_default, required, sometimes};
 use crate::schema::Schema;
 use serde_json::{Map, Value};
 use std::alloc::Global;
+use std::mem;
 
 /// The members of an object that are not read yet, or why they are not read.
 ///
 /// Each method reads one row of the table. Once a row was refused, the further ones answer blank
-/// values, and [`Reading::finish`] answers the error.
+/// values, and [`Reading::finish`] drops them and answers the error.
 #[derive(Drop)]
 pub struct Reading {
     alloc: Global,
@@ -50,11 +51,25 @@ impl Reading {
         }
     }
 
-    /// The members that no row took, or why the object is not read.
-    pub fn finish(self) -> Result<Map<String, Value>, Error>
-        ensures { members_or_error result ≡ reading_state self }
+    /// The members that no row took.
+    pub fn others(&mut self) -> Map<String, Value>
+        ensures { TakesOthers (reading_state self.old) (members_view result.entries)
+            (reading_state self.new) }
     {
-        self.state
+        match &mut self.state {
+            Ok(members) => mem::replace(members, Map::new(self.alloc)),
+            Err(_) => Map::new(self.alloc),
+        }
+    }
+
+    /// The object that was made of what was read, or why it could not be read.
+    pub fn finish<T: Drop>(self, object: T) -> Result<T, Error>
+        ensures { Finishes (reading_state self) object result }
+    {
+        match self.state {
+            Ok(_) => Ok(object),
+            Err(e) => Err(e),
+        }
     }
 
     /// A member that has to be there.

@@ -85,8 +85,7 @@ impl Object for Sampler {
         let wrap_t = reading.or_default("wrapT", Checked::Valid(WrappingMode::Repeat));
         let extensions = reading.optional("extensions");
         let extras = reading.optional("extras");
-        reading.finish()?;
-        Ok(Sampler {
+        reading.finish(Sampler {
             mag_filter,
             min_filter,
             name,
@@ -134,8 +133,7 @@ impl Object for Texture {
         let extensions = reading.optional("extensions");
         let source = reading.or_default("source", Index::new(u32::MAX));
         let extras = reading.optional("extras");
-        reading.finish()?;
-        Ok(Texture {
+        reading.finish(Texture {
             name,
             sampler,
             extensions,
@@ -175,8 +173,7 @@ impl Object for Info {
         let tex_coord = reading.or_default("texCoord", 0);
         let extensions = reading.optional("extensions");
         let extras = reading.optional("extras");
-        reading.finish()?;
-        Ok(Info {
+        reading.finish(Info {
             index,
             tex_coord,
             extensions,

@@ -2,7 +2,7 @@
 
 ghost use Rattle.std.specs.Prelude.{◌≡◌, ◌+◌, ◌<◌, ◌≤◌, ◌&&◌, ℕ, List, [], Bool, Option, None, true, false, nat_eq, nat_lt, length, IfOk, IfErr, OnOk, OnErr, MatchResult};
 ghost use Rattle.std.specs.Io.KnownBytes.{ReadConsumes, WriteAppends};
-ghost use Rattle.gltf_json.specs.Device.{Seen, counted, IsFresh, IsWithin, IsReadToEnd, GaveUp};
+ghost use Rattle.gltf_json.specs.Device.{Seen, saturated, IsFresh, IsWithin, IsReadToEnd, GaveUp};
 
 use gltf_parts::Error as DocumentError;
 use std::alloc::Global;
@@ -31,9 +31,9 @@ pub trait ByteIn {
         ensures bytes { ReadConsumes (left self.old) (left self.new) result buf.new }
         ensures breaks { OnErr result ((seen self.new).has_failed ≡ true) }
         ensures works { OnOk result ((seen self.new).has_failed ≡ (seen self.old).has_failed) }
-        ensures calls { (seen self.new).calls ≡ counted ((seen self.old).calls + 1) }
+        ensures calls { (seen self.new).calls ≡ saturated ((seen self.old).calls + 1) }
         ensures given { MatchResult result
-            (λ n. (seen self.new).given ≡ counted ((seen self.old).given + n))
+            (λ n. (seen self.new).given ≡ saturated ((seen self.old).given + n))
             (λ _. (seen self.new).given ≡ (seen self.old).given) }
         ensures end { MatchResult result
             (λ n. (seen self.new).has_ended ≡ (nat_eq n 0 && nat_lt 0 (length buf.new)))

@@ -44,8 +44,7 @@ impl Object for Asset {
         let version = reading.required("version");
         reading.not_yet("extensions");
         reading.not_yet("extras");
-        reading.finish()?;
-        Ok(Asset {
+        reading.finish(Asset {
             copyright,
             generator,
             min_version,

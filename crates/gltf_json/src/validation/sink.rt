@@ -4,7 +4,7 @@ ghost use Rattle.std.specs.Prelude.{◌≡◌, ℕ, List, Some, OnOk, IfErr};
 ghost use Rattle.gltf_base.specs.Steps.{Step, steps_of};
 ghost use Rattle.gltf_base.specs.declared.validation.Error.{Error};
 ghost use Rattle.gltf_json.specs.Faults.{found_at};
-ghost use Rattle.gltf_json.specs.Walk.{Walked, counted, one_more};
+ghost use Rattle.gltf_json.specs.Walk.{Walked, reports_counted, one_more};
 
 use gltf_base::Steps;
 use gltf_base::validation::Error;
@@ -49,14 +49,14 @@ pub struct Count {
 impl Count {
     /// A count of none.
     pub fn new() -> Count
-        ensures { counted result ≡ 0 }
+        ensures { reports_counted result ≡ 0 }
     {
         Count { count: 0 }
     }
 
     /// How many reports were counted.
     pub fn count(&self) -> u64
-        ensures { result ≡ counted self.now }
+        ensures { result ≡ reports_counted self.now }
     {
         self.count
     }
@@ -67,7 +67,7 @@ impl Sink for Count {
 
     ghost State = { ℕ };
 
-    ghost state = { counted };
+    ghost state = { reports_counted };
 
     ghost next = { one_more };
 

@@ -53,8 +53,7 @@ impl Object for Sparse {
         let values = reading.required("values");
         let extensions = reading.optional("extensions");
         let extras = reading.optional("extras");
-        reading.finish()?;
-        Ok(Sparse {
+        reading.finish(Sparse {
             count,
             indices,
             values,
@@ -97,8 +96,7 @@ impl Object for Indices {
         let component_type = reading.required("componentType");
         let extensions = reading.optional("extensions");
         let extras = reading.optional("extras");
-        reading.finish()?;
-        Ok(Indices {
+        reading.finish(Indices {
             buffer_view,
             byte_offset,
             component_type,
@@ -150,8 +148,7 @@ impl Object for Values {
         let byte_offset = reading.or_default("byteOffset", USize64(0));
         let extensions = reading.optional("extensions");
         let extras = reading.optional("extras");
-        reading.finish()?;
-        Ok(Values {
+        reading.finish(Values {
             buffer_view,
             byte_offset,
             extensions,

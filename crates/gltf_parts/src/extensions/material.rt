@@ -63,8 +63,8 @@ impl Object for Material {
         let specular = reading.optional("KHR_materials_specular");
         let ior = reading.optional("KHR_materials_ior");
         let emissive_strength = reading.optional("KHR_materials_emissive_strength");
-        let others = reading.finish()?;
-        Ok(Material {
+        let others = reading.others();
+        reading.finish(Material {
             pbr_specular_glossiness,
             unlit,
             transmission,
@@ -229,8 +229,8 @@ impl Object for PbrSpecularGlossiness {
         let glossiness_factor = reading.sometimes("glossinessFactor");
         let specular_glossiness_texture = reading.optional("specularGlossinessTexture");
         let extras = reading.optional("extras");
-        let others = reading.finish()?;
-        Ok(PbrSpecularGlossiness {
+        let others = reading.others();
+        reading.finish(PbrSpecularGlossiness {
             diffuse_factor: PbrDiffuseFactor(diffuse_factor),
             diffuse_texture,
             specular_factor: PbrSpecularFactor(specular_factor),
@@ -327,8 +327,7 @@ impl Object for Transmission {
         let transmission_factor = reading.sometimes("transmissionFactor");
         let transmission_texture = reading.optional("transmissionTexture");
         let extras = reading.optional("extras");
-        reading.finish()?;
-        Ok(Transmission {
+        reading.finish(Transmission {
             transmission_factor: TransmissionFactor(transmission_factor),
             transmission_texture,
             extras,
@@ -388,8 +387,7 @@ impl Object for Volume {
         let attenuation_distance = reading.sometimes("attenuationDistance");
         let attenuation_color = reading.sometimes("attenuationColor");
         let extras = reading.optional("extras");
-        reading.finish()?;
-        Ok(Volume {
+        reading.finish(Volume {
             thickness_factor: ThicknessFactor(thickness_factor),
             thickness_texture,
             attenuation_distance: AttenuationDistance(attenuation_distance),
@@ -461,8 +459,7 @@ impl Object for Specular {
         let specular_color_factor = reading.sometimes("specularColorFactor");
         let specular_color_texture = reading.optional("specularColorTexture");
         let extras = reading.optional("extras");
-        reading.finish()?;
-        Ok(Specular {
+        reading.finish(Specular {
             specular_factor: SpecularFactor(specular_factor),
             specular_texture,
             specular_color_factor: SpecularColorFactor(specular_color_factor),
@@ -521,8 +518,7 @@ impl Object for Ior {
         let mut reading = Reading::from_members(alloc, found);
         let ior = reading.sometimes("ior");
         let extras = reading.optional("extras");
-        reading.finish()?;
-        Ok(Ior {
+        reading.finish(Ior {
             ior: IndexOfRefraction(ior),
             extras,
         })
@@ -569,8 +565,7 @@ impl Object for EmissiveStrength {
     fn decode_members(alloc: Global, found: Map<String, Value>) -> Result<EmissiveStrength, Error> {
         let mut reading = Reading::from_members(alloc, found);
         let emissive_strength = reading.sometimes("emissiveStrength");
-        reading.finish()?;
-        Ok(EmissiveStrength {
+        reading.finish(EmissiveStrength {
             emissive_strength: EmissiveStrengthFactor(emissive_strength),
         })
     }

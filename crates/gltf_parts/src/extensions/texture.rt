@@ -102,8 +102,8 @@ impl Object for Info {
     fn decode_members(alloc: Global, found: Map<String, Value>) -> Result<Info, Error> {
         let mut reading = Reading::from_members(alloc, found);
         let texture_transform = reading.optional("KHR_texture_transform");
-        let others = reading.finish()?;
-        Ok(Info {
+        let others = reading.others();
+        reading.finish(Info {
             texture_transform,
             others,
         })
@@ -155,8 +155,7 @@ impl Object for TextureTransform {
         let scale = reading.sometimes("scale");
         let tex_coord = reading.optional("texCoord");
         let extras = reading.optional("extras");
-        reading.finish()?;
-        Ok(TextureTransform {
+        reading.finish(TextureTransform {
             offset: TextureTransformOffset(offset),
             rotation: TextureTransformRotation(rotation),
             scale: TextureTransformScale(scale),

@@ -1,37 +1,13 @@
 -- Each row is read in the table's order.
-use Rattle.gltf_parts.proofs.RowByRow.{all_read, read_exit, read_none, read_row}
+use Rattle.gltf_parts.proofs.RowByRow.{all_read, read_none, read_row}
 use Rattle.gltf_json.specs.RootTable.{root_rows}
 use Rattle.gltf_json.specs.RootTrees.{root_members}
 use Rattle.gltf_json.proofs.root.RootObject.decode_members.Goals as goal
 
-pub returns-in_err-finish : goal.returns-in_err-finish
-unfolding root_rows
-returns-in_err-finish c =
-    read_exit _ _ _ c.from_residual.ensures.1 c.from_members-reading.ensures
-    (read_row c.list-accessors.ensures
-    (read_row c.not_yet.ensures
-    (read_row c.required-asset.ensures
-    (read_row c.list-buffers.ensures
-    (read_row c.list-buffer_views.ensures
-    (read_row c.not_yet-2.ensures
-    (read_row c.not_yet-3.ensures
-    (read_row c.not_yet-4.ensures
-    (read_row c.not_yet-5.ensures
-    (read_row c.not_yet-6.ensures
-    (read_row c.not_yet-7.ensures
-    (read_row c.not_yet-8.ensures
-    (read_row c.not_yet-9.ensures
-    (read_row c.not_yet-10.ensures
-    (read_row c.not_yet-11.ensures
-    (read_row c.not_yet-12.ensures
-    (read_row c.not_yet-13.ensures
-    (read_row c.not_yet-14.ensures
-    (read_row c.not_yet-15.ensures read_none))))))))))))))))))) c.in_err-finish.ensures
-
 pub returns : goal.returns
 unfolding root_rows root_members
 returns c =
-    all_read _ c.from_members-reading.ensures
+    all_read root_members c.from_members-reading.ensures
     (read_row c.list-accessors.ensures
     (read_row c.not_yet.ensures
     (read_row c.required-asset.ensures
@@ -50,4 +26,4 @@ returns c =
     (read_row c.not_yet-12.ensures
     (read_row c.not_yet-13.ensures
     (read_row c.not_yet-14.ensures
-    (read_row c.not_yet-15.ensures read_none))))))))))))))))))) c.in_ok-finish.ensures
+    (read_row c.not_yet-15.ensures read_none))))))))))))))))))) c.finish.ensures

@@ -1,26 +1,13 @@
 -- Each row is read in the table's order.
-use Rattle.gltf_parts.proofs.RowByRow.{all_read, read_exit, read_none, read_row}
+use Rattle.gltf_parts.proofs.RowByRow.{all_read, read_none, read_row}
 use Rattle.gltf_parts.specs.BufferTable.{view_rows}
 use Rattle.gltf_parts.specs.BufferTrees.{view_members}
 use Rattle.gltf_parts.proofs.buffer.ViewObject.decode_members.Goals as goal
 
-pub returns-in_err-finish : goal.returns-in_err-finish
-unfolding view_rows
-returns-in_err-finish c =
-    read_exit _ _ _ c.from_residual.ensures.1 c.from_members-reading.ensures
-    (read_row c.required-buffer.ensures
-    (read_row c.required-byte_length.ensures
-    (read_row c.optional-byte_offset.ensures.left_out
-    (read_row c.optional-byte_stride.ensures.left_out
-    (read_row c.optional-name.ensures.left_out
-    (read_row c.optional-target.ensures.left_out
-    (read_row c.optional-extensions.ensures.left_out
-    (read_row c.optional-extras.ensures.left_out read_none)))))))) c.in_err-finish.ensures
-
 pub returns : goal.returns
 unfolding view_rows view_members
 returns c =
-    all_read _ c.from_members-reading.ensures
+    all_read view_members c.from_members-reading.ensures
     (read_row c.required-buffer.ensures
     (read_row c.required-byte_length.ensures
     (read_row c.optional-byte_offset.ensures.left_out
@@ -28,4 +15,4 @@ returns c =
     (read_row c.optional-name.ensures.left_out
     (read_row c.optional-target.ensures.left_out
     (read_row c.optional-extensions.ensures.left_out
-    (read_row c.optional-extras.ensures.left_out read_none)))))))) c.in_ok-finish.ensures
+    (read_row c.optional-extras.ensures.left_out read_none)))))))) c.finish.ensures

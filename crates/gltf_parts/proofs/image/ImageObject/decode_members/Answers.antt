@@ -1,27 +1,16 @@
 -- Each row is read in the table's order.
-use Rattle.gltf_parts.proofs.RowByRow.{all_read, read_exit, read_none, read_row}
+use Rattle.gltf_parts.proofs.RowByRow.{all_read, read_none, read_row}
 use Rattle.gltf_parts.specs.ImageTable.{image_rows}
 use Rattle.gltf_parts.specs.ImageTrees.{image_members}
 use Rattle.gltf_parts.proofs.image.ImageObject.decode_members.Goals as goal
 
-pub returns-in_err-finish : goal.returns-in_err-finish
-unfolding image_rows
-returns-in_err-finish c =
-    read_exit _ _ _ c.from_residual.ensures.1 c.from_members-reading.ensures
-    (read_row c.optional-buffer_view.ensures.left_out
-    (read_row c.optional-mime_type.ensures.left_out
-    (read_row c.optional-name.ensures.left_out
-    (read_row c.optional-uri.ensures.left_out
-    (read_row c.optional-extensions.ensures.left_out
-    (read_row c.optional-extras.ensures.left_out read_none)))))) c.in_err-finish.ensures
-
 pub returns : goal.returns
 unfolding image_rows image_members
 returns c =
-    all_read _ c.from_members-reading.ensures
+    all_read image_members c.from_members-reading.ensures
     (read_row c.optional-buffer_view.ensures.left_out
     (read_row c.optional-mime_type.ensures.left_out
     (read_row c.optional-name.ensures.left_out
     (read_row c.optional-uri.ensures.left_out
     (read_row c.optional-extensions.ensures.left_out
-    (read_row c.optional-extras.ensures.left_out read_none)))))) c.in_ok-finish.ensures
+    (read_row c.optional-extras.ensures.left_out read_none)))))) c.finish.ensures

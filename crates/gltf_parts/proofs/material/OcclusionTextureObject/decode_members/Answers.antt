@@ -1,25 +1,15 @@
 -- Each row is read in the table's order.
-use Rattle.gltf_parts.proofs.RowByRow.{all_read, read_exit, read_none, read_row}
+use Rattle.gltf_parts.proofs.RowByRow.{all_read, read_none, read_row}
 use Rattle.gltf_parts.specs.MaterialTable.{occlusion_texture_rows}
 use Rattle.gltf_parts.specs.MaterialTrees.{occlusion_texture_members}
 use Rattle.gltf_parts.proofs.material.OcclusionTextureObject.decode_members.Goals as goal
 
-pub returns-in_err-finish : goal.returns-in_err-finish
-unfolding occlusion_texture_rows
-returns-in_err-finish c =
-    read_exit _ _ _ c.from_residual.ensures.1 c.from_members-reading.ensures
-    (read_row c.required-index.ensures
-    (read_row c.sometimes-strength.ensures
-    (read_row c.or_default-tex_coord.ensures.always
-    (read_row c.optional-extensions.ensures.left_out
-    (read_row c.optional-extras.ensures.left_out read_none))))) c.in_err-finish.ensures
-
 pub returns : goal.returns
 unfolding occlusion_texture_rows occlusion_texture_members
 returns c =
-    all_read _ c.from_members-reading.ensures
+    all_read occlusion_texture_members c.from_members-reading.ensures
     (read_row c.required-index.ensures
     (read_row c.sometimes-strength.ensures
     (read_row c.or_default-tex_coord.ensures.always
     (read_row c.optional-extensions.ensures.left_out
-    (read_row c.optional-extras.ensures.left_out read_none))))) c.in_ok-finish.ensures
+    (read_row c.optional-extras.ensures.left_out read_none))))) c.finish.ensures

@@ -2,27 +2,17 @@
 use Rattle.std.proofs.Common.{ap}
 use Rattle.gltf_parts.specs.Tree.{index}
 use Rattle.gltf_parts.specs.Kind.{unless}
-use Rattle.gltf_parts.proofs.RowByRow.{all_read, marked, read_exit, read_none, read_row, source_read}
+use Rattle.gltf_parts.proofs.RowByRow.{all_read, marked, read_none, read_row, source_read}
 use Rattle.gltf_parts.specs.TextureTable.{texture_rows}
 use Rattle.gltf_parts.specs.TextureTrees.{texture_members}
 use Rattle.gltf_parts.proofs.texture.TextureObject.decode_members.Goals as goal
 
-pub returns-in_err-finish : goal.returns-in_err-finish
-unfolding texture_rows
-returns-in_err-finish c =
-    read_exit _ _ _ c.from_residual.ensures.1 c.from_members-reading.ensures
-    (read_row c.optional-name.ensures.left_out
-    (read_row c.optional-sampler.ensures.left_out
-    (read_row c.optional-extensions.ensures.left_out
-    (read_row (marked (ap (λ i. unless (index i)) c.new.ensures) (source_read c.or_default-source.ensures.unless))
-    (read_row c.optional-extras.ensures.left_out read_none))))) c.in_err-finish.ensures
-
 pub returns : goal.returns
 unfolding texture_rows texture_members
 returns c =
-    all_read _ c.from_members-reading.ensures
+    all_read texture_members c.from_members-reading.ensures
     (read_row c.optional-name.ensures.left_out
     (read_row c.optional-sampler.ensures.left_out
     (read_row c.optional-extensions.ensures.left_out
     (read_row (marked (ap (λ i. unless (index i)) c.new.ensures) (source_read c.or_default-source.ensures.unless))
-    (read_row c.optional-extras.ensures.left_out read_none))))) c.in_ok-finish.ensures
+    (read_row c.optional-extras.ensures.left_out read_none))))) c.finish.ensures

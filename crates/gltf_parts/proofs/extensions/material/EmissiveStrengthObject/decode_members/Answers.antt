@@ -1,17 +1,11 @@
 -- Each row is read in the table's order.
-use Rattle.gltf_parts.proofs.RowByRow.{all_read, read_exit, read_none, read_row}
+use Rattle.gltf_parts.proofs.RowByRow.{all_read, read_none, read_row}
 use Rattle.gltf_parts.specs.MaterialExtensionTable.{emissive_strength_rows}
 use Rattle.gltf_parts.specs.MaterialExtensionTrees.{emissive_strength_members}
 use Rattle.gltf_parts.proofs.extensions.material.EmissiveStrengthObject.decode_members.Goals as goal
 
-pub returns-in_err-finish : goal.returns-in_err-finish
-unfolding emissive_strength_rows
-returns-in_err-finish c =
-    read_exit _ _ _ c.from_residual.ensures.1 c.from_members-reading.ensures
-    (read_row c.sometimes-emissive_strength.ensures read_none) c.in_err-finish.ensures
-
 pub returns : goal.returns
 unfolding emissive_strength_rows emissive_strength_members
 returns c =
-    all_read _ c.from_members-reading.ensures
-    (read_row c.sometimes-emissive_strength.ensures read_none) c.in_ok-finish.ensures
+    all_read emissive_strength_members c.from_members-reading.ensures
+    (read_row c.sometimes-emissive_strength.ensures read_none) c.finish.ensures

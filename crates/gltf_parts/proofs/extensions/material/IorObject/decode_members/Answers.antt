@@ -1,19 +1,12 @@
 -- Each row is read in the table's order.
-use Rattle.gltf_parts.proofs.RowByRow.{all_read, read_exit, read_none, read_row}
+use Rattle.gltf_parts.proofs.RowByRow.{all_read, read_none, read_row}
 use Rattle.gltf_parts.specs.MaterialExtensionTable.{ior_rows}
 use Rattle.gltf_parts.specs.MaterialExtensionTrees.{ior_members}
 use Rattle.gltf_parts.proofs.extensions.material.IorObject.decode_members.Goals as goal
 
-pub returns-in_err-finish : goal.returns-in_err-finish
-unfolding ior_rows
-returns-in_err-finish c =
-    read_exit _ _ _ c.from_residual.ensures.1 c.from_members-reading.ensures
-    (read_row c.sometimes-ior.ensures
-    (read_row c.optional-extras.ensures.left_out read_none)) c.in_err-finish.ensures
-
 pub returns : goal.returns
 unfolding ior_rows ior_members
 returns c =
-    all_read _ c.from_members-reading.ensures
+    all_read ior_members c.from_members-reading.ensures
     (read_row c.sometimes-ior.ensures
-    (read_row c.optional-extras.ensures.left_out read_none)) c.in_ok-finish.ensures
+    (read_row c.optional-extras.ensures.left_out read_none)) c.finish.ensures

@@ -1,21 +1,13 @@
 -- Each row is read in the table's order.
-use Rattle.gltf_parts.proofs.RowByRow.{all_read, read_exit, read_none, read_row}
+use Rattle.gltf_parts.proofs.RowByRow.{all_read, read_none, read_row}
 use Rattle.gltf_parts.specs.MaterialExtensionTable.{transmission_rows}
 use Rattle.gltf_parts.specs.MaterialExtensionTrees.{transmission_members}
 use Rattle.gltf_parts.proofs.extensions.material.TransmissionObject.decode_members.Goals as goal
 
-pub returns-in_err-finish : goal.returns-in_err-finish
-unfolding transmission_rows
-returns-in_err-finish c =
-    read_exit _ _ _ c.from_residual.ensures.1 c.from_members-reading.ensures
-    (read_row c.sometimes-transmission_factor.ensures
-    (read_row c.optional-transmission_texture.ensures.left_out
-    (read_row c.optional-extras.ensures.left_out read_none))) c.in_err-finish.ensures
-
 pub returns : goal.returns
 unfolding transmission_rows transmission_members
 returns c =
-    all_read _ c.from_members-reading.ensures
+    all_read transmission_members c.from_members-reading.ensures
     (read_row c.sometimes-transmission_factor.ensures
     (read_row c.optional-transmission_texture.ensures.left_out
-    (read_row c.optional-extras.ensures.left_out read_none))) c.in_ok-finish.ensures
+    (read_row c.optional-extras.ensures.left_out read_none))) c.finish.ensures

@@ -21,5 +21,3 @@ pub use index::{Index, IndexTo, Listed, Names, PushError};
 pub use path::{KeyStep, Path, Step, Steps};
 pub use real::Real;
 
-#[cfg(test)]
-mod tests;

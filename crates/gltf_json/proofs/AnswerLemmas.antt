@@ -6,11 +6,11 @@ use Rattle.std.proofs.lemmas.Str.{IsUtf8-from_is_utf8, is_utf8-from_IsUtf8}
 use Rattle.std.proofs.KnownBytes.{Consumes-whole}
 use Rattle.serde_json.specs.Data.{Data}
 use Rattle.serde_json.specs.Read.{read as read_json}
-use Rattle.gltf_parts.specs.Outcome.{Reads}
-use Rattle.gltf_parts.specs.Read.{read}
-use Rattle.gltf_parts.specs.Tree.{Tree}
-use Rattle.gltf_parts.specs.declared.error.Error.{Error}
-use Rattle.gltf_parts.specs.declared.error.Error.TheVariants.{Json, Schema, InvalidItem, Read, Write, Memory, TooLong}
+use Rattle.gltf_schema.specs.Outcome.{Reads}
+use Rattle.gltf_schema.specs.Read.{read}
+use Rattle.gltf_schema.specs.Tree.{Tree}
+use Rattle.gltf_schema.specs.declared.error.Error.{Error}
+use Rattle.gltf_schema.specs.declared.error.Error.TheVariants.{Json, Schema, InvalidItem, Read, Write, Memory, TooLong}
 use Rattle.gltf_json.specs.Answer.{Answer, no_json, tree_answer, answer, IsAnswer, IsReadAnswer, IsReading}
 use Rattle.gltf_json.specs.Device.{Seen, IsWithin, IsCause, IsReadError, IsReadToEnd}
 use Rattle.gltf_json.specs.RootTable.{root_kind}

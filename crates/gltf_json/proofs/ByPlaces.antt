@@ -6,9 +6,9 @@ use Rattle.gltf_base.specs.Keys.{Key, key_text}
 use Rattle.gltf_base.specs.Keys as keys
 use Rattle.gltf_base.specs.Lists.{ListName}
 use Rattle.gltf_base.specs.Steps.{Step, field, item, key}
-use Rattle.gltf_parts.specs.Tree as tree
-use Rattle.gltf_parts.specs.Tree.{Tree, absent, Trees, end, with_tree, items_in, members_in, entries_in}
-use Rattle.gltf_parts.specs.Kind.{Kind, IndexInto, SourceImage, ChannelSampler, U32, U64, Stride, Number, Numbers, Text, Truth, Any, Choice, Attributes, ListOf, Object, ObjectName, Rows, no_rows, row}
+use Rattle.gltf_schema.specs.Tree as tree
+use Rattle.gltf_schema.specs.Tree.{Tree, absent, Trees, end, with_tree, items_in, members_in, entries_in}
+use Rattle.gltf_schema.specs.Kind.{Kind, IndexInto, SourceImage, ChannelSampler, U32, U64, Stride, Number, Numbers, Text, Truth, Any, Choice, Attributes, ListOf, Object, ObjectName, Rows, no_rows, row}
 use Rattle.gltf_json.specs.Lists.{count_in}
 use Rattle.gltf_json.specs.Faults.{From, choice_faults, key_faults, entries_faults}
 use Rattle.gltf_json.specs.Rules.{object_faults}

@@ -4,9 +4,9 @@ use Rattle.gltf_base.specs.Spelling.{Spelling}
 use Rattle.gltf_base.specs.Steps.{Step, item}
 use Rattle.gltf_base.specs.declared.validation.Checked.{Checked}
 use Rattle.gltf_base.specs.declared.validation.Checked.TheVariants.{Valid, Invalid}
-use Rattle.gltf_parts.specs.Tree.{Tree, absent, trees, list, tree_or_absent}
-use Rattle.gltf_parts.specs.Kind.{Kind, IndexInto, SourceImage, ChannelSampler, U32, U64, Stride, Number, Numbers, Text, Truth, Any, Choice, Attributes, ListOf, Object}
-use Rattle.gltf_parts.specs.Leaves.{checked_tree}
+use Rattle.gltf_schema.specs.Tree.{Tree, absent, trees, list, tree_or_absent}
+use Rattle.gltf_schema.specs.Kind.{Kind, IndexInto, SourceImage, ChannelSampler, U32, U64, Stride, Number, Numbers, Text, Truth, Any, Choice, Attributes, ListOf, Object}
+use Rattle.gltf_schema.specs.Leaves.{checked_tree}
 use Rattle.gltf_json.specs.Faults.{From, choice_faults}
 use Rattle.gltf_json.specs.Reports.{reports, items_reports}
 use Rattle.gltf_json.specs.Walk.{reports_by, reports_in, checked_reports, option_reports, list_reports, list_kind, each_at}

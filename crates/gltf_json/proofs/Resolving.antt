@@ -5,7 +5,7 @@ use Rattle.std.proofs.lemmas.Option.{slice_get_within, slice_get-get_or}
 use Rattle.gltf_base.specs.Lists.{ListName}
 use Rattle.gltf_base.specs.Steps.{Step}
 use Rattle.gltf_base.specs.declared.validation.Error.TheVariants.{IndexOutOfBounds}
-use Rattle.gltf_parts.specs.Tree.{Tree, count_of, trees}
+use Rattle.gltf_schema.specs.Tree.{Tree, count_of, trees}
 use Rattle.gltf_json.specs.Faults.{number_faults, found_at}
 use Rattle.gltf_json.specs.Items.{count_of-trees}
 use Rattle.gltf_json.specs.Lists.{list_in, count_in}

@@ -3,10 +3,10 @@ use Rattle.std.specs.Prelude.{◌≡◌, ℕ, List, Option, Some, None, if◌the
 use Rattle.std.specs.Str.{is_utf8}
 use Rattle.serde_json.specs.Data.{Data}
 use Rattle.serde_json.specs.Read.{read as read_json}
-use Rattle.gltf_parts.specs.Tree.{Tree}
-use Rattle.gltf_parts.specs.Read.{read}
-use Rattle.gltf_parts.specs.declared.error.Error.{Error}
-use Rattle.gltf_parts.specs.declared.error.Error.TheVariants as errors
+use Rattle.gltf_schema.specs.Tree.{Tree}
+use Rattle.gltf_schema.specs.Read.{read}
+use Rattle.gltf_schema.specs.declared.error.Error.{Error}
+use Rattle.gltf_schema.specs.declared.error.Error.TheVariants as errors
 use Rattle.gltf_json.specs.Device.{Seen, IsWithin, IsCause}
 use Rattle.gltf_json.specs.RootTable.{root_kind}
 use Rattle.gltf_json.specs.RootTrees.{root_tree}

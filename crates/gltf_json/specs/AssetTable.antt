@@ -1,7 +1,7 @@
 -- The rows of a document's own description (glTF 2.0, section 5.9).
 use Rattle.std.specs.Prelude.{◌≡◌, true, false, codes, refl}
-use Rattle.gltf_parts.specs.Kind.{required, optional, not_yet, Kind, Text, Any, Object, ObjectName, Rows, no_rows, ◌◂◌}
-use Rattle.gltf_parts.specs.Plain.{are_sound}
+use Rattle.gltf_schema.specs.Kind.{required, optional, not_yet, Kind, Text, Any, Object, ObjectName, Rows, no_rows, ◌◂◌}
+use Rattle.gltf_schema.specs.Plain.{are_sound}
 
 unfoldable pub asset_rows : Rows
 asset_rows =

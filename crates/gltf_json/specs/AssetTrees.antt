@@ -1,7 +1,7 @@
 -- The members of a document's own description, in the rows' order.
 use Rattle.std.specs.Prelude.{[], ◌∷◌}
-use Rattle.gltf_parts.specs.Tree.{Trees, trees, tree_or_absent, absent}
-use Rattle.gltf_parts.specs.Fields.{text_tree}
+use Rattle.gltf_schema.specs.Tree.{Trees, trees, tree_or_absent, absent}
+use Rattle.gltf_schema.specs.Fields.{text_tree}
 use Rattle.gltf_json.specs.declared.scene.asset.Asset.{Asset}
 
 unfoldable pub asset_members : Asset → Trees

@@ -2,8 +2,8 @@
 use Rattle.std.specs.Prelude.{ℕ, ◌<◌, List, [], ◌∷◌}
 use Rattle.gltf_base.specs.Keys.{Key, unknown}
 use Rattle.gltf_base.specs.Lists.{ListName}
-use Rattle.gltf_parts.specs.Tree.{Tree, index, invalid, Trees, end, with_tree, items_in, members_in, entries_in}
-use Rattle.gltf_parts.specs.Kind.{Kind, IndexInto, SourceImage, ChannelSampler, Choice, Attributes, ListOf, Object, Rows, no_rows, row}
+use Rattle.gltf_schema.specs.Tree.{Tree, index, invalid, Trees, end, with_tree, items_in, members_in, entries_in}
+use Rattle.gltf_schema.specs.Kind.{Kind, IndexInto, SourceImage, ChannelSampler, Choice, Attributes, ListOf, Object, Rows, no_rows, row}
 use Rattle.gltf_json.specs.Lists.{count_in, sampler_count}
 use Rattle.gltf_json.specs.Reports.{animation_below}
 

@@ -1,8 +1,8 @@
 -- What readers and writers show of their calls, and when reading to the end ends how.
 use Rattle.std.specs.Prelude.{◌≡◌, ℕ, ◌-◌, ◌^◌, ◌<◌, ◌≤◌, ◌⊎◌, min, List, length, take, Bool, true, false, Option}
 use Rattle.std.specs.Io.KnownBytes.{Appends, Consumes, IsAtEnd}
-use Rattle.gltf_parts.specs.declared.error.Error.{Error}
-use Rattle.gltf_parts.specs.declared.error.Error.TheVariants as errors
+use Rattle.gltf_schema.specs.declared.error.Error.{Error}
+use Rattle.gltf_schema.specs.declared.error.Error.TheVariants as errors
 
 -- what a document may have of bytes, and its reader of calls, that of the end among them
 abbrev pub byte_limit : ℕ

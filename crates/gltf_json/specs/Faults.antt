@@ -4,7 +4,7 @@ use Rattle.gltf_base.specs.Keys.{Key, unknown, key_text}
 use Rattle.gltf_base.specs.Steps.{Step, key}
 use Rattle.gltf_base.specs.declared.validation.Error.{Error}
 use Rattle.gltf_base.specs.declared.validation.Error.TheVariants.{IndexOutOfBounds, Invalid, Missing}
-use Rattle.gltf_parts.specs.Tree.{Tree, index, whole, invalid}
+use Rattle.gltf_schema.specs.Tree.{Tree, index, whole, invalid}
 
 -- a place, and what is wrong there
 pub record Report : Type 0 where

@@ -1,7 +1,7 @@
 -- The lists of a document as the program holds them.
 use Rattle.std.specs.Prelude.{◌≡◌, List, [], ◌∷◌, length, suc, map, refl}
 use Rattle.std.proofs.Common.{ap}
-use Rattle.gltf_parts.specs.Tree.{Tree, count_of, trees}
+use Rattle.gltf_schema.specs.Tree.{Tree, count_of, trees}
 
 -- a list of trees is as long as the list that it is of
 pub count_of-trees : {X : Type 0} (tree : X → Tree) (xs : List X) → count_of (trees (map tree xs)) ≡ length xs

@@ -1,7 +1,7 @@
 -- The lists of a document, and the places in them that indexes name.
 use Rattle.std.specs.Prelude.{ℕ, nat_lt, Bool}
 use Rattle.gltf_base.specs.Lists.{ListName}
-use Rattle.gltf_parts.specs.Tree.{Tree, Trees, tree_at, count_of, items_in, members_in}
+use Rattle.gltf_schema.specs.Tree.{Tree, Trees, tree_at, count_of, items_in, members_in}
 
 -- the items of the list that is a document's member at a number
 abbrev pub list_at : ℕ → Tree → Trees

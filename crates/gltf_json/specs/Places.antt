@@ -6,8 +6,8 @@ use Rattle.gltf_base.specs.Lists.{ListName}
 use Rattle.gltf_base.specs.Spelling.{by_name}
 use Rattle.gltf_base.specs.Steps.{Step, field, item, key}
 use Rattle.gltf_base.specs.declared.choice.Form.TheVariants as form
-use Rattle.gltf_parts.specs.Tree.{Tree, absent, index, chosen, invalid, object, Trees, end, with_tree, items_in, members_in, entries_in}
-use Rattle.gltf_parts.specs.Kind.{Kind, IndexInto, SourceImage, ChannelSampler, Stride, Choice, Attributes, ListOf, Object, Rows, no_rows, row}
+use Rattle.gltf_schema.specs.Tree.{Tree, absent, index, chosen, invalid, object, Trees, end, with_tree, items_in, members_in, entries_in}
+use Rattle.gltf_schema.specs.Kind.{Kind, IndexInto, SourceImage, ChannelSampler, Stride, Choice, Attributes, ListOf, Object, Rows, no_rows, row}
 use Rattle.gltf_json.specs.Lists.{count_in, sampler_count}
 use Rattle.gltf_json.specs.Faults.{Report, index_faults, source_faults, stride_faults, choice_faults}
 use Rattle.gltf_json.specs.Rules.{object_faults}

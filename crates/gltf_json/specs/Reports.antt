@@ -2,8 +2,8 @@
 use Rattle.std.specs.Prelude.{ℕ, suc, [], ◌∷◌, ◌++◌}
 use Rattle.gltf_base.specs.Lists.{ListName}
 use Rattle.gltf_base.specs.Steps.{field, item}
-use Rattle.gltf_parts.specs.Tree.{Tree, absent, Trees, end, with_tree, items_in, members_in, entries_in}
-use Rattle.gltf_parts.specs.Kind.{Kind, IndexInto, SourceImage, ChannelSampler, Stride, Choice, Attributes, ListOf, Object, ObjectName, Rows, no_rows, row}
+use Rattle.gltf_schema.specs.Tree.{Tree, absent, Trees, end, with_tree, items_in, members_in, entries_in}
+use Rattle.gltf_schema.specs.Kind.{Kind, IndexInto, SourceImage, ChannelSampler, Stride, Choice, Attributes, ListOf, Object, ObjectName, Rows, no_rows, row}
 use Rattle.gltf_json.specs.Lists.{count_in, sampler_count}
 use Rattle.gltf_json.specs.Faults.{From, index_faults, source_faults, stride_faults, choice_faults, entries_faults}
 use Rattle.gltf_json.specs.Rules.{object_faults}

@@ -1,7 +1,7 @@
 -- The tree of a whole document: its members in the rows' order.
 use Rattle.std.specs.Prelude.{[], ◌∷◌}
-use Rattle.gltf_parts.specs.Tree.{Tree, Trees, trees, absent}
-use Rattle.gltf_parts.specs.Fields.{list_tree, closed_object}
+use Rattle.gltf_schema.specs.Tree.{Tree, Trees, trees, absent}
+use Rattle.gltf_schema.specs.Fields.{list_tree, closed_object}
 use Rattle.gltf_parts.specs.AccessorTrees.{accessor_members}
 use Rattle.gltf_parts.specs.BufferTrees.{buffer_members, view_members}
 use Rattle.gltf_json.specs.AssetTrees.{asset_members}

@@ -1,6 +1,6 @@
 -- The name of the row at a number.
 use Rattle.std.specs.Prelude.{ℕ, zero, suc, List, []}
-use Rattle.gltf_parts.specs.Kind.{Rows, no_rows, row}
+use Rattle.gltf_schema.specs.Kind.{Rows, no_rows, row}
 
 abbrev pub name_at : ℕ → Rows → List ℕ
 name_at n no_rows = []

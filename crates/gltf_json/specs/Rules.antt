@@ -9,8 +9,8 @@ use Rattle.gltf_base.specs.Spelling.{by_name}
 use Rattle.gltf_base.specs.Steps.{field, item, key, value}
 use Rattle.gltf_base.specs.Lists.{ListName}
 use Rattle.gltf_base.specs.declared.validation.Error.TheVariants.{Invalid, Missing, Unsupported}
-use Rattle.gltf_parts.specs.Tree.{Tree, absent, any, text, chosen, object, Trees, end, with_tree, is_absent, tree_at, items_in, entries_in}
-use Rattle.gltf_parts.specs.Kind.{ObjectName}
+use Rattle.gltf_schema.specs.Tree.{Tree, absent, any, text, chosen, object, Trees, end, with_tree, is_absent, tree_at, items_in, entries_in}
+use Rattle.gltf_schema.specs.Kind.{ObjectName}
 use Rattle.gltf_json.specs.Lists.{list_in}
 use Rattle.gltf_json.specs.Faults.{From, report, report_if}
 

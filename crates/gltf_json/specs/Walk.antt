@@ -7,8 +7,8 @@ use Rattle.gltf_base.specs.declared.validation.Error.TheVariants as error
 use Rattle.gltf_base.specs.declared.validation.Checked.{Checked}
 use Rattle.gltf_base.specs.declared.validation.Checked.TheVariants as checked
 use Rattle.arrayvec.specs.ArrayVec.{ArrayVec}
-use Rattle.gltf_parts.specs.Tree.{Tree}
-use Rattle.gltf_parts.specs.Kind.{Kind, ListOf}
+use Rattle.gltf_schema.specs.Tree.{Tree}
+use Rattle.gltf_schema.specs.Kind.{Kind, ListOf}
 use Rattle.gltf_json.specs.Faults.{Report, report, From}
 use Rattle.gltf_json.specs.Reports.{reports_of}
 use Rattle.gltf_json.specs.declared.validation.sink.Stop.{Stop}

@@ -5,7 +5,7 @@ use Rattle.gltf_base.specs.Steps.{Step, field, item}
 use Rattle.gltf_json.specs.Faults.{Report}
 use Rattle.gltf_json.specs.Reports.{reports_of}
 use Rattle.gltf_json.specs.RootTable.{root_kind}
-use Rattle.gltf_parts.specs.Read.{read}
+use Rattle.gltf_schema.specs.Read.{read}
 
 -- what is wrong in the document that a JSON value is, if it is one
 abbrev pub reports_in : Data → Option (List Report)

@@ -3,8 +3,8 @@
 
 ghost use Rattle.std.specs.Prelude.{◌≡◌, List, [], codes};
 ghost use Rattle.gltf_base.specs.Steps.{Step};
-ghost use Rattle.gltf_parts.specs.Tree.{Tree, absent};
-ghost use Rattle.gltf_parts.specs.Kind.{Kind};
+ghost use Rattle.gltf_schema.specs.Tree.{Tree, absent};
+ghost use Rattle.gltf_schema.specs.Kind.{Kind};
 ghost use Rattle.gltf_json.specs.Reports.{reports_of};
 ghost use Rattle.gltf_json.specs.Places.{reports_by_places};
 ghost use Rattle.gltf_json.specs.Closed.{IsClosed};

@@ -1,8 +1,8 @@
 //! What is wrong in a document, place by place.
 
 ghost use Rattle.std.specs.Prelude.{◌≡◌, ℕ, Option, None};
-ghost use Rattle.gltf_parts.specs.Tree.{Tree, absent};
-ghost use Rattle.gltf_parts.specs.Kind.{Kind};
+ghost use Rattle.gltf_schema.specs.Tree.{Tree, absent};
+ghost use Rattle.gltf_schema.specs.Kind.{Kind};
 ghost use Rattle.gltf_json.specs.Faults.{From};
 ghost use Rattle.gltf_json.specs.RootTrees.{root_tree};
 ghost use Rattle.gltf_json.specs.Walk.{Walked, reports_by, no_reports};
@@ -19,8 +19,6 @@ mod maps;
 mod silent;
 mod sink;
 mod sparse;
-#[cfg(test)]
-mod tests;
 mod within;
 
 pub use gltf_base::validation::{Checked, Error, USize64};

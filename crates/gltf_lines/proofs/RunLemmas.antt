@@ -2,8 +2,8 @@
 use Rattle.std.proofs.Common.{◌≡◌, ◌≢◌, ◌⊎◌, inl, inr, ℕ, List, [], ◌∷◌, Bool, true, false, Option, Some, None, IfSome, IsSomeAnd, Result, Ok, Err, refl, sym, ◌∙◌, subst, arith}
 use Rattle.std.proofs.lemmas.Bool.{true≢false}
 use Rattle.std.specs.Io.KnownBytes.{Appends}
-use Rattle.gltf_parts.specs.declared.error.Error.{Error}
-use Rattle.gltf_parts.specs.declared.error.Error.TheVariants.{Json, Schema, InvalidItem, Read, Write, Memory, TooLong}
+use Rattle.gltf_schema.specs.declared.error.Error.{Error}
+use Rattle.gltf_schema.specs.declared.error.Error.TheVariants.{Json, Schema, InvalidItem, Read, Write, Memory, TooLong}
 use Rattle.gltf_json.specs.Answer.{Answer, no_json, no_document, document, answer, IsReadAnswer, IsReading}
 use Rattle.gltf_json.specs.Device.{Seen, IsWithin, AppendsFront}
 use Rattle.gltf_json.specs.Faults.{Report}

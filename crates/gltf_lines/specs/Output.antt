@@ -4,7 +4,7 @@ use Rattle.gltf_base.specs.Errors.{error_text}
 use Rattle.gltf_base.specs.Steps.{Step}
 use Rattle.gltf_base.specs.Text.{path_text}
 use Rattle.gltf_base.specs.declared.validation.Error.{Error}
-use Rattle.gltf_parts.specs.Tree.{Tree}
+use Rattle.gltf_schema.specs.Tree.{Tree}
 use Rattle.gltf_json.specs.Answer.{Answer, no_json, no_document, document, answer}
 use Rattle.gltf_json.specs.Faults.{Report, report}
 use Rattle.gltf_json.specs.Reports.{reports_of}

@@ -1,8 +1,8 @@
 -- What a run has written and answered.
 use Rattle.std.specs.Prelude.{◌≡◌, ◌≢◌, ◌⊎◌, ℕ, List, Bool, true, false, Option, Some, None, IfSome, Result, Ok, Err}
 use Rattle.std.specs.Io.KnownBytes.{Appends}
-use Rattle.gltf_parts.specs.declared.error.Error.{Error}
-use Rattle.gltf_parts.specs.declared.error.Error.TheVariants as errors
+use Rattle.gltf_schema.specs.declared.error.Error.{Error}
+use Rattle.gltf_schema.specs.declared.error.Error.TheVariants as errors
 use Rattle.gltf_json.specs.Answer.{no_json, no_document, document}
 use Rattle.gltf_json.specs.Device.{AppendsFront}
 use Rattle.gltf_json.specs.RootTrees.{root_tree}

@@ -63,6 +63,3 @@ fn answer<W: ByteOut>(alloc: Global, reading: &Result<Root, Error>, writer: &mut
         Err(_) => write_output(writer, REFUSAL, 4),
     }
 }
-
-#[cfg(test)]
-mod tests;

@@ -3,11 +3,11 @@ use Rattle.std.specs.Prelude.{◌≡◌, true, false, codes, refl}
 use Rattle.gltf_base.specs.Lists.{buffer_views}
 use Rattle.gltf_base.specs.Choices.{generic_component_type_spelling, generic_component_types, index_component_type_spelling, index_component_types, accessor_type_spelling, accessor_types}
 use Rattle.gltf_base.specs.declared.choice.Form.TheVariants as form
-use Rattle.gltf_parts.specs.Tree.{whole, truth}
-use Rattle.gltf_parts.specs.Kind.{required, optional, always, unless, Kind, IndexInto, U64, Text, Truth, Any, Object, ObjectName, Rows, ◌◂◌}
-use Rattle.gltf_parts.specs.Leaves.{choice_of}
-use Rattle.gltf_parts.specs.Extensions.{kept_extensions, dropped_extensions, extensions_and_extras}
-use Rattle.gltf_parts.specs.Plain.{are_sound}
+use Rattle.gltf_schema.specs.Tree.{whole, truth}
+use Rattle.gltf_schema.specs.Kind.{required, optional, always, unless, Kind, IndexInto, U64, Text, Truth, Any, Object, ObjectName, Rows, ◌◂◌}
+use Rattle.gltf_schema.specs.Leaves.{choice_of}
+use Rattle.gltf_schema.specs.Extensions.{kept_extensions, dropped_extensions, extensions_and_extras}
+use Rattle.gltf_schema.specs.Plain.{are_sound}
 
 abbrev pub component_type_kind : Kind
 component_type_kind = choice_of form.Number generic_component_type_spelling generic_component_types

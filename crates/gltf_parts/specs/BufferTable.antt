@@ -3,11 +3,11 @@ use Rattle.std.specs.Prelude.{◌≡◌, true, false, codes, refl}
 use Rattle.gltf_base.specs.Lists.{buffers}
 use Rattle.gltf_base.specs.Choices.{target_spelling, targets}
 use Rattle.gltf_base.specs.declared.choice.Form.TheVariants as form
-use Rattle.gltf_parts.specs.Tree.{whole}
-use Rattle.gltf_parts.specs.Kind.{required, optional, always, Kind, IndexInto, U64, Stride, Text, Object, ObjectName, Rows, ◌◂◌}
-use Rattle.gltf_parts.specs.Leaves.{choice_of}
-use Rattle.gltf_parts.specs.Extensions.{kept_extensions, extensions_and_extras}
-use Rattle.gltf_parts.specs.Plain.{are_sound}
+use Rattle.gltf_schema.specs.Tree.{whole}
+use Rattle.gltf_schema.specs.Kind.{required, optional, always, Kind, IndexInto, U64, Stride, Text, Object, ObjectName, Rows, ◌◂◌}
+use Rattle.gltf_schema.specs.Leaves.{choice_of}
+use Rattle.gltf_schema.specs.Extensions.{kept_extensions, extensions_and_extras}
+use Rattle.gltf_schema.specs.Plain.{are_sound}
 
 abbrev pub target_kind : Kind
 target_kind = choice_of form.Number target_spelling targets

@@ -1,8 +1,8 @@
 -- The members of images, in the rows' order.
 use Rattle.std.specs.Prelude.{[], ◌∷◌}
 use Rattle.serde_json.specs.View.{members_view}
-use Rattle.gltf_parts.specs.Tree.{Tree, Trees, trees, tree_or_absent, object}
-use Rattle.gltf_parts.specs.Fields.{index_tree, text_tree, any_tree}
+use Rattle.gltf_schema.specs.Tree.{Tree, Trees, trees, tree_or_absent, object}
+use Rattle.gltf_schema.specs.Fields.{index_tree, text_tree, any_tree}
 use Rattle.gltf_parts.specs.declared.image.MimeType.{MimeType}
 use Rattle.gltf_parts.specs.declared.image.Image.{Image}
 use Rattle.gltf_parts.specs.declared.extensions.image.Image.{Image as ImageExtensions}

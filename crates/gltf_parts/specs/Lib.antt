@@ -1,16 +1,3 @@
-pub mod Maybe
-pub mod Tree
-pub mod Kind
-pub mod Read
-pub mod Plain
-pub mod Outcome
-pub mod ErrorText
-pub mod Taken
-pub mod Readings
-pub mod Leaves
-pub mod Fields
-pub mod Defaults
-pub mod Extensions
 pub mod AccessorTable
 pub mod AccessorTrees
 pub mod BufferTable

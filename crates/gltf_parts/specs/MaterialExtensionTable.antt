@@ -1,8 +1,8 @@
 -- The rows of the extensions of materials whose names begin with KHR, each by its own document.
 use Rattle.std.specs.Prelude.{◌≡◌, true, false, codes, refl}
-use Rattle.gltf_parts.specs.Kind.{optional, sometimes, Kind, Number, Numbers, Any, Object, ObjectName, extensions_of, Rows, no_rows, ◌◂◌}
+use Rattle.gltf_schema.specs.Kind.{optional, sometimes, Kind, Number, Numbers, Any, Object, ObjectName, extensions_of, Rows, no_rows, ◌◂◌}
 use Rattle.gltf_parts.specs.TextureTable.{info_kind, info_sound}
-use Rattle.gltf_parts.specs.Plain.{are_sound}
+use Rattle.gltf_schema.specs.Plain.{are_sound}
 
 unfoldable pub pbr_specular_glossiness_rows : Rows
 pbr_specular_glossiness_rows =

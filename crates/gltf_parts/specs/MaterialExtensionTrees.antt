@@ -1,8 +1,8 @@
 -- The members of the extensions of materials, in the rows' order.
 use Rattle.std.specs.Prelude.{[], ◌∷◌}
 use Rattle.serde_json.specs.View.{members_view}
-use Rattle.gltf_parts.specs.Tree.{Tree, Trees, trees, tree_or_absent, object}
-use Rattle.gltf_parts.specs.Fields.{real_tree, reals_tree, any_tree, closed_object}
+use Rattle.gltf_schema.specs.Tree.{Tree, Trees, trees, tree_or_absent, object}
+use Rattle.gltf_schema.specs.Fields.{real_tree, reals_tree, any_tree, closed_object}
 use Rattle.gltf_parts.specs.TextureTrees.{info_members}
 use Rattle.gltf_parts.specs.declared.extensions.material.Material.{Material as MaterialExtensions}
 use Rattle.gltf_parts.specs.declared.extensions.material.PbrSpecularGlossiness.{PbrSpecularGlossiness}

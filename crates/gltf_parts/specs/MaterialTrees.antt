@@ -2,9 +2,9 @@
 use Rattle.std.specs.Prelude.{[], ◌∷◌}
 use Rattle.serde_json.specs.View.{members_view}
 use Rattle.gltf_base.specs.SceneChoices.{alpha_mode_spelling}
-use Rattle.gltf_parts.specs.Tree.{Tree, Trees, trees, tree_or_absent, whole, truth, object}
-use Rattle.gltf_parts.specs.Leaves.{checked_tree}
-use Rattle.gltf_parts.specs.Fields.{index_tree, text_tree, real_tree, reals_tree, any_tree, closed_object}
+use Rattle.gltf_schema.specs.Tree.{Tree, Trees, trees, tree_or_absent, whole, truth, object}
+use Rattle.gltf_schema.specs.Leaves.{checked_tree}
+use Rattle.gltf_schema.specs.Fields.{index_tree, text_tree, real_tree, reals_tree, any_tree, closed_object}
 use Rattle.gltf_parts.specs.TextureTrees.{info_members}
 use Rattle.gltf_parts.specs.MaterialExtensionTrees.{material_extension_members}
 use Rattle.gltf_parts.specs.declared.material.AlphaCutoff.{AlphaCutoff}

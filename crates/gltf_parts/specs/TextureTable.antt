@@ -5,11 +5,11 @@ use Rattle.gltf_base.specs.Lists.{samplers, textures}
 use Rattle.gltf_base.specs.TextureChoices.{mag_filter_spelling, mag_filters, min_filter_spelling, min_filters, wrapping_mode_spelling, wrapping_modes}
 use Rattle.gltf_base.specs.declared.choice.Form.TheVariants as form
 use Rattle.gltf_base.specs.declared.texture.WrappingMode.TheVariants as wrapping_mode
-use Rattle.gltf_parts.specs.Tree.{Tree, whole, chosen, index}
-use Rattle.gltf_parts.specs.Kind.{required, optional, always, unless, sometimes, or_null, Kind, IndexInto, SourceImage, U32, Number, Numbers, Text, Any, Object, ObjectName, extensions_of, Rows, no_rows, ◌◂◌}
-use Rattle.gltf_parts.specs.Leaves.{choice_of}
-use Rattle.gltf_parts.specs.Extensions.{kept_extensions, extensions_and_extras}
-use Rattle.gltf_parts.specs.Plain.{are_sound}
+use Rattle.gltf_schema.specs.Tree.{Tree, whole, chosen, index}
+use Rattle.gltf_schema.specs.Kind.{required, optional, always, unless, sometimes, or_null, Kind, IndexInto, SourceImage, U32, Number, Numbers, Text, Any, Object, ObjectName, extensions_of, Rows, no_rows, ◌◂◌}
+use Rattle.gltf_schema.specs.Leaves.{choice_of}
+use Rattle.gltf_schema.specs.Extensions.{kept_extensions, extensions_and_extras}
+use Rattle.gltf_schema.specs.Plain.{are_sound}
 
 abbrev pub mag_filter_kind : Kind
 mag_filter_kind = choice_of form.Number mag_filter_spelling mag_filters

@@ -2,9 +2,9 @@
 use Rattle.std.specs.Prelude.{[], ◌∷◌}
 use Rattle.serde_json.specs.View.{members_view}
 use Rattle.gltf_base.specs.TextureChoices.{mag_filter_spelling, min_filter_spelling, wrapping_mode_spelling}
-use Rattle.gltf_parts.specs.Tree.{Tree, Trees, trees, tree_or_absent, whole, object}
-use Rattle.gltf_parts.specs.Leaves.{checked_tree}
-use Rattle.gltf_parts.specs.Fields.{index_tree, text_tree, real_tree, reals_tree, any_tree, closed_object}
+use Rattle.gltf_schema.specs.Tree.{Tree, Trees, trees, tree_or_absent, whole, object}
+use Rattle.gltf_schema.specs.Leaves.{checked_tree}
+use Rattle.gltf_schema.specs.Fields.{index_tree, text_tree, real_tree, reals_tree, any_tree, closed_object}
 use Rattle.gltf_parts.specs.declared.texture.Sampler.{Sampler}
 use Rattle.gltf_parts.specs.declared.texture.Texture.{Texture}
 use Rattle.gltf_parts.specs.declared.texture.Info.{Info}

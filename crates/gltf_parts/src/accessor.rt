@@ -3,18 +3,16 @@
 ghost use Rattle.std.specs.Prelude.{false};
 ghost use Rattle.serde_json.specs.Data.{no_members};
 ghost use Rattle.gltf_base.specs.Lists.{accessors};
-ghost use Rattle.gltf_parts.specs.Kind.{ObjectName};
+ghost use Rattle.gltf_schema.specs.Kind.{ObjectName};
 ghost use Rattle.gltf_parts.specs.AccessorTable.{accessor_rows, accessor_sound};
 ghost use Rattle.gltf_parts.specs.AccessorTrees.{accessor_members};
 
 use crate::buffer::View;
-use crate::error::Error;
 use crate::extensions;
 use crate::extras::Extras;
-use crate::reading::Reading;
-use crate::schema::Object;
 use gltf_base::validation::{Checked, USize64};
 use gltf_base::{Index, Listed};
+use gltf_schema::{Error, Object, Reading};
 use serde_json::{Map, Value};
 use std::alloc::Global;
 

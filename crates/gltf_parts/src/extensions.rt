@@ -1,51 +1,7 @@
 //! Extension objects: what stands behind the member `extensions` of an object.
 
-ghost use Rattle.std.specs.Prelude.{◌≡◌, Bool, refl};
-ghost use Rattle.serde_json.specs.Data.{Members};
-ghost use Rattle.serde_json.specs.View.{members_view};
-ghost use Rattle.gltf_parts.specs.Tree.{end};
-ghost use Rattle.gltf_parts.specs.Kind.{ObjectName, extensions_of, no_rows};
-ghost use Rattle.gltf_parts.specs.Taken.{left};
-
-use crate::error::Error;
-use crate::schema::Object;
-use serde_json::{Map, Value};
-use std::alloc::Global;
-
 pub mod accessor;
 pub mod buffer;
 pub mod image;
 pub mod material;
 pub mod texture;
-
-/// An extension object of which no member is known: it keeps them all, or drops them all.
-pub trait Unlisted: Drop {
-    ghost extends: { ObjectName };
-
-    ghost is_keeping: { Bool };
-
-    ghost kept: { Self → Members };
-
-    /// The extension object of these members.
-    fn from_others(others: Map<String, Value>) -> Self
-        ensures { kept result ≡ left is_keeping (members_view others.entries) };
-}
-
-#[tactic(auto, unfolding(crate::specs::Taken::take_all, crate::specs::Taken::take_rows))]
-impl<T: Unlisted> Object for T {
-    ghost named = { extensions_of T.extends };
-
-    ghost rows = { no_rows };
-
-    ghost keeps = { T.is_keeping };
-
-    ghost members = { λ _. end };
-
-    ghost unknown = { T.kept };
-
-    ghost sound = { refl };
-
-    fn decode_members(_alloc: Global, found: Map<String, Value>) -> Result<T, Error> {
-        Ok(T::from_others(found))
-    }
-}

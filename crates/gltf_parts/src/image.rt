@@ -3,18 +3,16 @@
 ghost use Rattle.std.specs.Prelude.{false, refl};
 ghost use Rattle.serde_json.specs.Data.{no_members};
 ghost use Rattle.gltf_base.specs.Lists.{images};
-ghost use Rattle.gltf_parts.specs.Kind.{ObjectName, Text};
+ghost use Rattle.gltf_schema.specs.Kind.{ObjectName, Text};
 ghost use Rattle.gltf_parts.specs.ImageTable.{image_rows, image_sound};
 ghost use Rattle.gltf_parts.specs.ImageTrees.{image_members, mime_type_tree};
 
 use crate::buffer::View;
-use crate::error::Error;
 use crate::extensions;
 use crate::extras::Extras;
-use crate::reading::Reading;
-use crate::schema::{Object, Schema};
 pub use gltf_base::image::VALID_MIME_TYPES;
 use gltf_base::{Index, Listed};
+use gltf_schema::{Error, Object, Reading, Schema};
 use serde_json::{Map, Value};
 use std::alloc::Global;
 

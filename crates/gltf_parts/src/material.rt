@@ -3,21 +3,18 @@
 ghost use Rattle.std.specs.Prelude.{◌≡◌, false, refl};
 ghost use Rattle.serde_json.specs.Data.{no_members};
 ghost use Rattle.gltf_base.specs.Lists.{materials};
-ghost use Rattle.gltf_parts.specs.Kind.{ObjectName, Number};
-ghost use Rattle.gltf_parts.specs.Defaults.{defaults};
+ghost use Rattle.gltf_schema.specs.Kind.{ObjectName, Number};
+ghost use Rattle.gltf_schema.specs.Defaults.{defaults};
 ghost use Rattle.gltf_parts.specs.MaterialTable.{material_rows, material_sound, pbr_metallic_roughness_rows, pbr_metallic_roughness_sound, normal_texture_rows, normal_texture_sound, occlusion_texture_rows, occlusion_texture_sound};
 ghost use Rattle.gltf_parts.specs.MaterialTrees.{alpha_cutoff_tree, material_members, pbr_metallic_roughness_members, normal_texture_members, occlusion_texture_members};
 
-use crate::blank::Blank;
-use crate::error::Error;
 use crate::extensions;
 use crate::extras::Extras;
-use crate::reading::Reading;
-use crate::schema::{Object, Schema};
 use crate::texture::{Info, Texture};
 pub use gltf_base::material::{AlphaMode, VALID_ALPHA_MODES};
 use gltf_base::validation::Checked;
 use gltf_base::{Index, Listed, Real};
+use gltf_schema::{Blank, Error, Object, Reading, Schema};
 use serde_json::{Map, Value};
 use std::alloc::Global;
 

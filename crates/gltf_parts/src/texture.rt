@@ -4,17 +4,14 @@
 ghost use Rattle.std.specs.Prelude.{◌≡◌, false};
 ghost use Rattle.serde_json.specs.Data.{no_members};
 ghost use Rattle.gltf_base.specs.Lists.{samplers, textures};
-ghost use Rattle.gltf_parts.specs.Kind.{ObjectName};
-ghost use Rattle.gltf_parts.specs.Defaults.{defaults};
+ghost use Rattle.gltf_schema.specs.Kind.{ObjectName};
+ghost use Rattle.gltf_schema.specs.Defaults.{defaults};
 ghost use Rattle.gltf_parts.specs.TextureTable.{sampler_rows, sampler_sound, texture_rows, texture_sound, info_rows, info_sound};
 ghost use Rattle.gltf_parts.specs.TextureTrees.{sampler_members, texture_members, info_members};
 
-use crate::error::Error;
 use crate::extensions;
 use crate::extras::Extras;
 use crate::image::Image;
-use crate::reading::Reading;
-use crate::schema::Object;
 pub use gltf_base::texture::{
     CLAMP_TO_EDGE, LINEAR, LINEAR_MIPMAP_LINEAR, LINEAR_MIPMAP_NEAREST, MIRRORED_REPEAT, MagFilter,
     MinFilter, NEAREST, NEAREST_MIPMAP_LINEAR, NEAREST_MIPMAP_NEAREST, REPEAT, VALID_MAG_FILTERS,
@@ -22,6 +19,7 @@ pub use gltf_base::texture::{
 };
 use gltf_base::validation::Checked;
 use gltf_base::{Index, Listed};
+use gltf_schema::{Error, Object, Reading};
 use serde_json::{Map, Value};
 use std::alloc::Global;
 

@@ -3,8 +3,8 @@
 ghost use Rattle.std.specs.Prelude.{◌≡◌, List, slice_get, refl, map};
 ghost use Rattle.std.specs.Option.{option_copied};
 ghost use Rattle.gltf_base.specs.Indexes.{index_number};
-ghost use Rattle.gltf_parts.specs.Tree.{Tree, trees};
-ghost use Rattle.gltf_parts.specs.Fields.{closed_object};
+ghost use Rattle.gltf_schema.specs.Tree.{Tree, trees};
+ghost use Rattle.gltf_schema.specs.Fields.{closed_object};
 ghost use Rattle.gltf_parts.specs.AccessorTrees.{accessor_members};
 ghost use Rattle.gltf_parts.specs.BufferTrees.{buffer_members, view_members};
 ghost use Rattle.gltf_json.specs.Lists.{list_in};

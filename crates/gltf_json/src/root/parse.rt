@@ -3,9 +3,9 @@
 ghost use Rattle.std.specs.Prelude.{◌≡◌, true, None, Err, IfOk, IfSome};
 ghost use Rattle.serde_json.specs.Find.{as_object};
 ghost use Rattle.serde_json.specs.View.{view};
-ghost use Rattle.gltf_parts.specs.Outcome.{Reads};
-ghost use Rattle.gltf_parts.specs.Plain.{is_plain};
-ghost use Rattle.gltf_parts.specs.Read.{read};
+ghost use Rattle.gltf_schema.specs.Outcome.{Reads};
+ghost use Rattle.gltf_schema.specs.Plain.{is_plain};
+ghost use Rattle.gltf_schema.specs.Read.{read};
 ghost use Rattle.gltf_json.specs.Answer.{IsAnswer, IsReadAnswer, IsReading, answer};
 ghost use Rattle.gltf_json.specs.Device.{IsFresh, byte_limit, call_limit};
 ghost use Rattle.gltf_json.specs.RootTable.{root_kind};

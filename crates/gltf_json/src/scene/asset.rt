@@ -2,7 +2,7 @@
 
 ghost use Rattle.std.specs.Prelude.{false};
 ghost use Rattle.serde_json.specs.Data.{no_members};
-ghost use Rattle.gltf_parts.specs.Kind.{ObjectName};
+ghost use Rattle.gltf_schema.specs.Kind.{ObjectName};
 ghost use Rattle.gltf_json.specs.AssetTable.{asset_rows, asset_sound};
 ghost use Rattle.gltf_json.specs.AssetTrees.{asset_members};
 

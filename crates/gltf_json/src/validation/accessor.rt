@@ -4,9 +4,9 @@ ghost use Rattle.std.specs.Prelude.{◌≡◌, List, ◌∷◌, [], ◌++◌, So
 ghost use Rattle.gltf_base.specs.Steps.{Step as Mathematical, field};
 ghost use Rattle.gltf_parts.specs.AccessorTable.{accessor_kind};
 ghost use Rattle.gltf_parts.specs.AccessorTrees.{accessor_members, accessor_extensions};
-ghost use Rattle.gltf_parts.specs.Extensions.{kept_extensions};
-ghost use Rattle.gltf_parts.specs.Fields.{closed_object};
-ghost use Rattle.gltf_parts.specs.Kind.{ObjectName};
+ghost use Rattle.gltf_schema.specs.Extensions.{kept_extensions};
+ghost use Rattle.gltf_schema.specs.Fields.{closed_object};
+ghost use Rattle.gltf_schema.specs.Kind.{ObjectName};
 ghost use Rattle.gltf_json.specs.Faults.{found_at};
 ghost use Rattle.gltf_json.specs.Rules.{accessor_rule};
 ghost use Rattle.gltf_json.specs.Walk.{no_reports};

@@ -1,8 +1,8 @@
 //! Options and lists.
 
 ghost use Rattle.std.specs.Prelude.{◌≡◌, ◌+◌};
-ghost use Rattle.gltf_parts.specs.Tree.{tree_or_absent};
-ghost use Rattle.gltf_parts.specs.Fields.{list_tree};
+ghost use Rattle.gltf_schema.specs.Tree.{tree_or_absent};
+ghost use Rattle.gltf_schema.specs.Fields.{list_tree};
 ghost use Rattle.gltf_json.specs.Walk.{option_reports, list_reports, list_kind};
 
 use super::Validate;

@@ -1,7 +1,7 @@
 //! Whole documents.
 
 ghost use Rattle.std.specs.Prelude.{◌≡◌, Some};
-ghost use Rattle.gltf_parts.specs.Fields.{closed_object};
+ghost use Rattle.gltf_schema.specs.Fields.{closed_object};
 ghost use Rattle.gltf_json.specs.AssetTable.{asset_kind};
 ghost use Rattle.gltf_json.specs.AssetTrees.{asset_members};
 ghost use Rattle.gltf_json.specs.RootTable.{root_kind};

@@ -1,10 +1,10 @@
 //! Kinds without rows that can be wrong by themselves.
 
 ghost use Rattle.std.specs.Prelude.{◌≡◌, Some, None};
-ghost use Rattle.gltf_parts.specs.Tree.{absent};
-ghost use Rattle.gltf_parts.specs.Kind.{IndexInto, Stride as stride_kind};
+ghost use Rattle.gltf_schema.specs.Tree.{absent};
+ghost use Rattle.gltf_schema.specs.Kind.{IndexInto, Stride as stride_kind};
 ghost use Rattle.gltf_parts.specs.BufferTrees.{stride_tree};
-ghost use Rattle.gltf_parts.specs.Fields.{index_tree};
+ghost use Rattle.gltf_schema.specs.Fields.{index_tree};
 ghost use Rattle.gltf_json.specs.Walk.{no_reports, checked_reports};
 
 use super::Validate;

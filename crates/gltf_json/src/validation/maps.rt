@@ -2,7 +2,7 @@
 
 ghost use Rattle.std.specs.Prelude.{◌≡◌, ◌+◌, ◌++◌, ◌∷◌, [], None, max};
 ghost use Rattle.gltf_base.specs.Steps.{key};
-ghost use Rattle.gltf_parts.specs.Tree.{absent};
+ghost use Rattle.gltf_schema.specs.Tree.{absent};
 ghost use Rattle.gltf_json.specs.RootTrees.{root_tree};
 ghost use Rattle.gltf_json.specs.Walk.{Walked, reports_in, each_entry};
 

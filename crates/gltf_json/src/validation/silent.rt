@@ -2,9 +2,9 @@
 
 ghost use Rattle.std.specs.Prelude.{◌≡◌, ℕ, Option, Some, None, List, [], refl};
 ghost use Rattle.gltf_base.specs.Steps.{Step};
-ghost use Rattle.gltf_parts.specs.Tree.{Tree, absent, whole, truth};
-ghost use Rattle.gltf_parts.specs.Kind.{Kind, U32, U64, Number, Text, Truth, Any};
-ghost use Rattle.gltf_parts.specs.Fields.{size_tree, real_tree, text_tree, any_tree};
+ghost use Rattle.gltf_schema.specs.Tree.{Tree, absent, whole, truth};
+ghost use Rattle.gltf_schema.specs.Kind.{Kind, U32, U64, Number, Text, Truth, Any};
+ghost use Rattle.gltf_schema.specs.Fields.{size_tree, real_tree, text_tree, any_tree};
 ghost use Rattle.gltf_json.specs.Walk.{reports_by, no_reports};
 
 use super::Validate;

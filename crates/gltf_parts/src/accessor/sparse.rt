@@ -3,20 +3,17 @@
 
 ghost use Rattle.std.specs.Prelude.{false};
 ghost use Rattle.serde_json.specs.Data.{no_members};
-ghost use Rattle.gltf_parts.specs.Kind.{ObjectName};
+ghost use Rattle.gltf_schema.specs.Kind.{ObjectName};
 ghost use Rattle.gltf_parts.specs.AccessorTable.{sparse_rows, sparse_sound, sparse_indices_rows, sparse_indices_sound, sparse_values_rows, sparse_values_sound};
 ghost use Rattle.gltf_parts.specs.AccessorTrees.{sparse_members, sparse_indices_members, sparse_values_members};
 
 use super::IndexComponentType;
-use crate::blank::Blank;
 use crate::buffer::View;
-use crate::error::Error;
 use crate::extensions;
 use crate::extras::Extras;
-use crate::reading::Reading;
-use crate::schema::Object;
 use gltf_base::Index;
 use gltf_base::validation::{Checked, USize64};
+use gltf_schema::{Blank, Error, Object, Reading};
 use serde_json::{Map, Value};
 use std::alloc::Global;
 

@@ -3,9 +3,9 @@
 ghost use Rattle.std.specs.Prelude.{◌≡◌, true};
 ghost use Rattle.serde_json.specs.Data.{no_members};
 ghost use Rattle.serde_json.specs.View.{members_view};
-ghost use Rattle.gltf_parts.specs.Kind.{ObjectName};
+ghost use Rattle.gltf_schema.specs.Kind.{ObjectName};
 
-use super::Unlisted;
+use gltf_schema::Unlisted;
 use serde_json::{Map, Value};
 use std::alloc::Global;
 

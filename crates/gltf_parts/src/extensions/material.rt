@@ -3,20 +3,17 @@
 ghost use Rattle.std.specs.Prelude.{◌≡◌, true, false, refl};
 ghost use Rattle.serde_json.specs.Data.{no_members};
 ghost use Rattle.serde_json.specs.View.{members_view};
-ghost use Rattle.gltf_parts.specs.Kind.{ObjectName, extensions_of, no_rows};
-ghost use Rattle.gltf_parts.specs.Tree.{end};
-ghost use Rattle.gltf_parts.specs.Defaults.{defaults};
+ghost use Rattle.gltf_schema.specs.Kind.{ObjectName, extensions_of, no_rows};
+ghost use Rattle.gltf_schema.specs.Tree.{end};
+ghost use Rattle.gltf_schema.specs.Defaults.{defaults};
 ghost use Rattle.gltf_parts.specs.MaterialExtensionTable.{material_extension_rows, material_extension_sound, pbr_specular_glossiness_rows, pbr_specular_glossiness_sound, transmission_rows, transmission_sound, volume_rows, volume_sound, specular_rows, specular_sound, ior_rows, ior_sound, emissive_strength_rows, emissive_strength_sound};
 ghost use Rattle.gltf_parts.specs.MaterialExtensionTrees.{material_extension_members, pbr_specular_glossiness_members, transmission_members, volume_members, specular_members, ior_members, emissive_strength_members};
 
-use super::Unlisted;
-use crate::error::Error;
 use crate::extras::Extras;
 use crate::material::StrengthFactor;
-use crate::reading::Reading;
-use crate::schema::Object;
 use crate::texture::Info;
 use gltf_base::Real;
+use gltf_schema::{Error, Object, Reading, Unlisted};
 use serde_json::{Map, Value};
 use std::alloc::Global;
 
@@ -273,7 +270,7 @@ pub struct PbrSpecularFactor(pub Option<[Real; 3]>);
 #[derive(Clone, Debug, Drop)]
 pub struct Unlit {}
 
-#[tactic(auto, unfolding(crate::specs::Taken::take_all, crate::specs::Taken::take_rows))]
+#[tactic(auto, unfolding(gltf_schema::specs::Taken::take_all, gltf_schema::specs::Taken::take_rows))]
 impl Object for Unlit {
     ghost named = { ObjectName.unlit };
 

@@ -3,17 +3,14 @@
 ghost use Rattle.std.specs.Prelude.{◌≡◌, true, false};
 ghost use Rattle.serde_json.specs.Data.{no_members};
 ghost use Rattle.serde_json.specs.View.{members_view};
-ghost use Rattle.gltf_parts.specs.Kind.{ObjectName, extensions_of};
-ghost use Rattle.gltf_parts.specs.Defaults.{defaults};
+ghost use Rattle.gltf_schema.specs.Kind.{ObjectName, extensions_of};
+ghost use Rattle.gltf_schema.specs.Defaults.{defaults};
 ghost use Rattle.gltf_parts.specs.TextureTable.{info_extension_rows, info_extension_sound, texture_transform_rows, texture_transform_sound};
 ghost use Rattle.gltf_parts.specs.TextureTrees.{info_extension_members, texture_transform_members};
 
-use super::Unlisted;
-use crate::error::Error;
 use crate::extras::Extras;
-use crate::reading::Reading;
-use crate::schema::Object;
 use gltf_base::Real;
+use gltf_schema::{Error, Object, Reading, Unlisted};
 use serde_json::{Map, Value};
 use std::alloc::Global;
 

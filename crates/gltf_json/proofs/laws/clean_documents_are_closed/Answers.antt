@@ -1,5 +1,5 @@
 use Rattle.std.proofs.Common.{[]}
-use Rattle.gltf_parts.specs.Tree.{absent}
+use Rattle.gltf_schema.specs.Tree.{absent}
 use Rattle.gltf_json.specs.Reports.{reports_of}
 use Rattle.gltf_json.specs.RootTable.{root_kind}
 use Rattle.gltf_json.specs.RootTrees.{root_tree}

@@ -2,9 +2,9 @@
 
 ghost use Rattle.std.specs.Prelude.{false};
 ghost use Rattle.serde_json.specs.Data.{no_members};
-ghost use Rattle.gltf_parts.specs.Kind.{ObjectName};
+ghost use Rattle.gltf_schema.specs.Kind.{ObjectName};
 
-use crate::extensions::Unlisted;
+use gltf_schema::Unlisted;
 use serde_json::{Map, Value};
 
 /// The extensions of a sparse storage.

@@ -1,5 +1,5 @@
 -- Each row is read in the table's order.
-use Rattle.gltf_parts.proofs.RowByRow.{all_read, read_none, read_row}
+use Rattle.gltf_schema.proofs.RowByRow.{all_read, read_none, read_row}
 use Rattle.gltf_parts.specs.ImageTable.{image_rows}
 use Rattle.gltf_parts.specs.ImageTrees.{image_members}
 use Rattle.gltf_parts.proofs.image.ImageObject.decode_members.Goals as goal

@@ -1,8 +1,8 @@
 -- Each row is read in the table's order.
 use Rattle.std.proofs.Common.{ap}
-use Rattle.gltf_parts.specs.Kind.{always}
-use Rattle.gltf_parts.specs.Fields.{closed_object}
-use Rattle.gltf_parts.proofs.RowByRow.{all_read, marked, read_none, read_row}
+use Rattle.gltf_schema.specs.Kind.{always}
+use Rattle.gltf_schema.specs.Fields.{closed_object}
+use Rattle.gltf_schema.proofs.RowByRow.{all_read, marked, read_none, read_row}
 use Rattle.gltf_parts.specs.MaterialTable.{material_rows}
 use Rattle.gltf_parts.specs.MaterialTrees.{material_members}
 use Rattle.gltf_parts.proofs.material.MaterialObject.decode_members.Goals as goal

@@ -1,5 +1,5 @@
 -- Each row is read in the table's order.
-use Rattle.gltf_parts.proofs.RowByRow.{all_read, read_none, read_row}
+use Rattle.gltf_schema.proofs.RowByRow.{all_read, read_none, read_row}
 use Rattle.gltf_parts.specs.TextureTable.{sampler_rows}
 use Rattle.gltf_parts.specs.TextureTrees.{sampler_members}
 use Rattle.gltf_parts.proofs.texture.SamplerObject.decode_members.Goals as goal

@@ -1,8 +1,8 @@
 -- Each row is read in the table's order.
 use Rattle.std.proofs.Common.{ap}
-use Rattle.gltf_parts.specs.Tree.{index}
-use Rattle.gltf_parts.specs.Kind.{unless}
-use Rattle.gltf_parts.proofs.RowByRow.{all_read, marked, read_none, read_row, source_read}
+use Rattle.gltf_schema.specs.Tree.{index}
+use Rattle.gltf_schema.specs.Kind.{unless}
+use Rattle.gltf_schema.proofs.RowByRow.{all_read, marked, read_none, read_row, source_read}
 use Rattle.gltf_parts.specs.TextureTable.{texture_rows}
 use Rattle.gltf_parts.specs.TextureTrees.{texture_members}
 use Rattle.gltf_parts.proofs.texture.TextureObject.decode_members.Goals as goal

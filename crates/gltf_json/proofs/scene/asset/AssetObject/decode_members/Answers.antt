@@ -1,5 +1,5 @@
 -- Each row is read in the table's order.
-use Rattle.gltf_parts.proofs.RowByRow.{all_read, read_none, read_row}
+use Rattle.gltf_schema.proofs.RowByRow.{all_read, read_none, read_row}
 use Rattle.gltf_json.specs.AssetTable.{asset_rows}
 use Rattle.gltf_json.specs.AssetTrees.{asset_members}
 use Rattle.gltf_json.proofs.scene.asset.AssetObject.decode_members.Goals as goal

@@ -1,5 +1,5 @@
 -- Each row is read in the table's order.
-use Rattle.gltf_parts.proofs.RowByRow.{all_read, read_none, read_row}
+use Rattle.gltf_schema.proofs.RowByRow.{all_read, read_none, read_row}
 use Rattle.gltf_parts.specs.AccessorTable.{sparse_values_rows}
 use Rattle.gltf_parts.specs.AccessorTrees.{sparse_values_members}
 use Rattle.gltf_parts.proofs.accessor.sparse.ValuesObject.decode_members.Goals as goal

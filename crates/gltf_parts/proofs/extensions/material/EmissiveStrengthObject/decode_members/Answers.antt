@@ -1,5 +1,5 @@
 -- Each row is read in the table's order.
-use Rattle.gltf_parts.proofs.RowByRow.{all_read, read_none, read_row}
+use Rattle.gltf_schema.proofs.RowByRow.{all_read, read_none, read_row}
 use Rattle.gltf_parts.specs.MaterialExtensionTable.{emissive_strength_rows}
 use Rattle.gltf_parts.specs.MaterialExtensionTrees.{emissive_strength_members}
 use Rattle.gltf_parts.proofs.extensions.material.EmissiveStrengthObject.decode_members.Goals as goal

@@ -1,6 +1,6 @@
 -- Each row is read in the table's order.
 use Rattle.serde_json.specs.View.{members_view}
-use Rattle.gltf_parts.proofs.RowByRow.{all_kept, read_none, read_row}
+use Rattle.gltf_schema.proofs.RowByRow.{all_kept, read_none, read_row}
 use Rattle.gltf_parts.specs.MaterialExtensionTable.{pbr_specular_glossiness_rows}
 use Rattle.gltf_parts.specs.MaterialExtensionTrees.{pbr_specular_glossiness_members}
 use Rattle.gltf_parts.proofs.extensions.material.PbrSpecularGlossinessObject.decode_members.Goals as goal

@@ -1,6 +1,6 @@
 -- Each row is read in the table's order.
 use Rattle.serde_json.specs.View.{members_view}
-use Rattle.gltf_parts.proofs.RowByRow.{all_kept, read_none, read_row}
+use Rattle.gltf_schema.proofs.RowByRow.{all_kept, read_none, read_row}
 use Rattle.gltf_parts.specs.TextureTable.{info_extension_rows}
 use Rattle.gltf_parts.specs.TextureTrees.{info_extension_members}
 use Rattle.gltf_parts.proofs.extensions.texture.InfoObject.decode_members.Goals as goal

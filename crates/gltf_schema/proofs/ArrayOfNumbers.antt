@@ -1,0 +1,67 @@
+-- Numbers read as the items of a list are those of an array.
+use Rattle.std.proofs.Common.{◌≡◌, ◌≢◌, ℕ, nat_eq, length, List, [], ◌∷◌, map, Option, Some, None, option_map, Result, Ok, Err, refl, ap, ◌∙◌, if◌then◌else◌}
+use Rattle.std.proofs.lemmas.Bool.{eq-eqb, ne_eqb}
+use Rattle.std.proofs.lemmas.List.{length-map}
+use Rattle.std.specs.Option.{ok_or}
+use Rattle.std.specs.Result.{MatchResult, result_ok}
+use Rattle.serde_json.specs.Data.{Num, unsigned, Items, no_items, item}
+use Rattle.serde_json.specs.Find.{as_number}
+use Rattle.gltf_base.specs.Reals.{real_number}
+use Rattle.gltf_base.specs.declared.real.Real.{Real}
+use Rattle.gltf_schema.specs.declared.error.Error.{Error}
+use Rattle.gltf_schema.specs.declared.error.Error.TheVariants as errors
+use Rattle.gltf_schema.specs.Outcome.{Reads, Refuses}
+use Rattle.gltf_schema.specs.Maybe.{◌>>=◌}
+use Rattle.gltf_schema.specs.Tree.{Tree, number, numbers, Trees, end, with_tree, trees}
+use Rattle.gltf_schema.specs.Kind.{Number}
+use Rattle.gltf_schema.specs.Read.{read, read_items, all_numbers}
+use Rattle.gltf_schema.specs.Fields.{real_tree, reals_tree}
+use Rattle.gltf_schema.proofs.TakingOut.{refused}
+use Rattle.gltf_schema.proofs.RowByRow.{refused_then}
+
+abbrev number_of : Tree → Num
+number_of (number x) = x
+number_of _ = unsigned 0
+
+abbrev numbers_of : Trees → List Num
+numbers_of end = []
+numbers_of (with_tree t ts) = number_of t ∷ numbers_of ts
+
+behind : (x : Num) (read : Option Trees) → option_map (λ xs. x ∷ xs) (option_map numbers_of read) ≡ option_map numbers_of (option_map (with_tree (number x)) read)
+behind x None = refl
+behind x (Some ts) = refl
+
+next : (n : Option Num) (ds : Items) → all_numbers ds ≡ option_map numbers_of (read_items (read Number) ds)
+    → (n >>= λ x. option_map (λ xs. x ∷ xs) (all_numbers ds)) ≡ option_map numbers_of (option_map number n >>= λ t. option_map (with_tree t) (read_items (read Number) ds))
+next None ds later = refl
+next (Some x) ds later = rw later (behind x (read_items (read Number) ds))
+
+-- the numbers of an array are its items, each read as a number
+pub numbers_are_items : (ds : Items) → all_numbers ds ≡ option_map numbers_of (read_items (read Number) ds)
+numbers_are_items no_items = refl
+numbers_are_items (item d ds) = next (as_number d) ds (numbers_are_items ds)
+
+numbers_of_reals : (xs : List Real) → numbers_of (trees (map real_tree xs)) ≡ map real_number xs
+numbers_of_reals [] = refl
+numbers_of_reals (x ∷ xs) = ap (λ ns. real_number x ∷ ns) (numbers_of_reals xs)
+
+-- reals that were read as items are the array's numbers
+pub reals_are_numbers : (ds : Items) (xs : List Real) → read_items (read Number) ds ≡ Some (trees (map real_tree xs)) → all_numbers ds ≡ Some (map real_number xs)
+reals_are_numbers ds xs h = numbers_are_items ds ∙ ap (option_map numbers_of) h ∙ ap Some (numbers_of_reals xs)
+
+-- an array of reals is read where they are as many as it has places
+pub array_filled : {W : Type 0} (r : Result (List Real) W) (xs : List Real) (n : ℕ) (w : W) → MatchResult r (λ ys. (ys ≡ xs) × (length xs ≡ n)) (λ v. (v ≡ w) × (length xs ≢ n))
+    → Reads reals_tree (ok_or (result_ok r) errors.Schema) (if nat_eq (length xs) n then Some (reals_tree xs) else None)
+array_filled (Ok ys) xs n w h = rw (h.0, eq-eqb (length xs) n h.1) refl
+array_filled (Err v) xs n w h = rw (ne_eqb (length xs) n h.1) refl
+
+-- so is the array's kind
+pub array_read : (r : Result (List Real) Error) (ds : Items) (xs : List Real) (n : ℕ) → read_items (read Number) ds ≡ Some (trees (map real_tree xs))
+    → Reads reals_tree r (if nat_eq (length xs) n then Some (reals_tree xs) else None)
+    → Reads reals_tree r (all_numbers ds >>= λ ys. if nat_eq (length ys) n then Some (numbers ys) else None)
+array_read r ds xs n items h = rw (reals_are_numbers ds xs items, length-map xs real_number) h
+
+-- an item that is refused refuses the array
+pub array_refused : (e : Error) (ds : Items) (n : ℕ) → Refuses e (read_items (read Number) ds)
+    → Refuses e (all_numbers ds >>= λ ys. if nat_eq (length ys) n then Some (numbers ys) else None)
+array_refused e ds n h = refused_then e _ (all_numbers ds) (rw (numbers_are_items ds) (refused e numbers_of _ h))

@@ -1,0 +1,37 @@
+-- The trees of an object's fields.
+use Rattle.std.specs.Prelude.{List, map, String, string_bytes}
+use Rattle.std.specs.declared.alloc.Global.{Global}
+use Rattle.serde_json.specs.Data.{no_members}
+use Rattle.serde_json.specs.View.{view}
+use Rattle.serde_json.specs.declared.value.Value.{Value}
+use Rattle.gltf_base.specs.Indexes.{index_number}
+use Rattle.gltf_base.specs.Reals.{real_number}
+use Rattle.gltf_base.specs.declared.index.IndexTo.{IndexTo}
+use Rattle.gltf_base.specs.declared.real.Real.{Real}
+use Rattle.gltf_base.specs.declared.validation.USize64.{USize64}
+use Rattle.gltf_schema.specs.Tree.{Tree, Trees, trees, whole, number, numbers, text, any, index, list, object}
+
+abbrev pub index_tree : {P : Type 0} → IndexTo P → Tree
+index_tree i = index (index_number i)
+
+abbrev pub size_tree : USize64 → Tree
+size_tree n = whole n.0
+
+abbrev pub real_tree : Real → Tree
+real_tree x = number (real_number x)
+
+abbrev pub reals_tree : List Real → Tree
+reals_tree xs = numbers (map real_number xs)
+
+abbrev pub text_tree : String Global → Tree
+text_tree s = text (string_bytes s)
+
+abbrev pub any_tree : Value → Tree
+any_tree v = any (view v)
+
+abbrev pub list_tree : {X : Type 0} → (X → Tree) → List X → Tree
+list_tree tree xs = list (trees (map tree xs))
+
+-- an object that keeps no other members
+abbrev pub closed_object : Trees → Tree
+closed_object ts = object ts no_members

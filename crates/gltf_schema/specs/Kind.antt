@@ -1,0 +1,112 @@
+-- The legend of the table: what a member may be, and when it is written.
+use Rattle.std.specs.Prelude.{ℕ, List, Bool, false, ◌||◌}
+use Rattle.std.specs.Str.{bytes_eq}
+use Rattle.gltf_base.specs.Lists.{ListName}
+use Rattle.gltf_base.specs.Spelling.{Spelling}
+use Rattle.gltf_base.specs.declared.choice.Form.{Form}
+use Rattle.gltf_schema.specs.Tree.{Tree}
+
+-- the objects; some have an extension object of their own
+pub data ObjectName : Type 0 where
+  accessor : ObjectName
+  sparse : ObjectName
+  sparse_indices : ObjectName
+  sparse_values : ObjectName
+  animation : ObjectName
+  animation_channel : ObjectName
+  animation_target : ObjectName
+  animation_sampler : ObjectName
+  asset : ObjectName
+  buffer : ObjectName
+  buffer_view : ObjectName
+  camera : ObjectName
+  orthographic : ObjectName
+  perspective : ObjectName
+  image : ObjectName
+  material : ObjectName
+  pbr_metallic_roughness : ObjectName
+  normal_texture : ObjectName
+  occlusion_texture : ObjectName
+  texture_info : ObjectName
+  mesh : ObjectName
+  primitive : ObjectName
+  morph_target : ObjectName
+  node : ObjectName
+  scene : ObjectName
+  skin : ObjectName
+  sampler : ObjectName
+  texture : ObjectName
+  root : ObjectName
+  lights : ObjectName
+  light : ObjectName
+  light_of_node : ObjectName
+  spot : ObjectName
+  variants : ObjectName
+  variant : ObjectName
+  variant_mappings : ObjectName
+  variant_mapping : ObjectName
+  texture_transform : ObjectName
+  pbr_specular_glossiness : ObjectName
+  unlit : ObjectName
+  transmission : ObjectName
+  volume : ObjectName
+  specular : ObjectName
+  ior : ObjectName
+  emissive_strength : ObjectName
+  extensions_of : ObjectName → ObjectName
+
+-- when a member may be missing, and when it is written
+pub data Mark : Type 0 where
+  -- it has to be there, and is always written
+  required : Mark
+  -- absent where it is missing or null; written where it is there
+  optional : Mark
+  -- the tree where it is missing; always written
+  always : Tree → Mark
+  -- the tree where it is missing; written where it is another
+  unless : Tree → Mark
+  -- absent where it is missing, and null is refused; written where it is there
+  sometimes : Mark
+  -- as optional, but absent is written as null
+  or_null : Mark
+  -- no document with it is read so far
+  not_yet : Mark
+
+mutual
+  pub data Kind : Type 0 where
+    -- a number below 2^32, a place in a list of the document
+    IndexInto : ListName → Kind
+    -- the image of a texture, as an index
+    SourceImage : Kind
+    -- the sampler of a channel, as an index into its own animation
+    ChannelSampler : Kind
+    U32 : Kind
+    U64 : Kind
+    -- a number of bytes from one element to the next
+    Stride : Kind
+    Number : Kind
+    Numbers : ℕ → Kind
+    Text : Kind
+    Truth : Kind
+    Any : Kind
+    -- one of the spellings that are listed, else invalid
+    Choice : Form → List Spelling → Kind
+    -- a map of semantics to indexes into the accessors
+    Attributes : Kind
+    ListOf : Kind → Kind
+    -- its name, its rows, and whether members that no row names are kept
+    Object : ObjectName → Rows → Bool → Kind
+
+  pub data Rows : Type 0 where
+    no_rows : Rows
+    row : List ℕ → Mark → Kind → Rows → Rows
+
+-- a line of the table: a member's name, mark and kind
+infixr 4 ◌◂◌
+abbrev pub ◌◂◌ : List ℕ × Mark × Kind → Rows → Rows
+line ◂ rows = row line.0 line.1 line.2 rows
+
+-- some row has the name
+abbrev pub has_row : List ℕ → Rows → Bool
+has_row n no_rows = false
+has_row n (row m mark kind rows) = bytes_eq m n || has_row n rows

@@ -1,0 +1,13 @@
+pub mod Maybe
+pub mod Tree
+pub mod Kind
+pub mod Read
+pub mod Plain
+pub mod Outcome
+pub mod ErrorText
+pub mod Taken
+pub mod Readings
+pub mod Leaves
+pub mod Fields
+pub mod Defaults
+pub mod Extensions

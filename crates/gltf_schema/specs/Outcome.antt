@@ -1,0 +1,15 @@
+-- What a call that reads answers, want of memory aside.
+use Rattle.std.specs.Prelude.{◌≡◌, Option, Some, None, Result, Ok, Err}
+use Rattle.gltf_schema.specs.declared.error.Error.{Error}
+use Rattle.gltf_schema.specs.declared.error.Error.TheVariants as errors
+
+-- only what reads nothing is refused, and as no glTF
+abbrev pub Refuses : {Y : Type 0} → Error → Option Y → Type 0
+Refuses (errors.Memory e) read = Unit {0}
+Refuses errors.Schema read = read ≡ None
+Refuses _ read = ⊥
+
+-- the value, seen by view, is what reading gives
+abbrev pub Reads : {X Y : Type 0} → (X → Y) → Result X Error → Option Y → Type 0
+Reads view (Ok x) read = read ≡ Some (view x)
+Reads view (Err e) read = Refuses e read

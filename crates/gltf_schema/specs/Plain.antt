@@ -1,0 +1,54 @@
+-- Trees in which nothing is said in a way that reading would not give.
+use Rattle.std.specs.Prelude.{Bool, true, false, not, ◌&&◌, ◌||◌}
+use Rattle.std.specs.List.{list_any}
+use Rattle.serde_json.specs.Data.{null, Members, no_members, member}
+use Rattle.gltf_base.specs.Spelling.{is_spelled}
+use Rattle.gltf_schema.specs.Tree.{Tree, any, chosen, list, object, Trees, end, with_tree}
+use Rattle.gltf_schema.specs.Kind.{Mark, optional, always, unless, Kind, Choice, ListOf, Object, Rows, no_rows, row, has_row}
+
+-- an optional member that is there and null
+abbrev pub is_null_kept : Mark → Tree → Bool
+is_null_kept optional (any null) = true
+is_null_kept _ _ = false
+
+-- no member has a row's name
+abbrev pub none_named : Rows → Members → Bool
+none_named rows no_members = true
+none_named rows (member n d ms) = not (has_row n rows) && none_named rows ms
+
+abbrev pub are_none : Members → Bool
+are_none no_members = true
+are_none (member n d ms) = false
+
+abbrev pub all_trees : (Tree → Bool) → Trees → Bool
+all_trees p end = true
+all_trees p (with_tree t ts) = p t && all_trees p ts
+
+abbrev mutual
+  -- no null where null is absent, no row's name among the others, and each choice one that is read
+  pub is_plain : Kind → Tree → Bool
+  is_plain (Choice form listed) (chosen s) = list_any (λ t. is_spelled t s) listed
+  is_plain (ListOf kind) (list ts) = all_trees (is_plain kind) ts
+  is_plain (Object named rows keeps) (object ts others) = are_plain rows ts && none_named rows others && (keeps || are_none others)
+  is_plain _ _ = true
+
+  pub are_plain : Rows → Trees → Bool
+  are_plain (row n mark kind rows) (with_tree t ts) = not (is_null_kept mark t) && is_plain kind t && are_plain rows ts
+  are_plain _ _ = true
+
+-- a default is itself plain
+abbrev pub has_plain_default : Mark → Kind → Bool
+has_plain_default (always t) kind = is_plain kind t
+has_plain_default (unless t) kind = is_plain kind t
+has_plain_default _ kind = true
+
+abbrev mutual
+  -- no object of the kind has two rows of one name, and each default is plain
+  pub is_sound : Kind → Bool
+  is_sound (ListOf kind) = is_sound kind
+  is_sound (Object named rows keeps) = are_sound rows
+  is_sound _ = true
+
+  pub are_sound : Rows → Bool
+  are_sound no_rows = true
+  are_sound (row n mark kind rows) = not (has_row n rows) && has_plain_default mark kind && is_sound kind && are_sound rows

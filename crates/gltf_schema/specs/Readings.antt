@@ -1,0 +1,55 @@
+-- Rows read from members that are under way, or that failed.
+use Rattle.std.specs.Prelude.{◌≡◌, ℕ, List, Result, Ok, Err}
+use Rattle.serde_json.specs.Data.{Members, no_members}
+use Rattle.serde_json.specs.View.{members_view}
+use Rattle.std.specs.Prelude.{String}
+use Rattle.std.specs.declared.alloc.Global.{Global}
+use Rattle.std.specs.BTreeMap.{BTreeMap}
+use Rattle.serde_json.specs.declared.value.Value.{Value}
+use Rattle.gltf_schema.specs.declared.error.Error.{Error}
+use Rattle.gltf_schema.specs.declared.reading.Reading.{Reading}
+use Rattle.gltf_schema.specs.Outcome.{Reads}
+use Rattle.gltf_schema.specs.Tree.{Tree, Trees}
+use Rattle.gltf_schema.specs.Kind.{Mark, Kind, Rows}
+use Rattle.gltf_schema.specs.Taken.{take_member, take_rows}
+
+-- the members that are left, or why reading failed
+abbrev pub members_or_error : Result (BTreeMap (String Global) Value) Error → Result Members Error
+members_or_error (Ok m) = Ok (members_view m.entries)
+members_or_error (Err e) = Err e
+
+abbrev pub reading_state : Reading → Result Members Error
+reading_state r = members_or_error r.state
+
+-- a row's tree and the members left after it; what failed before stays
+abbrev pub MemberFrom : Result Members Error → List ℕ → Mark → Kind → Tree → Result Members Error → Type 0
+MemberFrom (Ok ms) n mark kind t after = Reads (λ left. (t, left)) after (take_member n mark kind ms)
+MemberFrom (Err e) n mark kind t after = after ≡ Err e
+
+abbrev pub RowsFrom : Result Members Error → Rows → Trees → Result Members Error → Type 0
+RowsFrom (Ok ms) rows ts after = Reads (λ left. (ts, left)) after (take_rows rows ms)
+RowsFrom (Err e) rows ts after = after ≡ Err e
+
+-- one row was read
+pub record ReadsMember (before : Result Members Error) (n : List ℕ) (mark : Mark) (kind : Kind) (t : Tree) (after : Result Members Error) : Type 0 where
+  pub is : MemberFrom before n mark kind t after
+
+-- each row was
+pub record ReadsRows (before : Result Members Error) (rows : Rows) (ts : Trees) (after : Result Members Error) : Type 0 where
+  pub is : RowsFrom before rows ts after
+
+abbrev pub OthersFrom : Result Members Error → Members → Result Members Error → Type 0
+OthersFrom (Ok ms) others after = (others ≡ ms) × (after ≡ Ok no_members)
+OthersFrom (Err e) others after = after ≡ Err e
+
+-- the members that are left were taken out
+pub record TakesOthers (before : Result Members Error) (others : Members) (after : Result Members Error) : Type 0 where
+  pub is : OthersFrom before others after
+
+abbrev pub FinishFrom : {X : Type 0} → Result Members Error → X → Result X Error → Type 0
+FinishFrom (Ok ms) x result = result ≡ Ok x
+FinishFrom (Err e) x result = result ≡ Err e
+
+-- an object made of what was read, or the error that reading met
+pub record Finishes {X : Type 0} (before : Result Members Error) (x : X) (result : Result X Error) : Type 0 where
+  pub is : FinishFrom before x result

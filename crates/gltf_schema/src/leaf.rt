@@ -1,0 +1,193 @@
+//! Kinds without rows.
+
+ghost use Rattle.std.specs.Prelude.{◌≡◌, map, string_bytes, refl};
+ghost use Rattle.serde_json.specs.View.{view, items_view};
+ghost use Rattle.gltf_base.specs.Indexes.{index_number};
+ghost use Rattle.gltf_base.specs.Reals.{real_number};
+ghost use Rattle.gltf_schema.specs.Tree.{whole, number, text, truth, any, index, list, trees};
+ghost use Rattle.gltf_schema.specs.Kind.{IndexInto, U32, U64, Number, Numbers, Text, Truth, Any, ListOf};
+ghost use Rattle.gltf_schema.specs.Read.{read, read_items, small_number as number_of_32_bits};
+ghost use Rattle.gltf_schema.specs.Fields.{reals_tree};
+ghost use Rattle.gltf_schema.specs.Outcome.{Reads};
+ghost use Rattle.gltf_schema.specs.Leaves.{checked_tree, choice_of, checked_tree-present};
+
+use crate::error::Error;
+use crate::schema::Schema;
+use gltf_base::choice::{Choice, Form, Spelling, item_of};
+use gltf_base::validation::{Checked, USize64};
+use gltf_base::{IndexTo, Names, Real};
+use serde_json::Value;
+use std::alloc::Global;
+
+impl Schema for u32 {
+    ghost kind = { U32 };
+
+    ghost tree = { whole };
+
+    ghost present = { λ _. refl };
+
+    fn decode(_alloc: Global, value: Value) -> Result<u32, Error> {
+        small_number(&value).ok_or(Error::Schema)
+    }
+}
+
+impl Schema for USize64 {
+    ghost kind = { U64 };
+
+    ghost tree = { λ n. whole n.0 };
+
+    ghost present = { λ _. refl };
+
+    fn decode(_alloc: Global, value: Value) -> Result<USize64, Error> {
+        match value.as_u64() {
+            Some(n) => Ok(USize64(n)),
+            None => Err(Error::Schema),
+        }
+    }
+}
+
+impl<P: Names> Schema for IndexTo<P> {
+    ghost kind = { IndexInto P.list };
+
+    ghost tree = { λ i. index (index_number i) };
+
+    ghost present = { λ _. refl };
+
+    fn decode(_alloc: Global, value: Value) -> Result<IndexTo<P>, Error> {
+        match small_number(&value) {
+            Some(n) => Ok(IndexTo::from_number(n)),
+            None => Err(Error::Schema),
+        }
+    }
+}
+
+impl Schema for Real {
+    ghost kind = { Number };
+
+    ghost tree = { λ x. number (real_number x) };
+
+    ghost present = { λ _. refl };
+
+    fn decode(_alloc: Global, value: Value) -> Result<Real, Error> {
+        match Real::from_value(value) {
+            Ok(number) => Ok(number),
+            Err(_) => Err(Error::Schema),
+        }
+    }
+}
+
+impl<const N: usize> Schema for [Real; N] {
+    ghost kind = { Numbers N };
+
+    ghost tree = { reals_tree };
+
+    ghost present = { λ _. refl };
+
+    fn decode(alloc: Global, value: Value) -> Result<[Real; N], Error> {
+        let Value::Array(items) = value else {
+            return Err(Error::Schema);
+        };
+        let found: Vec<Real> = decode_items(alloc, items)?;
+        <[Real; N]>::try_from(found).ok().ok_or(Error::Schema)
+    }
+}
+
+impl Schema for bool {
+    ghost kind = { Truth };
+
+    ghost tree = { truth };
+
+    ghost present = { λ _. refl };
+
+    fn decode(_alloc: Global, value: Value) -> Result<bool, Error> {
+        match value {
+            Value::Bool(b) => Ok(b),
+            _ => Err(Error::Schema),
+        }
+    }
+}
+
+impl Schema for String {
+    ghost kind = { Text };
+
+    ghost tree = { λ s. text (string_bytes s) };
+
+    ghost present = { λ _. refl };
+
+    fn decode(_alloc: Global, value: Value) -> Result<String, Error> {
+        match value {
+            Value::String(s) => Ok(s),
+            _ => Err(Error::Schema),
+        }
+    }
+}
+
+impl Schema for Value {
+    ghost kind = { Any };
+
+    ghost tree = { λ v. any (view v) };
+
+    ghost present = { λ _. refl };
+
+    fn decode(_alloc: Global, value: Value) -> Result<Value, Error> {
+        Ok(value)
+    }
+}
+
+impl<T: Choice> Schema for Checked<T> {
+    ghost kind = { choice_of T.form T.spelling T.listed };
+
+    ghost tree = { checked_tree T.spelling };
+
+    ghost present = { checked_tree-present T.spelling };
+
+    fn decode(_alloc: Global, value: Value) -> Result<Checked<T>, Error> {
+        match T::form() {
+            Form::Number => match value.as_u64() {
+                Some(n) => Ok(item_of(Spelling::Number(n))),
+                None => Err(Error::Schema),
+            },
+            Form::Name => match value.as_str() {
+                Some(name) => Ok(item_of(Spelling::Name(name))),
+                None => Err(Error::Schema),
+            },
+        }
+    }
+}
+
+impl<T: Schema> Schema for Vec<T> {
+    ghost kind = { ListOf T.kind };
+
+    ghost tree = { λ v. list (trees (map T.tree v.items)) };
+
+    ghost present = { λ _. refl };
+
+    fn decode(alloc: Global, value: Value) -> Result<Vec<T>, Error> {
+        let Value::Array(items) = value else {
+            return Err(Error::Schema);
+        };
+        decode_items(alloc, items)
+    }
+}
+
+/// A whole number of 32 bits.
+fn small_number(value: &Value) -> Option<u32>
+    ensures { result ≡ number_of_32_bits (view value.now) }
+{
+    match value.as_u64() {
+        Some(n) if n <= u64::from(u32::MAX) => Some(n as u32),
+        _ => None,
+    }
+}
+
+/// Each item, in order.
+fn decode_items<T: Schema>(alloc: Global, items: Vec<Value>) -> Result<Vec<T>, Error>
+    ensures { Reads (λ v. trees (map T.tree v.items)) result
+        (read_items (read T.kind) (items_view items.items)) }
+{
+    let mut found = Vec::with_capacity(alloc, items.len())?;
+    for item in items {
+        found.push(T::decode(alloc, item)?)?;
+    }
+    Ok(found)
+}

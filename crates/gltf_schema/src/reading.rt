@@ -1,0 +1,126 @@
+//! An object's members as they are read, row by row.
+
+ghost use Rattle.std.specs.Prelude.{◌≡◌, Ok, map};
+ghost use Rattle.serde_json.specs.View.{members_view};
+ghost use Rattle.gltf_schema.specs.Tree.{Tree, tree_or_absent, trees, list as list_tree, end, absent};
+ghost use Rattle.gltf_schema.specs.Kind.{required as is_required, optional as is_optional, always, unless, sometimes as is_sometimes, or_null, not_yet as is_not_yet, Any, ListOf};
+ghost use Rattle.gltf_schema.specs.Readings.{reading_state, ReadsMember, TakesOthers, Finishes};
+
+use crate::blank::Blank;
+use crate::error::Error;
+use crate::members::{list, not_yet, optional, or_default, required, sometimes};
+use crate::schema::Schema;
+use serde_json::{Map, Value};
+use std::alloc::Global;
+use std::mem;
+
+/// The members of an object that are not read yet, or why they are not read.
+///
+/// Each method reads one row of the table. Once a row was refused, the further ones answer blank
+/// values, and [`Reading::finish`] drops them and answers the error.
+#[derive(Drop)]
+pub struct Reading {
+    alloc: Global,
+    state: Result<Map<String, Value>, Error>,
+}
+
+/// Reads one row on by a call, or leaves a blank value.
+macro_rules! read_on {
+    ($self:ident, $read:ident($($argument:expr),*), $blank:expr) => {
+        match &mut $self.state {
+            Ok(members) => match $read($self.alloc, members, $($argument),*) {
+                Ok(value) => value,
+                Err(e) => {
+                    $self.state = Err(e);
+                    $blank
+                }
+            },
+            Err(_) => $blank,
+        }
+    };
+}
+
+impl Reading {
+    /// Begins to read the members of an object.
+    pub fn from_members(alloc: Global, members: Map<String, Value>) -> Reading
+        ensures { reading_state result ≡ Ok (members_view members.entries) }
+    {
+        Reading {
+            alloc,
+            state: Ok(members),
+        }
+    }
+
+    /// The members that no row took.
+    pub fn others(&mut self) -> Map<String, Value>
+        ensures { TakesOthers (reading_state self.old) (members_view result.entries)
+            (reading_state self.new) }
+    {
+        match &mut self.state {
+            Ok(members) => mem::replace(members, Map::new(self.alloc)),
+            Err(_) => Map::new(self.alloc),
+        }
+    }
+
+    /// The object that was made of what was read, or why it could not be read.
+    pub fn finish<T: Drop>(self, object: T) -> Result<T, Error>
+        ensures { Finishes (reading_state self) object result }
+    {
+        match self.state {
+            Ok(_) => Ok(object),
+            Err(e) => Err(e),
+        }
+    }
+
+    /// A member that has to be there.
+    pub fn required<T: Schema + Blank>(&mut self, name: &str) -> T
+        ensures { ReadsMember (reading_state self.old) name.now is_required T.kind
+            (T.tree result) (reading_state self.new) }
+    {
+        read_on!(self, required(name), T::blank(self.alloc))
+    }
+
+    /// A member that is absent where it is missing or null.
+    pub fn optional<T: Schema>(&mut self, name: &str) -> Option<T>
+        ensures left_out { ReadsMember (reading_state self.old) name.now is_optional T.kind
+            (tree_or_absent T.tree result) (reading_state self.new) }
+        ensures or_null { ReadsMember (reading_state self.old) name.now or_null T.kind
+            (tree_or_absent T.tree result) (reading_state self.new) }
+    {
+        read_on!(self, optional(name), None)
+    }
+
+    /// A member that is absent where it is missing; null is refused.
+    pub fn sometimes<T: Schema>(&mut self, name: &str) -> Option<T>
+        ensures { ReadsMember (reading_state self.old) name.now is_sometimes T.kind
+            (tree_or_absent T.tree result) (reading_state self.new) }
+    {
+        read_on!(self, sometimes(name), None)
+    }
+
+    /// A list that is empty where its member is missing.
+    pub fn list<T: Schema>(&mut self, name: &str) -> Vec<T>
+        ensures { ReadsMember (reading_state self.old) name.now (unless (list_tree end)) (ListOf T.kind)
+            (list_tree (trees (map T.tree result.items))) (reading_state self.new) }
+    {
+        read_on!(self, list(name), Vec::new(self.alloc))
+    }
+
+    /// A member that is the default where it is missing, whether or not it is written then.
+    pub fn or_default<T: Schema + Blank>(&mut self, name: &str, default: T) -> T
+        ensures always { ReadsMember (reading_state self.old) name.now (always (T.tree default)) T.kind
+            (T.tree result) (reading_state self.new) }
+        ensures unless { ReadsMember (reading_state self.old) name.now (unless (T.tree default)) T.kind
+            (T.tree result) (reading_state self.new) }
+    {
+        read_on!(self, or_default(name, default), T::blank(self.alloc))
+    }
+
+    /// A member with which no document is read so far.
+    pub fn not_yet(&mut self, name: &str)
+        ensures { ReadsMember (reading_state self.old) name.now is_not_yet Any
+            absent (reading_state self.new) }
+    {
+        read_on!(self, not_yet(name), ())
+    }
+}

@@ -1,0 +1,74 @@
+//! What is read by the table.
+
+ghost use Rattle.std.specs.Prelude.{◌≡◌, Bool, true, false, IsTrue, IfOk, Err, refl};
+ghost use Rattle.serde_json.specs.Data.{Members};
+ghost use Rattle.serde_json.specs.View.{view, members_view};
+ghost use Rattle.gltf_schema.specs.Tree.{Tree, Trees, object, is_absent};
+ghost use Rattle.gltf_schema.specs.Kind.{Kind, ObjectName, Rows, Object as object_kind};
+ghost use Rattle.gltf_schema.specs.Read.{read};
+ghost use Rattle.gltf_schema.specs.Plain.{is_plain, are_sound};
+ghost use Rattle.gltf_schema.specs.Taken.{take_all};
+ghost use Rattle.gltf_schema.specs.Leaves.{wants_object};
+ghost use Rattle.gltf_schema.specs.Outcome.{Reads};
+
+use crate::error::Error;
+use serde_json::{Map, Value};
+use std::alloc::Global;
+
+/// A type whose values are read as those of a kind of the table.
+pub trait Schema: Drop {
+    ghost kind: { Kind };
+
+    ghost tree: { Self → Tree };
+
+    /// The value that a JSON value is: `Ok` exactly where the table reads it, as the table reads it,
+    /// else `Schema`; `Memory` may come in place of either where a growth was refused.
+    fn decode(alloc: Global, value: Value) -> Result<Self, Error>
+        ensures by_table { Reads tree result (read kind (view value)) }
+        // What is no object needs no memory to be refused.
+        ensures no_object { IsTrue (wants_object kind (view value)) → result ≡ Err Error.Schema };
+
+    // What is there is not seen as missing.
+    ghost present: { (x : Self) → is_absent (tree x) ≡ false };
+}
+
+/// An object of the table, by its rows.
+pub trait Object: Drop {
+    ghost named: { ObjectName };
+
+    ghost rows: { Rows };
+
+    ghost keeps: { Bool };
+
+    ghost members: { Self → Trees };
+
+    ghost unknown: { Self → Members };
+
+    /// The object of these members.
+    fn decode_members(alloc: Global, found: Map<String, Value>) -> Result<Self, Error>
+        ensures { Reads (λ x. (members x, unknown x)) result
+            (take_all rows keeps (members_view found.entries)) };
+
+    // No two rows have one name, here and below, and each default is plain.
+    ghost sound: { are_sound rows ≡ true };
+}
+
+impl<T: Object> Schema for T {
+    ghost kind = { object_kind T.named T.rows T.keeps };
+
+    ghost tree = { λ x. object (T.members x) (T.unknown x) };
+
+    ghost present = { λ _. refl };
+
+    fn decode(alloc: Global, value: Value) -> Result<T, Error>
+        ensures by_table { Reads (λ x. object (T.members x) (T.unknown x)) result (read (object_kind T.named T.rows T.keeps) (view value)) }
+        ensures no_object { IsTrue (wants_object (object_kind T.named T.rows T.keeps) (view value)) → result ≡ Err Error.Schema }
+        // What was read could be written and read back as it is.
+        ensures plain { IfOk result (λ x. is_plain (object_kind T.named T.rows T.keeps) (object (T.members x) (T.unknown x)) ≡ true) }
+    {
+        match value {
+            Value::Object(found) => T::decode_members(alloc, found),
+            _ => Err(Error::Schema),
+        }
+    }
+}

@@ -1,0 +1,96 @@
+//! Devices that fail, and memory that is refused.
+
+use super::devices::{Giver, Taker, Wall};
+use super::hog::Hog;
+use gltf_json::root::{ByteIn, Failed, Watched};
+use gltf_json::{Error, Root};
+use gltf_lines::run;
+use std::test::Fail;
+
+const DOCUMENT: &str = r#"{"asset":{"version":"2.0"}}"#;
+
+const FAULTY: &str =
+    r#"{"asset":{"version":"2.0"},"accessors":[{"count":1,"componentType":5126,"type":"VEC3"}]}"#;
+
+const REFUSAL: &[u8] = b"refused: input or output\n";
+
+#[test]
+fn failed_is_printed(rt: HostRuntime) -> Result<(), Fail> {
+    assert_eq!(rt;
+        format!(in rt.alloc(); "{Failed}")?.as_str(),
+        "device failed"
+    );
+    Ok(())
+}
+
+#[test]
+fn readers_that_fail(rt: HostRuntime) {
+    for fails_at in 1..DOCUMENT.len() + 2 {
+        let mut reader = Watched::new(Giver::new(DOCUMENT, fails_at));
+        let mut writer = Watched::new(Vec::new(rt.alloc()));
+        assert!(rt; run(rt.alloc(), &mut reader, &mut writer) == 4);
+        assert!(rt; reader.failed());
+        assert_eq!(rt; writer.into_inner().as_slice(), REFUSAL);
+
+        let mut reader = Watched::new(Giver::new(DOCUMENT, fails_at));
+        assert!(rt; matches!(Root::from_reader(rt.alloc(), &mut reader), Err(Error::Read)));
+    }
+    let mut reader = Watched::new(Giver::new(DOCUMENT, 0));
+    assert!(rt; Root::from_reader(rt.alloc(), &mut reader).is_ok());
+    assert!(rt; !reader.failed());
+    assert!(rt; matches!(reader.read(&mut [0]), Ok(0)));
+}
+
+#[test]
+fn writers_that_are_full(rt: HostRuntime) {
+    for (document, due) in [
+        (DOCUMENT, b"clean\n".as_slice()),
+        ("{}", b"refused: not a glTF document\n".as_slice()),
+    ] {
+        for room in 0..due.len() {
+            let mut reader = Watched::new(Giver::new(document, 0));
+            let mut writer = Watched::new(Taker {
+                taken: Vec::new(rt.alloc()),
+                room,
+            });
+            assert!(rt; run(rt.alloc(), &mut reader, &mut writer) == 4);
+            assert!(rt; writer.failed());
+            assert_eq!(rt; writer.into_inner().taken.as_slice(), &due[..room]);
+        }
+    }
+}
+
+#[test]
+fn writers_that_take_nothing(rt: HostRuntime) {
+    let mut reader = Watched::new(Giver::new(DOCUMENT, 0));
+    let mut writer = Watched::new(Wall);
+    assert!(rt; run(rt.alloc(), &mut reader, &mut writer) == 4);
+    assert!(rt; writer.failed());
+}
+
+// Under `rt try` nothing is refused, and this test fails: its allocator is another one.
+#[test]
+fn growths_that_are_refused(rt: HostRuntime) -> Result<(), Fail> {
+    let mut taken = Vec::with_capacity(rt.alloc(), 100)?;
+    let mut hog = Hog::take_all(rt.alloc(), 4096)?;
+    for refusals in 0..4096u32 {
+        let mut reader = Watched::new(Giver::new(FAULTY, 0));
+        let mut writer = Watched::new(Taker { taken, room: 100 });
+        let status = run(rt.alloc(), &mut reader, &mut writer);
+        taken = writer.into_inner().taken;
+        if status == 1 {
+            drop(hog);
+            assert_eq!(rt;
+                taken.as_slice(),
+                b"accessors[0].bufferView: Missing data\n".as_slice()
+            );
+            assert!(rt; refusals > 0);
+            return Ok(());
+        }
+        assert!(rt; status == 4);
+        assert_eq!(rt; taken.as_slice(), REFUSAL);
+        taken.clear();
+        assert!(rt; hog.give_back());
+    }
+    Err(Fail::from(Error::TooLong))
+}

@@ -20,4 +20,3 @@ pub mod validation;
 pub use index::{Index, IndexTo, Listed, Names, PushError};
 pub use path::{KeyStep, Path, Step, Steps};
 pub use real::Real;
-

@@ -2,8 +2,8 @@
 use Rattle.std.specs.Prelude.{◌≡◌, true, false, codes, refl}
 use Rattle.gltf_schema.specs.Tree.{list, end}
 use Rattle.gltf_schema.specs.Kind.{required, unless, not_yet, Kind, Any, ListOf, Object, ObjectName, Rows, no_rows, ◌◂◌}
-use Rattle.gltf_parts.specs.AccessorTable.{accessor_kind, accessor_sound}
-use Rattle.gltf_parts.specs.BufferTable.{buffer_kind, buffer_sound, view_kind, view_sound}
+use Rattle.gltf_data.specs.AccessorTable.{accessor_kind, accessor_sound}
+use Rattle.gltf_data.specs.BufferTable.{buffer_kind, buffer_sound, view_kind, view_sound}
 use Rattle.gltf_schema.specs.Plain.{are_sound}
 use Rattle.gltf_json.specs.AssetTable.{asset_kind, asset_sound}
 

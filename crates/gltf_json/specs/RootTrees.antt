@@ -2,8 +2,8 @@
 use Rattle.std.specs.Prelude.{[], ◌∷◌}
 use Rattle.gltf_schema.specs.Tree.{Tree, Trees, trees, absent}
 use Rattle.gltf_schema.specs.Fields.{list_tree, closed_object}
-use Rattle.gltf_parts.specs.AccessorTrees.{accessor_members}
-use Rattle.gltf_parts.specs.BufferTrees.{buffer_members, view_members}
+use Rattle.gltf_data.specs.AccessorTrees.{accessor_members}
+use Rattle.gltf_data.specs.BufferTrees.{buffer_members, view_members}
 use Rattle.gltf_json.specs.AssetTrees.{asset_members}
 use Rattle.gltf_json.specs.declared.root.Root.{Root}
 

@@ -8,7 +8,7 @@ ghost use Rattle.gltf_schema.specs.Kind.{Kind};
 ghost use Rattle.gltf_json.specs.Reports.{reports_of};
 ghost use Rattle.gltf_json.specs.Places.{reports_by_places};
 ghost use Rattle.gltf_json.specs.Closed.{IsClosed};
-ghost use Rattle.gltf_parts.specs.AccessorTable.{accessor_rows};
+ghost use Rattle.gltf_data.specs.AccessorTable.{accessor_rows};
 ghost use Rattle.gltf_json.specs.RowNames.{name_at};
 ghost use Rattle.gltf_json.specs.RootTable.{root_kind, root_rows};
 ghost use Rattle.gltf_json.specs.RootTrees.{root_tree};

@@ -1,9 +1,3 @@
-pub mod AccessorTable
-pub mod AccessorTrees
-pub mod BufferTable
-pub mod BufferTrees
-pub mod ImageTable
-pub mod ImageTrees
 pub mod TextureTable
 pub mod TextureTrees
 pub mod MaterialExtensionTable

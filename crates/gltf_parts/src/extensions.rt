@@ -1,7 +1,6 @@
 //! Extension objects: what stands behind the member `extensions` of an object.
 
-pub mod accessor;
-pub mod buffer;
-pub mod image;
 pub mod material;
 pub mod texture;
+
+pub use gltf_data::extensions::{accessor, buffer, image};

@@ -1,8 +1,7 @@
 //! Laws of the crate's types. Each function does nothing; its contract is the law.
 
-ghost use Rattle.std.specs.Prelude.{◌≡◌, ◌==◌, None};
+ghost use Rattle.std.specs.Prelude.{◌≡◌, None};
 
-use crate::buffer::Stride;
 use crate::extensions::material::{
     AttenuationColor, AttenuationDistance, EmissiveStrengthFactor, IndexOfRefraction,
     PbrDiffuseFactor, PbrSpecularFactor, SpecularColorFactor, SpecularFactor, ThicknessFactor,
@@ -12,14 +11,6 @@ use crate::extensions::texture::{
     TextureTransformOffset, TextureTransformRotation, TextureTransformScale,
 };
 use crate::material::{EmissiveFactor, PbrBaseColorFactor, StrengthFactor};
-use std::hash::Hash;
-
-/// Strides are equal and hash as their numbers, and the default one is 0.
-pub fn strides_are_compared_as_numbers()
-    ensures equality { (a b : _) → ⟦<Stride as PartialEq>⟧.eq a b ≡ (a.0 == b.0) }
-    ensures hash { (a : _) → ⟦<Stride as Hash>⟧.hash_input a ≡ ⟦<usize as Hash>⟧.hash_input a.0 }
-    ensures default { (a : _) → ⟦<Stride as Default>⟧.is_default a → a.0 ≡ 0 }
-{}
 
 /// The default of each factor is `None`.
 pub fn factors_are_absent_by_default()

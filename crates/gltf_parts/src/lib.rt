@@ -1,13 +1,11 @@
-//! The glTF 2.0 objects of accessors, buffers, images, textures and materials.
+//! The glTF 2.0 objects of textures and materials, and beside them those of accessors, buffers and
+//! images.
 #![tactic(auto)]
 
-pub mod accessor;
-pub mod buffer;
 pub mod extensions;
-pub mod extras;
-pub mod image;
 pub mod laws;
 pub mod material;
 pub mod texture;
 
+pub use gltf_data::{accessor, buffer, extras, image};
 pub use gltf_schema::{Blank, Error, Object, Reading, Schema, Unlisted};

@@ -118,16 +118,16 @@ impl Object for Material {
 pub struct PbrMetallicRoughness {
     /// The factors of the base color.
     pub base_color_factor: PbrBaseColorFactor,
-    /// The base color.
-    pub base_color_texture: Option<Info>,
     /// The factor of how metallic the surface is.
     pub metallic_factor: StrengthFactor,
     /// The factor of how rough the surface is.
     pub roughness_factor: StrengthFactor,
-    /// How rough the surface is, by green, and how metallic, by blue.
-    pub metallic_roughness_texture: Option<Info>,
     pub extensions: Option<extensions::material::PbrMetallicRoughness>,
     pub extras: Extras,
+    /// The base color.
+    pub base_color_texture: Option<Info>,
+    /// How rough the surface is, by green, and how metallic, by blue.
+    pub metallic_roughness_texture: Option<Info>,
 }
 
 impl PbrMetallicRoughness {

@@ -2,8 +2,8 @@
 
 ghost use Rattle.std.specs.Prelude.{◌≡◌, List, ◌∷◌, [], ◌++◌, Some, codes, refl};
 ghost use Rattle.gltf_base.specs.Steps.{Step as Mathematical, field};
-ghost use Rattle.gltf_parts.specs.AccessorTable.{accessor_kind};
-ghost use Rattle.gltf_parts.specs.AccessorTrees.{accessor_members, accessor_extensions};
+ghost use Rattle.gltf_data.specs.AccessorTable.{accessor_kind};
+ghost use Rattle.gltf_data.specs.AccessorTrees.{accessor_members, accessor_extensions};
 ghost use Rattle.gltf_schema.specs.Extensions.{kept_extensions};
 ghost use Rattle.gltf_schema.specs.Fields.{closed_object};
 ghost use Rattle.gltf_schema.specs.Kind.{ObjectName};
@@ -61,7 +61,7 @@ impl Validate for Accessor {
 }
 
 /// What is wrong where an accessor has neither a view nor sparse storage.
-#[tactic(auto, unfolding(gltf_parts::specs::AccessorTrees::accessor_members))]
+#[tactic(auto, unfolding(gltf_data::specs::AccessorTrees::accessor_members))]
 fn data_fault(accessor: &Accessor) -> Option<Error>
     ensures { (base : List Mathematical) → found_at result (base ++ field (codes "bufferView") ∷ [])
         ≡ accessor_rule (accessor_members accessor.now) base }

@@ -1,8 +1,8 @@
 //! Buffers and their views.
 
 ghost use Rattle.std.specs.Prelude.{◌≡◌, Some, refl};
-ghost use Rattle.gltf_parts.specs.BufferTable.{buffer_kind, view_kind};
-ghost use Rattle.gltf_parts.specs.BufferTrees.{buffer_members, view_members, buffer_extensions, view_extensions};
+ghost use Rattle.gltf_data.specs.BufferTable.{buffer_kind, view_kind};
+ghost use Rattle.gltf_data.specs.BufferTrees.{buffer_members, view_members, buffer_extensions, view_extensions};
 ghost use Rattle.gltf_schema.specs.Extensions.{kept_extensions};
 ghost use Rattle.gltf_schema.specs.Fields.{closed_object};
 ghost use Rattle.gltf_schema.specs.Kind.{ObjectName};

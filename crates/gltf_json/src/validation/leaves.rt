@@ -3,7 +3,7 @@
 ghost use Rattle.std.specs.Prelude.{◌≡◌, Some, None};
 ghost use Rattle.gltf_schema.specs.Tree.{absent};
 ghost use Rattle.gltf_schema.specs.Kind.{IndexInto, Stride as stride_kind};
-ghost use Rattle.gltf_parts.specs.BufferTrees.{stride_tree};
+ghost use Rattle.gltf_data.specs.BufferTrees.{stride_tree};
 ghost use Rattle.gltf_schema.specs.Fields.{index_tree};
 ghost use Rattle.gltf_json.specs.Walk.{no_reports, checked_reports};
 

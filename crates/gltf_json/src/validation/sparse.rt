@@ -1,8 +1,8 @@
 //! Sparse storage.
 
 ghost use Rattle.std.specs.Prelude.{◌≡◌, Some, refl};
-ghost use Rattle.gltf_parts.specs.AccessorTable.{sparse_kind, sparse_indices_kind, sparse_values_kind};
-ghost use Rattle.gltf_parts.specs.AccessorTrees.{sparse_members, sparse_indices_members, sparse_values_members, sparse_extensions, indices_extensions, values_extensions};
+ghost use Rattle.gltf_data.specs.AccessorTable.{sparse_kind, sparse_indices_kind, sparse_values_kind};
+ghost use Rattle.gltf_data.specs.AccessorTrees.{sparse_members, sparse_indices_members, sparse_values_members, sparse_extensions, indices_extensions, values_extensions};
 ghost use Rattle.gltf_schema.specs.Extensions.{dropped_extensions};
 ghost use Rattle.gltf_schema.specs.Fields.{closed_object};
 ghost use Rattle.gltf_schema.specs.Kind.{ObjectName};

@@ -189,17 +189,17 @@ impl OcclusionTexture {
 pub struct PbrSpecularGlossiness {
     /// The factors of the diffuse color.
     pub diffuse_factor: PbrDiffuseFactor,
-    /// The diffuse color.
-    pub diffuse_texture: Option<Info>,
     /// The factors of the specular color.
     pub specular_factor: PbrSpecularFactor,
     /// The factor of how glossy the surface is.
     pub glossiness_factor: StrengthFactor,
-    /// The specular color, and how glossy the surface is, by alpha.
-    pub specular_glossiness_texture: Option<Info>,
     pub extras: Extras,
     /// The members that are not known.
     pub others: Map<String, Value>,
+    /// The diffuse color.
+    pub diffuse_texture: Option<Info>,
+    /// The specular color, and how glossy the surface is, by alpha.
+    pub specular_glossiness_texture: Option<Info>,
 }
 
 impl Object for PbrSpecularGlossiness {
@@ -301,9 +301,9 @@ impl Unlit {
 pub struct Transmission {
     /// The part of the light that passes.
     pub transmission_factor: TransmissionFactor,
+    pub extras: Extras,
     /// The part of the light that passes, by red.
     pub transmission_texture: Option<Info>,
-    pub extras: Extras,
 }
 
 impl Object for Transmission {
@@ -355,13 +355,13 @@ pub struct TransmissionFactor(pub Option<Real>);
 pub struct Volume {
     /// How thick the body is.
     pub thickness_factor: ThicknessFactor,
-    /// How thick the body is, by green.
-    pub thickness_texture: Option<Info>,
     /// How far light goes in the body before it is absorbed, on average.
     pub attenuation_distance: AttenuationDistance,
     /// What becomes of white light at that distance.
     pub attenuation_color: AttenuationColor,
     pub extras: Extras,
+    /// How thick the body is, by green.
+    pub thickness_texture: Option<Info>,
 }
 
 impl Object for Volume {
@@ -427,13 +427,13 @@ pub struct AttenuationColor(pub Option<[Real; 3]>);
 pub struct Specular {
     /// How strong the reflection is.
     pub specular_factor: SpecularFactor,
-    /// How strong the reflection is, by alpha.
-    pub specular_texture: Option<Info>,
     /// The factors of the color of the reflection.
     pub specular_color_factor: SpecularColorFactor,
+    pub extras: Extras,
+    /// How strong the reflection is, by alpha.
+    pub specular_texture: Option<Info>,
     /// The color of the reflection.
     pub specular_color_texture: Option<Info>,
-    pub extras: Extras,
 }
 
 impl Object for Specular {

@@ -1,6 +1,6 @@
 -- Each name computes.
 use Rattle.std.proofs.Common.{refl}
-use Rattle.gltf_parts.specs.AccessorTable.{accessor_rows}
+use Rattle.gltf_data.specs.AccessorTable.{accessor_rows}
 use Rattle.gltf_json.specs.RootTable.{root_rows}
 use Rattle.gltf_json.proofs.laws.rows_stand_where_rules_look.Goals as goal
 

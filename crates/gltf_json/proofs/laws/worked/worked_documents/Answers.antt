@@ -1,7 +1,7 @@
 -- Each document computes.
 use Rattle.std.proofs.Common.{refl}
-use Rattle.gltf_parts.specs.AccessorTable.{accessor_rows}
-use Rattle.gltf_parts.specs.BufferTable.{buffer_rows, view_rows}
+use Rattle.gltf_data.specs.AccessorTable.{accessor_rows}
+use Rattle.gltf_data.specs.BufferTable.{buffer_rows, view_rows}
 use Rattle.gltf_json.specs.AssetTable.{asset_rows}
 use Rattle.gltf_json.specs.RootTable.{root_rows}
 use Rattle.gltf_json.proofs.laws.worked.worked_documents.Goals as goal

@@ -1,7 +1,7 @@
 -- Each member in the table's order.
 use Rattle.std.proofs.Common.{lit≤}
-use Rattle.gltf_parts.specs.BufferTable as table
-use Rattle.gltf_parts.specs.BufferTrees as made
+use Rattle.gltf_data.specs.BufferTable as table
+use Rattle.gltf_data.specs.BufferTrees as made
 use Rattle.gltf_json.proofs.Walks.{went_nowhere, went_then}
 use Rattle.gltf_json.proofs.validation.buffer.BufferValidate.validate.Goals as goal
 

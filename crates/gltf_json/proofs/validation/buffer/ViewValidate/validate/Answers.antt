@@ -2,8 +2,8 @@
 use Rattle.std.proofs.Common.{lit≤, ◌++◌, ◌∷◌, [], codes}
 use Rattle.gltf_base.specs.Steps.{field}
 use Rattle.gltf_base.specs.Choices.{target_spelling}
-use Rattle.gltf_parts.specs.BufferTable as table
-use Rattle.gltf_parts.specs.BufferTrees as made
+use Rattle.gltf_data.specs.BufferTable as table
+use Rattle.gltf_data.specs.BufferTrees as made
 use Rattle.gltf_json.specs.RootTrees.{root_tree}
 use Rattle.gltf_json.proofs.ByTable.{choice-optional}
 use Rattle.gltf_json.proofs.Walks.{went_nowhere, went_same, went_then}

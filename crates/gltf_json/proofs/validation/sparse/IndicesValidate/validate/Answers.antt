@@ -2,8 +2,8 @@
 use Rattle.std.proofs.Common.{lit≤, ◌++◌, ◌∷◌, [], codes}
 use Rattle.gltf_base.specs.Steps.{field}
 use Rattle.gltf_base.specs.Choices.{index_component_type_spelling}
-use Rattle.gltf_parts.specs.AccessorTable as table
-use Rattle.gltf_parts.specs.AccessorTrees as made
+use Rattle.gltf_data.specs.AccessorTable as table
+use Rattle.gltf_data.specs.AccessorTrees as made
 use Rattle.gltf_json.specs.RootTrees.{root_tree}
 use Rattle.gltf_json.proofs.ByTable.{choice-checked}
 use Rattle.gltf_json.proofs.Walks.{went_nowhere, went_same, went_then}

@@ -1,7 +1,7 @@
 -- Each member in the table's order.
 use Rattle.std.proofs.Common.{lit≤}
-use Rattle.gltf_parts.specs.AccessorTable as table
-use Rattle.gltf_parts.specs.AccessorTrees as made
+use Rattle.gltf_data.specs.AccessorTable as table
+use Rattle.gltf_data.specs.AccessorTrees as made
 use Rattle.gltf_json.proofs.Walks.{went_nowhere, went_then}
 use Rattle.gltf_json.proofs.validation.sparse.ValuesValidate.validate.Goals as goal
 

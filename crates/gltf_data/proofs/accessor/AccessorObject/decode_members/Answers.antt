@@ -1,0 +1,22 @@
+-- Each row is read in the table's order.
+use Rattle.gltf_schema.proofs.RowByRow.{all_read, read_none, read_row}
+use Rattle.gltf_data.specs.AccessorTable.{accessor_rows}
+use Rattle.gltf_data.specs.AccessorTrees.{accessor_members}
+use Rattle.gltf_data.proofs.accessor.AccessorObject.decode_members.Goals as goal
+
+pub returns : goal.returns
+unfolding accessor_rows accessor_members
+returns c =
+    all_read accessor_members c.from_members-reading.ensures
+    (read_row c.optional-buffer_view.ensures.left_out
+    (read_row c.optional-byte_offset.ensures.left_out
+    (read_row c.required-count.ensures
+    (read_row c.required-component_type.ensures
+    (read_row c.required-type_.ensures
+    (read_row c.optional-min.ensures.left_out
+    (read_row c.optional-max.ensures.left_out
+    (read_row c.optional-name.ensures.left_out
+    (read_row c.or_default-normalized.ensures.unless
+    (read_row c.optional-sparse.ensures.left_out
+    (read_row c.optional-extensions.ensures.left_out
+    (read_row c.optional-extras.ensures.left_out read_none)))))))))))) c.finish.ensures

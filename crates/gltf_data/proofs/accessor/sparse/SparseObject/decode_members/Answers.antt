@@ -1,0 +1,15 @@
+-- Each row is read in the table's order.
+use Rattle.gltf_schema.proofs.RowByRow.{all_read, read_none, read_row}
+use Rattle.gltf_data.specs.AccessorTable.{sparse_rows}
+use Rattle.gltf_data.specs.AccessorTrees.{sparse_members}
+use Rattle.gltf_data.proofs.accessor.sparse.SparseObject.decode_members.Goals as goal
+
+pub returns : goal.returns
+unfolding sparse_rows sparse_members
+returns c =
+    all_read sparse_members c.from_members-reading.ensures
+    (read_row c.required-count.ensures
+    (read_row c.required-indices.ensures
+    (read_row c.required-values.ensures
+    (read_row c.optional-extensions.ensures.left_out
+    (read_row c.optional-extras.ensures.left_out read_none))))) c.finish.ensures

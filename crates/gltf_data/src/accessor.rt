@@ -1,0 +1,99 @@
+//! Accessors: how the data of a view is read as elements (glTF 2.0, section 5.1).
+
+ghost use Rattle.std.specs.Prelude.{false};
+ghost use Rattle.serde_json.specs.Data.{no_members};
+ghost use Rattle.gltf_base.specs.Lists.{accessors};
+ghost use Rattle.gltf_schema.specs.Kind.{ObjectName};
+ghost use Rattle.gltf_data.specs.AccessorTable.{accessor_rows, accessor_sound};
+ghost use Rattle.gltf_data.specs.AccessorTrees.{accessor_members};
+
+use crate::buffer::View;
+use crate::extensions;
+use crate::extras::Extras;
+use gltf_base::validation::{Checked, USize64};
+use gltf_base::{Index, Listed};
+use gltf_schema::{Error, Object, Reading};
+use serde_json::{Map, Value};
+use std::alloc::Global;
+
+pub mod sparse;
+
+pub use gltf_base::accessor::{
+    AccessorType, BYTE, ComponentType, FLOAT, GenericComponentType, IndexComponentType, SHORT,
+    Type, UNSIGNED_BYTE, UNSIGNED_INT, UNSIGNED_SHORT, VALID_ACCESSOR_TYPES, VALID_COMPONENT_TYPES,
+    VALID_INDEX_TYPES,
+};
+
+/// How the data of a view is read as elements.
+#[derive(Clone, Debug, Drop)]
+pub struct Accessor {
+    /// The view that the elements lie in; without one they are zeros, or come from `sparse`.
+    pub buffer_view: Option<Index<View>>,
+    /// The offset into the view, in bytes.
+    pub byte_offset: Option<USize64>,
+    /// How many elements there are.
+    pub count: USize64,
+    /// The type of one component.
+    pub component_type: Checked<GenericComponentType>,
+    /// How many components an element has, and how they lie.
+    pub type_: Checked<Type>,
+    pub name: Option<String>,
+    /// Whether integers stand for fractions.
+    pub normalized: bool,
+    pub extensions: Option<extensions::accessor::Accessor>,
+    pub extras: Extras,
+    /// The least value of each component.
+    pub min: Option<Value>,
+    /// The greatest value of each component.
+    pub max: Option<Value>,
+    /// Elements that deviate from the view's.
+    pub sparse: Option<sparse::Sparse>,
+}
+
+impl Listed for Accessor {
+    ghost list = { accessors };
+}
+
+impl Object for Accessor {
+    ghost named = { ObjectName.accessor };
+
+    ghost rows = { accessor_rows };
+
+    ghost keeps = { false };
+
+    ghost members = { accessor_members };
+
+    ghost unknown = { λ _. no_members };
+
+    ghost sound = { accessor_sound };
+
+    fn decode_members(alloc: Global, found: Map<String, Value>) -> Result<Accessor, Error> {
+        let mut reading = Reading::from_members(alloc, found);
+        let buffer_view = reading.optional("bufferView");
+        let byte_offset = reading.optional("byteOffset");
+        let count = reading.required("count");
+        let component_type = reading.required("componentType");
+        let type_ = reading.required("type");
+        let min = reading.optional("min");
+        let max = reading.optional("max");
+        let name = reading.optional("name");
+        let normalized = reading.or_default("normalized", false);
+        let sparse = reading.optional("sparse");
+        let extensions = reading.optional("extensions");
+        let extras = reading.optional("extras");
+        reading.finish(Accessor {
+            buffer_view,
+            byte_offset,
+            count,
+            component_type,
+            type_,
+            min,
+            max,
+            name,
+            normalized,
+            sparse,
+            extensions,
+            extras,
+        })
+    }
+}

@@ -1,0 +1,166 @@
+//! Sparse storage: elements that deviate from those of an accessor's view (glTF 2.0, sections 5.2
+//! to 5.4).
+
+ghost use Rattle.std.specs.Prelude.{false};
+ghost use Rattle.serde_json.specs.Data.{no_members};
+ghost use Rattle.gltf_schema.specs.Kind.{ObjectName};
+ghost use Rattle.gltf_data.specs.AccessorTable.{sparse_rows, sparse_sound, sparse_indices_rows, sparse_indices_sound, sparse_values_rows, sparse_values_sound};
+ghost use Rattle.gltf_data.specs.AccessorTrees.{sparse_members, sparse_indices_members, sparse_values_members};
+
+use super::IndexComponentType;
+use crate::buffer::View;
+use crate::extensions;
+use crate::extras::Extras;
+use gltf_base::Index;
+use gltf_base::validation::{Checked, USize64};
+use gltf_schema::{Blank, Error, Object, Reading};
+use serde_json::{Map, Value};
+use std::alloc::Global;
+
+/// Elements that deviate from those of the view.
+#[derive(Clone, Debug, Drop)]
+pub struct Sparse {
+    /// How many elements deviate.
+    pub count: USize64,
+    /// Which elements they are.
+    pub indices: Indices,
+    /// What stands in their place.
+    pub values: Values,
+    pub extensions: Option<extensions::accessor::sparse::Sparse>,
+    pub extras: Extras,
+}
+
+impl Object for Sparse {
+    ghost named = { ObjectName.sparse };
+
+    ghost rows = { sparse_rows };
+
+    ghost keeps = { false };
+
+    ghost members = { sparse_members };
+
+    ghost unknown = { λ _. no_members };
+
+    ghost sound = { sparse_sound };
+
+    fn decode_members(alloc: Global, found: Map<String, Value>) -> Result<Sparse, Error> {
+        let mut reading = Reading::from_members(alloc, found);
+        let count = reading.required("count");
+        let indices = reading.required("indices");
+        let values = reading.required("values");
+        let extensions = reading.optional("extensions");
+        let extras = reading.optional("extras");
+        reading.finish(Sparse {
+            count,
+            indices,
+            values,
+            extensions,
+            extras,
+        })
+    }
+}
+
+/// Where the numbers of the elements that deviate lie.
+#[derive(Clone, Debug, Drop)]
+pub struct Indices {
+    /// The view that they lie in.
+    pub buffer_view: Index<View>,
+    /// The offset into the view, in bytes.
+    pub byte_offset: USize64,
+    /// The type of a number.
+    pub component_type: Checked<IndexComponentType>,
+    pub extensions: Option<extensions::accessor::sparse::Indices>,
+    pub extras: Extras,
+}
+
+impl Object for Indices {
+    ghost named = { ObjectName.sparse_indices };
+
+    ghost rows = { sparse_indices_rows };
+
+    ghost keeps = { false };
+
+    ghost members = { sparse_indices_members };
+
+    ghost unknown = { λ _. no_members };
+
+    ghost sound = { sparse_indices_sound };
+
+    fn decode_members(alloc: Global, found: Map<String, Value>) -> Result<Indices, Error> {
+        let mut reading = Reading::from_members(alloc, found);
+        let buffer_view = reading.required("bufferView");
+        let byte_offset = reading.or_default("byteOffset", USize64(0));
+        let component_type = reading.required("componentType");
+        let extensions = reading.optional("extensions");
+        let extras = reading.optional("extras");
+        reading.finish(Indices {
+            buffer_view,
+            byte_offset,
+            component_type,
+            extensions,
+            extras,
+        })
+    }
+}
+
+impl Blank for Indices {
+    fn blank(_alloc: Global) -> Indices {
+        Indices {
+            buffer_view: Index::new(0),
+            byte_offset: USize64(0),
+            component_type: Checked::Invalid,
+            extensions: None,
+            extras: None,
+        }
+    }
+}
+
+/// Where the elements that stand in for others lie.
+#[derive(Clone, Debug, Drop)]
+pub struct Values {
+    /// The view that they lie in.
+    pub buffer_view: Index<View>,
+    /// The offset into the view, in bytes.
+    pub byte_offset: USize64,
+    pub extensions: Option<extensions::accessor::sparse::Values>,
+    pub extras: Extras,
+}
+
+impl Object for Values {
+    ghost named = { ObjectName.sparse_values };
+
+    ghost rows = { sparse_values_rows };
+
+    ghost keeps = { false };
+
+    ghost members = { sparse_values_members };
+
+    ghost unknown = { λ _. no_members };
+
+    ghost sound = { sparse_values_sound };
+
+    fn decode_members(alloc: Global, found: Map<String, Value>) -> Result<Values, Error> {
+        let mut reading = Reading::from_members(alloc, found);
+        let buffer_view = reading.required("bufferView");
+        let byte_offset = reading.or_default("byteOffset", USize64(0));
+        let extensions = reading.optional("extensions");
+        let extras = reading.optional("extras");
+        reading.finish(Values {
+            buffer_view,
+            byte_offset,
+            extensions,
+            extras,
+        })
+    }
+}
+
+impl Blank for Values {
+    fn blank(_alloc: Global) -> Values {
+        Values {
+            buffer_view: Index::new(0),
+            byte_offset: USize64(0),
+            extensions: None,
+            extras: None,
+        }
+    }
+}

@@ -1,0 +1,142 @@
+//! Buffers and their views: the bytes behind a document (glTF 2.0, sections 5.10 and 5.11).
+
+ghost use Rattle.std.specs.Prelude.{false, refl};
+ghost use Rattle.serde_json.specs.Data.{no_members};
+ghost use Rattle.gltf_base.specs.Lists.{buffers, buffer_views};
+ghost use Rattle.gltf_schema.specs.Kind.{ObjectName, Stride as stride_kind};
+ghost use Rattle.gltf_data.specs.BufferTable.{buffer_rows, buffer_sound, view_rows, view_sound};
+ghost use Rattle.gltf_data.specs.BufferTrees.{buffer_members, view_members, stride_tree};
+
+use crate::extensions;
+use crate::extras::Extras;
+pub use gltf_base::buffer::{
+    ARRAY_BUFFER, ELEMENT_ARRAY_BUFFER, MAX_BYTE_STRIDE, MIN_BYTE_STRIDE, Target, VALID_TARGETS,
+};
+use gltf_base::validation::{Checked, USize64};
+use gltf_base::{Index, Listed};
+use gltf_schema::{Error, Object, Reading, Schema};
+use serde_json::{Map, Value};
+use std::alloc::Global;
+
+/// The distance from one element of a view to the next, in bytes.
+#[derive(Clone, Copy, Debug, Default, PartialEq, Eq, Hash)]
+pub struct Stride(pub usize);
+
+impl Schema for Stride {
+    ghost kind = { stride_kind };
+
+    ghost tree = { stride_tree };
+
+    ghost present = { λ _. refl };
+
+    fn decode(_alloc: Global, value: Value) -> Result<Stride, Error> {
+        match value.as_u64() {
+            Some(n) => Ok(Stride(n as usize)),
+            None => Err(Error::Schema),
+        }
+    }
+}
+
+/// Bytes, in a file or in the document itself.
+#[derive(Clone, Debug, Drop)]
+pub struct Buffer {
+    /// How many bytes there are.
+    pub byte_length: USize64,
+    pub name: Option<String>,
+    /// Where the bytes lie; without it they lie in the file that holds the document.
+    pub uri: Option<String>,
+    pub extensions: Option<extensions::buffer::Buffer>,
+    pub extras: Extras,
+}
+
+impl Listed for Buffer {
+    ghost list = { buffers };
+}
+
+impl Object for Buffer {
+    ghost named = { ObjectName.buffer };
+
+    ghost rows = { buffer_rows };
+
+    ghost keeps = { false };
+
+    ghost members = { buffer_members };
+
+    ghost unknown = { λ _. no_members };
+
+    ghost sound = { buffer_sound };
+
+    fn decode_members(alloc: Global, found: Map<String, Value>) -> Result<Buffer, Error> {
+        let mut reading = Reading::from_members(alloc, found);
+        let byte_length = reading.or_default("byteLength", USize64(0));
+        let name = reading.optional("name");
+        let uri = reading.optional("uri");
+        let extensions = reading.optional("extensions");
+        let extras = reading.optional("extras");
+        reading.finish(Buffer {
+            byte_length,
+            name,
+            uri,
+            extensions,
+            extras,
+        })
+    }
+}
+
+/// A part of a buffer.
+#[derive(Clone, Debug, Drop)]
+pub struct View {
+    /// The buffer that it is a part of.
+    pub buffer: Index<Buffer>,
+    /// How many bytes it has.
+    pub byte_length: USize64,
+    /// The offset into the buffer, in bytes.
+    pub byte_offset: Option<USize64>,
+    /// The distance from one element to the next, in bytes.
+    pub byte_stride: Option<Stride>,
+    pub name: Option<String>,
+    /// What the data is bound to.
+    pub target: Option<Checked<Target>>,
+    pub extensions: Option<extensions::buffer::View>,
+    pub extras: Extras,
+}
+
+impl Listed for View {
+    ghost list = { buffer_views };
+}
+
+impl Object for View {
+    ghost named = { ObjectName.buffer_view };
+
+    ghost rows = { view_rows };
+
+    ghost keeps = { false };
+
+    ghost members = { view_members };
+
+    ghost unknown = { λ _. no_members };
+
+    ghost sound = { view_sound };
+
+    fn decode_members(alloc: Global, found: Map<String, Value>) -> Result<View, Error> {
+        let mut reading = Reading::from_members(alloc, found);
+        let buffer = reading.required("buffer");
+        let byte_length = reading.required("byteLength");
+        let byte_offset = reading.optional("byteOffset");
+        let byte_stride = reading.optional("byteStride");
+        let name = reading.optional("name");
+        let target = reading.optional("target");
+        let extensions = reading.optional("extensions");
+        let extras = reading.optional("extras");
+        reading.finish(View {
+            buffer,
+            byte_length,
+            byte_offset,
+            byte_stride,
+            name,
+            target,
+            extensions,
+            extras,
+        })
+    }
+}

@@ -1,0 +1,83 @@
+//! Images (glTF 2.0, section 5.18).
+
+ghost use Rattle.std.specs.Prelude.{false, refl};
+ghost use Rattle.serde_json.specs.Data.{no_members};
+ghost use Rattle.gltf_base.specs.Lists.{images};
+ghost use Rattle.gltf_schema.specs.Kind.{ObjectName, Text};
+ghost use Rattle.gltf_data.specs.ImageTable.{image_rows, image_sound};
+ghost use Rattle.gltf_data.specs.ImageTrees.{image_members, mime_type_tree};
+
+use crate::buffer::View;
+use crate::extensions;
+use crate::extras::Extras;
+pub use gltf_base::image::VALID_MIME_TYPES;
+use gltf_base::{Index, Listed};
+use gltf_schema::{Error, Object, Reading, Schema};
+use serde_json::{Map, Value};
+use std::alloc::Global;
+
+/// What an image is written in: a media type, which may be another than [`VALID_MIME_TYPES`] lists.
+#[derive(Clone, Debug, Drop)]
+pub struct MimeType(pub String);
+
+impl Schema for MimeType {
+    ghost kind = { Text };
+
+    ghost tree = { mime_type_tree };
+
+    ghost present = { λ _. refl };
+
+    fn decode(alloc: Global, value: Value) -> Result<MimeType, Error> {
+        Ok(MimeType(String::decode(alloc, value)?))
+    }
+}
+
+/// The data of a picture: in a view, or behind a URI.
+#[derive(Clone, Debug, Drop)]
+pub struct Image {
+    /// The view that the data lies in; it and `uri` stand for each other.
+    pub buffer_view: Option<Index<View>>,
+    /// What the data is written in; a view needs it.
+    pub mime_type: Option<MimeType>,
+    pub name: Option<String>,
+    /// Where the data lies.
+    pub uri: Option<String>,
+    pub extensions: Option<extensions::image::Image>,
+    pub extras: Extras,
+}
+
+impl Listed for Image {
+    ghost list = { images };
+}
+
+impl Object for Image {
+    ghost named = { ObjectName.image };
+
+    ghost rows = { image_rows };
+
+    ghost keeps = { false };
+
+    ghost members = { image_members };
+
+    ghost unknown = { λ _. no_members };
+
+    ghost sound = { image_sound };
+
+    fn decode_members(alloc: Global, found: Map<String, Value>) -> Result<Image, Error> {
+        let mut reading = Reading::from_members(alloc, found);
+        let buffer_view = reading.optional("bufferView");
+        let mime_type = reading.optional("mimeType");
+        let name = reading.optional("name");
+        let uri = reading.optional("uri");
+        let extensions = reading.optional("extensions");
+        let extras = reading.optional("extras");
+        reading.finish(Image {
+            buffer_view,
+            mime_type,
+            name,
+            uri,
+            extensions,
+            extras,
+        })
+    }
+}

@@ -1,4 +1,7 @@
 //! The tests of all crates: what no clause says. They stand here so that each crate is proved once.
+//!
+//! What is compared is a function of its own that answers whether it holds. A test that asserts while
+//! it holds what it read, or goes over an array of tuples, takes many times as long to prove.
 #![tactic(auto)]
 
 #[cfg(test)]

@@ -11,12 +11,13 @@ use std::alloc::Global;
 use std::test::Fail;
 
 /// What a JSON text is read as.
-fn read<T: Schema>(alloc: Global, text: &str) -> Result<Result<T, Error>, Fail> {
+fn read<T: Schema>(alloc: Global, text: &str) -> Result<T, Fail> {
     let value = Value::from_str(alloc, text)?;
-    Ok(T::decode(alloc, value))
+    Ok(T::decode(alloc, value)?)
 }
 
 /// Whether a text is refused as no glTF.
 fn is_refused<T: Schema>(alloc: Global, text: &str) -> Result<bool, Fail> {
-    Ok(matches!(read::<T>(alloc, text)?, Err(Error::Schema)))
+    let value = Value::from_str(alloc, text)?;
+    Ok(matches!(T::decode(alloc, value), Err(Error::Schema)))
 }

@@ -10,207 +10,208 @@ use gltf_base::material::AlphaMode;
 use gltf_base::mesh::Mode;
 use gltf_base::texture::{MagFilter, MinFilter, WrappingMode};
 use gltf_base::validation::Checked;
-use std::test::Fail;
 
-/// The component types, with their numbers and sizes.
-const COMPONENTS: [(ComponentType, u32, usize); 6] = [
-    (ComponentType::I8, 5120, 1),
-    (ComponentType::U8, 5121, 1),
-    (ComponentType::I16, 5122, 2),
-    (ComponentType::U16, 5123, 2),
-    (ComponentType::U32, 5125, 4),
-    (ComponentType::F32, 5126, 4),
-];
+/// Whether a component type has this number, both ways, and this size.
+fn is_component(component: ComponentType, number: u32, size: usize) -> bool {
+    let read = match GenericComponentType::from_gl_enum(u64::from(number)) {
+        Checked::Valid(read) => read.0 == component,
+        Checked::Invalid => false,
+    };
+    read && GenericComponentType(component).as_gl_enum() == number
+        && component.as_gl_enum() == number
+        && component.size() == size
+}
+
+/// Whether a number is that of no component type.
+fn is_no_component(number: u64) -> bool {
+    matches!(GenericComponentType::from_gl_enum(number), Checked::Invalid)
+}
 
 #[test]
 fn component_types(rt: HostRuntime) {
-    for (component, number, size) in COMPONENTS {
-        assert_eq!(rt; component.size(), size);
-        assert_eq!(rt; component.as_gl_enum(), number);
-        assert_eq!(rt; GenericComponentType(component).as_gl_enum(), number);
-        let Checked::Valid(read) = GenericComponentType::from_gl_enum(u64::from(number)) else {
-            panic!(rt; "{number} is not read");
-        };
-        assert_eq!(rt; read.0, component);
-    }
-    for number in [0, 5119, 5124, 4294972416, u64::MAX] {
-        assert!(rt;
-            matches!(GenericComponentType::from_gl_enum(number), Checked::Invalid),
-            "{number}"
-        );
-    }
+    assert!(rt; is_component(ComponentType::I8, 5120, 1));
+    assert!(rt; is_component(ComponentType::U8, 5121, 1));
+    assert!(rt; is_component(ComponentType::I16, 5122, 2));
+    assert!(rt; is_component(ComponentType::U16, 5123, 2));
+    assert!(rt; is_component(ComponentType::U32, 5125, 4));
+    assert!(rt; is_component(ComponentType::F32, 5126, 4));
+    assert!(rt; is_no_component(0) && is_no_component(5119) && is_no_component(5124));
+    assert!(rt; is_no_component(4294972416) && is_no_component(u64::MAX));
+}
+
+/// Whether a component type of indexes has this number, both ways.
+fn is_index_component(component: ComponentType, number: u32) -> bool {
+    let read = match IndexComponentType::from_gl_enum(u64::from(number)) {
+        Checked::Valid(read) => read.0 == component,
+        Checked::Invalid => false,
+    };
+    read && IndexComponentType(component).as_gl_enum() == number
+}
+
+/// Whether a number is that of no component type of indexes.
+fn is_no_index_component(number: u64) -> bool {
+    matches!(IndexComponentType::from_gl_enum(number), Checked::Invalid)
 }
 
 #[test]
 fn index_component_types(rt: HostRuntime) {
-    for (component, number, _) in COMPONENTS {
-        assert_eq!(rt; IndexComponentType(component).as_gl_enum(), number);
-        let is_read = [5121, 5123, 5125].contains(&number);
-        match IndexComponentType::from_gl_enum(u64::from(number)) {
-            Checked::Valid(read) => assert!(rt; is_read && read.0 == component, "{number}"),
-            Checked::Invalid => assert!(rt; !is_read, "{number}"),
-        }
-    }
-    assert!(rt;
-        matches!(
-            IndexComponentType::from_gl_enum(4294972417),
-            Checked::Invalid
-        )
-    );
+    assert!(rt; is_index_component(ComponentType::U8, 5121));
+    assert!(rt; is_index_component(ComponentType::U16, 5123));
+    assert!(rt; is_index_component(ComponentType::U32, 5125));
+    assert!(rt; is_no_index_component(5120) && is_no_index_component(5122));
+    assert!(rt; is_no_index_component(5126) && is_no_index_component(4294972417));
+}
+
+/// Whether a type of accessors has this name, both ways, and so many components.
+fn is_accessor_type(item: AccessorType, name: &str, multiplicity: usize) -> bool {
+    AccessorType::from_name(name) == Checked::Valid(item)
+        && item.name() == name
+        && item.multiplicity() == multiplicity
 }
 
 #[test]
 fn accessor_types(rt: HostRuntime) {
-    for (item, name, multiplicity) in [
-        (AccessorType::Scalar, "SCALAR", 1),
-        (AccessorType::Vec2, "VEC2", 2),
-        (AccessorType::Vec3, "VEC3", 3),
-        (AccessorType::Vec4, "VEC4", 4),
-        (AccessorType::Mat2, "MAT2", 4),
-        (AccessorType::Mat3, "MAT3", 9),
-        (AccessorType::Mat4, "MAT4", 16),
-    ] {
-        assert_eq!(rt; AccessorType::from_name(name), Checked::Valid(item));
-        assert_eq!(rt; item.name(), name);
-        assert_eq!(rt; item.multiplicity(), multiplicity);
-    }
-    assert_eq!(rt; AccessorType::from_name("VEC"), Checked::Invalid);
+    assert!(rt; is_accessor_type(AccessorType::Scalar, "SCALAR", 1));
+    assert!(rt; is_accessor_type(AccessorType::Vec2, "VEC2", 2));
+    assert!(rt; is_accessor_type(AccessorType::Vec3, "VEC3", 3));
+    assert!(rt; is_accessor_type(AccessorType::Vec4, "VEC4", 4));
+    assert!(rt; is_accessor_type(AccessorType::Mat2, "MAT2", 4));
+    assert!(rt; is_accessor_type(AccessorType::Mat3, "MAT3", 9));
+    assert!(rt; is_accessor_type(AccessorType::Mat4, "MAT4", 16));
+    assert!(rt; AccessorType::from_name("VEC") == Checked::Invalid);
+}
+
+/// Whether an interpolation has this name, both ways.
+fn is_interpolation(item: Interpolation, name: &str) -> bool {
+    Interpolation::from_name(name) == Checked::Valid(item) && item.name() == name
+}
+
+/// Whether a property has this name, both ways.
+fn is_property(item: Property, name: &str) -> bool {
+    Property::from_name(name) == Checked::Valid(item) && item.name() == name
 }
 
 #[test]
 fn names_of_animations(rt: HostRuntime) {
-    for (item, name) in [
-        (Interpolation::Linear, "LINEAR"),
-        (Interpolation::Step, "STEP"),
-        (Interpolation::CubicSpline, "CUBICSPLINE"),
-    ] {
-        assert_eq!(rt; Interpolation::from_name(name), Checked::Valid(item));
-        assert_eq!(rt; item.name(), name);
-    }
-    assert_eq!(rt; Interpolation::from_name("linear"), Checked::Invalid);
-    assert_eq!(rt; Interpolation::default(), Interpolation::Linear);
-    for (item, name) in [
-        (Property::Translation, "translation"),
-        (Property::Rotation, "rotation"),
-        (Property::Scale, "scale"),
-        (Property::MorphTargetWeights, "weights"),
-    ] {
-        assert_eq!(rt; Property::from_name(name), Checked::Valid(item));
-        assert_eq!(rt; item.name(), name);
-    }
-    assert_eq!(rt; Property::from_name("foo"), Checked::Invalid);
+    assert!(rt; is_interpolation(Interpolation::Linear, "LINEAR"));
+    assert!(rt; is_interpolation(Interpolation::Step, "STEP"));
+    assert!(rt; is_interpolation(Interpolation::CubicSpline, "CUBICSPLINE"));
+    assert!(rt; Interpolation::from_name("linear") == Checked::Invalid);
+    assert!(rt; Interpolation::default() == Interpolation::Linear);
+    assert!(rt; is_property(Property::Translation, "translation"));
+    assert!(rt; is_property(Property::Rotation, "rotation"));
+    assert!(rt; is_property(Property::Scale, "scale"));
+    assert!(rt; is_property(Property::MorphTargetWeights, "weights"));
+    assert!(rt; Property::from_name("foo") == Checked::Invalid);
+}
+
+/// Whether a camera's type has this name, both ways.
+fn is_camera_type(item: CameraType, name: &str) -> bool {
+    CameraType::from_name(name) == Checked::Valid(item) && item.name() == name
+}
+
+/// Whether a light's type has this name, both ways.
+fn is_light_type(item: LightType, name: &str) -> bool {
+    LightType::from_name(name) == Checked::Valid(item) && item.name() == name
 }
 
 #[test]
-fn names_of_cameras_lights_and_materials(rt: HostRuntime) {
-    for (item, name) in [
-        (CameraType::Perspective, "perspective"),
-        (CameraType::Orthographic, "orthographic"),
-    ] {
-        assert_eq!(rt; CameraType::from_name(name), Checked::Valid(item));
-        assert_eq!(rt; item.name(), name);
-    }
-    assert_eq!(rt; CameraType::from_name(""), Checked::Invalid);
-    for (item, name) in [
-        (LightType::Directional, "directional"),
-        (LightType::Point, "point"),
-        (LightType::Spot, "spot"),
-    ] {
-        assert_eq!(rt; LightType::from_name(name), Checked::Valid(item));
-        assert_eq!(rt; item.name(), name);
-    }
-    assert_eq!(rt; LightType::from_name("spots"), Checked::Invalid);
-    for (item, name) in [
-        (AlphaMode::Opaque, "OPAQUE"),
-        (AlphaMode::Mask, "MASK"),
-        (AlphaMode::Blend, "BLEND"),
-    ] {
-        assert_eq!(rt; AlphaMode::from_name(name), Checked::Valid(item));
-        assert_eq!(rt; item.name(), name);
-    }
-    assert_eq!(rt; AlphaMode::from_name("BLUR"), Checked::Invalid);
-    assert_eq!(rt; AlphaMode::default(), AlphaMode::Opaque);
+fn names_of_cameras_and_lights(rt: HostRuntime) {
+    assert!(rt; is_camera_type(CameraType::Perspective, "perspective"));
+    assert!(rt; is_camera_type(CameraType::Orthographic, "orthographic"));
+    assert!(rt; CameraType::from_name("") == Checked::Invalid);
+    assert!(rt; is_light_type(LightType::Directional, "directional"));
+    assert!(rt; is_light_type(LightType::Point, "point"));
+    assert!(rt; is_light_type(LightType::Spot, "spot"));
+    assert!(rt; LightType::from_name("spots") == Checked::Invalid);
+}
+
+/// Whether a use of alpha has this name, both ways.
+fn is_alpha_mode(item: AlphaMode, name: &str) -> bool {
+    AlphaMode::from_name(name) == Checked::Valid(item) && item.name() == name
+}
+
+#[test]
+fn names_of_materials(rt: HostRuntime) {
+    assert!(rt; is_alpha_mode(AlphaMode::Opaque, "OPAQUE"));
+    assert!(rt; is_alpha_mode(AlphaMode::Mask, "MASK"));
+    assert!(rt; is_alpha_mode(AlphaMode::Blend, "BLEND"));
+    assert!(rt; AlphaMode::from_name("BLUR") == Checked::Invalid);
+    assert!(rt; AlphaMode::default() == AlphaMode::Opaque);
+}
+
+/// Whether a target has this number, both ways.
+fn is_target(item: Target, number: u32) -> bool {
+    Target::from_gl_enum(u64::from(number)) == Checked::Valid(item) && item.as_gl_enum() == number
+}
+
+/// Whether a mode has this number, both ways.
+fn is_mode(item: Mode, number: u32) -> bool {
+    Mode::from_gl_enum(u64::from(number)) == Checked::Valid(item) && item.as_gl_enum() == number
 }
 
 #[test]
 fn numbers_of_buffers_and_meshes(rt: HostRuntime) {
-    for (item, number) in [
-        (Target::ArrayBuffer, 34962),
-        (Target::ElementArrayBuffer, 34963),
-    ] {
-        assert_eq!(rt;
-            Target::from_gl_enum(u64::from(number)),
-            Checked::Valid(item)
-        );
-        assert_eq!(rt; item.as_gl_enum(), number);
-    }
-    assert_eq!(rt; Target::from_gl_enum(34964), Checked::Invalid);
-    for (item, number) in [
-        (Mode::Points, 0),
-        (Mode::Lines, 1),
-        (Mode::LineLoop, 2),
-        (Mode::LineStrip, 3),
-        (Mode::Triangles, 4),
-        (Mode::TriangleStrip, 5),
-        (Mode::TriangleFan, 6),
-    ] {
-        assert_eq!(rt; Mode::from_gl_enum(u64::from(number)), Checked::Valid(item));
-        assert_eq!(rt; item.as_gl_enum(), number);
-    }
-    assert_eq!(rt; Mode::from_gl_enum(4294967296), Checked::Invalid);
-    assert_eq!(rt; Mode::default(), Mode::Triangles);
+    assert!(rt; is_target(Target::ArrayBuffer, 34962));
+    assert!(rt; is_target(Target::ElementArrayBuffer, 34963));
+    assert!(rt; Target::from_gl_enum(34964) == Checked::Invalid);
+    assert!(rt; is_mode(Mode::Points, 0));
+    assert!(rt; is_mode(Mode::Lines, 1));
+    assert!(rt; is_mode(Mode::LineLoop, 2));
+    assert!(rt; is_mode(Mode::LineStrip, 3));
+    assert!(rt; is_mode(Mode::Triangles, 4));
+    assert!(rt; is_mode(Mode::TriangleStrip, 5));
+    assert!(rt; is_mode(Mode::TriangleFan, 6));
+    assert!(rt; Mode::from_gl_enum(4294967296) == Checked::Invalid);
+    assert!(rt; Mode::default() == Mode::Triangles);
+}
+
+/// Whether a filter for magnified textures has this number, both ways.
+fn is_mag_filter(item: MagFilter, number: u32) -> bool {
+    MagFilter::from_gl_enum(u64::from(number)) == Checked::Valid(item)
+        && item.as_gl_enum() == number
+}
+
+/// Whether a filter for textures made smaller has this number, both ways.
+fn is_min_filter(item: MinFilter, number: u32) -> bool {
+    MinFilter::from_gl_enum(u64::from(number)) == Checked::Valid(item)
+        && item.as_gl_enum() == number
+}
+
+/// Whether a way to repeat a texture has this number, both ways.
+fn is_wrapping_mode(item: WrappingMode, number: u32) -> bool {
+    WrappingMode::from_gl_enum(u64::from(number)) == Checked::Valid(item)
+        && item.as_gl_enum() == number
 }
 
 #[test]
 fn numbers_of_textures(rt: HostRuntime) {
-    for (item, number) in [(MagFilter::Nearest, 9728), (MagFilter::Linear, 9729)] {
-        assert_eq!(rt;
-            MagFilter::from_gl_enum(u64::from(number)),
-            Checked::Valid(item)
-        );
-        assert_eq!(rt; item.as_gl_enum(), number);
-    }
-    assert_eq!(rt; MagFilter::from_gl_enum(9984), Checked::Invalid);
-    for (item, number) in [
-        (MinFilter::Nearest, 9728),
-        (MinFilter::Linear, 9729),
-        (MinFilter::NearestMipmapNearest, 9984),
-        (MinFilter::LinearMipmapNearest, 9985),
-        (MinFilter::NearestMipmapLinear, 9986),
-        (MinFilter::LinearMipmapLinear, 9987),
-    ] {
-        assert_eq!(rt;
-            MinFilter::from_gl_enum(u64::from(number)),
-            Checked::Valid(item)
-        );
-        assert_eq!(rt; item.as_gl_enum(), number);
-    }
-    assert_eq!(rt; MinFilter::from_gl_enum(9730), Checked::Invalid);
-    for (item, number) in [
-        (WrappingMode::ClampToEdge, 33071),
-        (WrappingMode::MirroredRepeat, 33648),
-        (WrappingMode::Repeat, 10497),
-    ] {
-        assert_eq!(rt;
-            WrappingMode::from_gl_enum(u64::from(number)),
-            Checked::Valid(item)
-        );
-        assert_eq!(rt; item.as_gl_enum(), number);
-    }
-    assert_eq!(rt; WrappingMode::from_gl_enum(0), Checked::Invalid);
-    assert_eq!(rt; WrappingMode::default(), WrappingMode::Repeat);
+    assert!(rt; is_mag_filter(MagFilter::Nearest, 9728));
+    assert!(rt; is_mag_filter(MagFilter::Linear, 9729));
+    assert!(rt; MagFilter::from_gl_enum(9984) == Checked::Invalid);
+    assert!(rt; is_min_filter(MinFilter::Nearest, 9728));
+    assert!(rt; is_min_filter(MinFilter::Linear, 9729));
+    assert!(rt; is_min_filter(MinFilter::NearestMipmapNearest, 9984));
+    assert!(rt; is_min_filter(MinFilter::LinearMipmapNearest, 9985));
+    assert!(rt; is_min_filter(MinFilter::NearestMipmapLinear, 9986));
+    assert!(rt; is_min_filter(MinFilter::LinearMipmapLinear, 9987));
+    assert!(rt; MinFilter::from_gl_enum(9730) == Checked::Invalid);
+    assert!(rt; is_wrapping_mode(WrappingMode::ClampToEdge, 33071));
+    assert!(rt; is_wrapping_mode(WrappingMode::MirroredRepeat, 33648));
+    assert!(rt; is_wrapping_mode(WrappingMode::Repeat, 10497));
+    assert!(rt; WrappingMode::from_gl_enum(0) == Checked::Invalid);
+    assert!(rt; WrappingMode::default() == WrappingMode::Repeat);
 }
 
-/// How many items a choice lists, and its form.
-fn described<T: Choice>() -> (usize, Form) {
-    (T::listed().len(), T::form())
+/// Whether a choice lists so many items, in this form.
+fn is_described<T: Choice>(count: usize, form: Form) -> bool {
+    T::listed().len() == count && T::form() == form
 }
 
 #[test]
-fn forms(rt: HostRuntime) -> Result<(), Fail> {
-    assert_eq!(rt; described::<GenericComponentType>(), (6, Form::Number));
-    assert_eq!(rt; described::<IndexComponentType>(), (3, Form::Number));
-    assert_eq!(rt; described::<AccessorType>(), (7, Form::Name));
-    assert_eq!(rt; described::<LightType>(), (3, Form::Name));
-    Ok(())
+fn forms(rt: HostRuntime) {
+    assert!(rt; is_described::<GenericComponentType>(6, Form::Number));
+    assert!(rt; is_described::<IndexComponentType>(3, Form::Number));
+    assert!(rt; is_described::<AccessorType>(7, Form::Name));
+    assert!(rt; is_described::<LightType>(3, Form::Name));
 }

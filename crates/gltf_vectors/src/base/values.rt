@@ -4,24 +4,36 @@ use gltf_base::mesh::Semantic;
 use gltf_base::validation::{Checked, Error, USize64};
 use gltf_base::{Index, KeyStep, Path, Real, Step, Steps};
 use serde_json::Value;
+use std::alloc::{AllocError, Global};
 use std::collections::HashSet;
 use std::test::Fail;
+
+/// Whether a path was made, and has this text.
+fn is_path(path: Result<Path, AllocError>, text: &str) -> Result<bool, Fail> {
+    Ok(path?.as_str() == text)
+}
 
 #[test]
 fn paths(rt: HostRuntime) -> Result<(), Fail> {
     let alloc = rt.alloc();
-    let root = Path::new(alloc);
-    assert_eq!(rt; root.as_str(), "");
-    let foo = root.field(alloc, "foo")?;
-    assert_eq!(rt; foo.as_str(), "foo");
-    assert_eq!(rt; foo.field(alloc, "bar")?.as_str(), "foo.bar");
-    assert_eq!(rt; foo.index(alloc, 123)?.as_str(), "foo[123]");
-    assert_eq!(rt; foo.key(alloc, "bar")?.as_str(), "foo[\"bar\"]");
-    let first = foo.index(alloc, 0)?.value_str(alloc, "baz")?;
-    assert_eq!(rt; first.as_str(), "foo[0] = \"baz\"");
-    assert_eq!(rt; format!(in alloc; "{first}")?.as_str(), "foo[0] = \"baz\"");
+    assert!(rt; Path::new(alloc).as_str() == "");
+    let foo = Path::new(alloc).field(alloc, "foo")?;
+    assert!(rt; is_path(foo.clone(), "foo")?);
+    assert!(rt; is_path(foo.field(alloc, "bar"), "foo.bar")?);
+    assert!(rt; is_path(foo.index(alloc, 123), "foo[123]")?);
+    assert!(rt; is_path(foo.key(alloc, "bar"), "foo[\"bar\"]")?);
+    let first = foo.index(alloc, 0)?;
+    assert!(rt; is_path(first.value_str(alloc, "baz"), "foo[0] = \"baz\"")?);
+    Ok(())
+}
+
+#[test]
+fn paths_are_shown(rt: HostRuntime) -> Result<(), Fail> {
+    let alloc = rt.alloc();
+    let foo = Path::new(alloc).field(alloc, "foo")?;
+    assert!(rt; format!(in alloc; "{foo}")?.as_str() == "foo");
     assert!(rt; foo.clone()? == foo);
-    assert!(rt; foo != first);
+    assert!(rt; foo != Path::new(alloc));
     Ok(())
 }
 
@@ -59,70 +71,65 @@ fn key_steps(rt: HostRuntime) -> Result<(), Fail> {
     Ok(())
 }
 
+/// Whether a text is read as this semantic, and another written for it.
+fn is_semantic(alloc: Global, text: &str, read: Semantic, written: &str) -> Result<bool, Fail> {
+    let is_written = read.to_string(alloc)?.as_str() == written;
+    let semantic = Semantic::checked(alloc, text)?;
+    let is_checked = semantic.to_string(alloc)?.as_str() == written;
+    Ok(is_written && is_checked && semantic == Checked::Valid(read))
+}
+
+/// Whether a text is that of no semantic.
+fn is_no_semantic(alloc: Global, text: &str) -> Result<bool, Fail> {
+    let semantic = Semantic::checked(alloc, text)?;
+    let is_written = semantic.to_string(alloc)?.as_str() == "<invalid semantic name>";
+    Ok(is_written && semantic == Checked::Invalid)
+}
+
 #[test]
 fn semantics(rt: HostRuntime) -> Result<(), Fail> {
     let alloc = rt.alloc();
-    for (text, read, written) in [
-        ("POSITION", Checked::Valid(Semantic::Positions), "POSITION"),
-        ("NORMAL", Checked::Valid(Semantic::Normals), "NORMAL"),
-        ("TANGENT", Checked::Valid(Semantic::Tangents), "TANGENT"),
-        (
+    assert!(rt; is_semantic(alloc, "POSITION", Semantic::Positions, "POSITION")?);
+    assert!(rt; is_semantic(alloc, "NORMAL", Semantic::Normals, "NORMAL")?);
+    assert!(rt; is_semantic(alloc, "TANGENT", Semantic::Tangents, "TANGENT")?);
+    assert!(rt;
+        is_semantic(
+            alloc,
             "COLOR_4294967295",
-            Checked::Valid(Semantic::Colors(4294967295)),
-            "COLOR_4294967295",
-        ),
-        (
-            "TEXCOORD_007",
-            Checked::Valid(Semantic::TexCoords(7)),
-            "TEXCOORD_7",
-        ),
-        ("JOINTS_+0", Checked::Valid(Semantic::Joints(0)), "JOINTS_0"),
-        (
-            "WEIGHTS_10",
-            Checked::Valid(Semantic::Weights(10)),
-            "WEIGHTS_10",
-        ),
-    ] {
-        let semantic = Semantic::checked(alloc, text)?;
-        assert!(rt; semantic == read, "{text}");
-        assert_eq!(rt; semantic.to_string(alloc)?.as_str(), written);
-        let Checked::Valid(semantic) = semantic else {
-            panic!(rt; "{text} is not read");
-        };
-        assert_eq!(rt; semantic.to_string(alloc)?.as_str(), written);
-    }
-    for text in [
-        "",
-        "position",
-        "POSITIONS",
-        "COLOR",
-        "COLOR_",
-        "COLOR_4294967296",
-        "COLOR_1a",
-        "JOINTS_++0",
-        "JOINTS_-0",
-        "TEXCOORD_ 1",
-        "WEIGHTS_+",
-    ] {
-        let semantic = Semantic::checked(alloc, text)?;
-        assert!(rt; semantic == Checked::Invalid, "{text}");
-        assert_eq!(rt;
-            semantic.to_string(alloc)?.as_str(),
-            "<invalid semantic name>"
-        );
-    }
+            Semantic::Colors(4294967295),
+            "COLOR_4294967295"
+        )?
+    );
+    assert!(rt; is_semantic(alloc, "TEXCOORD_007", Semantic::TexCoords(7), "TEXCOORD_7")?);
+    assert!(rt; is_semantic(alloc, "JOINTS_+0", Semantic::Joints(0), "JOINTS_0")?);
+    assert!(rt; is_semantic(alloc, "WEIGHTS_10", Semantic::Weights(10), "WEIGHTS_10")?);
     Ok(())
+}
+
+#[test]
+fn names_of_no_semantic(rt: HostRuntime) -> Result<(), Fail> {
+    let alloc = rt.alloc();
+    assert!(rt; is_no_semantic(alloc, "")? && is_no_semantic(alloc, "position")?);
+    assert!(rt; is_no_semantic(alloc, "POSITIONS")? && is_no_semantic(alloc, "COLOR")?);
+    assert!(rt; is_no_semantic(alloc, "COLOR_")? && is_no_semantic(alloc, "COLOR_1a")?);
+    assert!(rt; is_no_semantic(alloc, "COLOR_4294967296")?);
+    assert!(rt; is_no_semantic(alloc, "JOINTS_++0")? && is_no_semantic(alloc, "JOINTS_-0")?);
+    assert!(rt; is_no_semantic(alloc, "TEXCOORD_ 1")? && is_no_semantic(alloc, "WEIGHTS_+")?);
+    Ok(())
+}
+
+/// Whether a text is that of the application's own semantic of this name.
+fn is_own(alloc: Global, text: &str, name: &str) -> Result<bool, Fail> {
+    let own = Semantic::Extras(String::from_str(alloc, name)?);
+    is_semantic(alloc, text, own, text)
 }
 
 #[test]
 fn own_semantics(rt: HostRuntime) -> Result<(), Fail> {
     let alloc = rt.alloc();
-    for (text, name) in [("_", ""), ("_POSITION", "POSITION"), ("__+", "_+")] {
-        let semantic = Semantic::checked(alloc, text)?;
-        assert_eq!(rt; semantic.to_string(alloc)?.as_str(), text);
-        let own = String::from_str(alloc, name)?;
-        assert!(rt; semantic == Checked::Valid(Semantic::Extras(own)));
-    }
+    assert!(rt; is_own(alloc, "_", "")?);
+    assert!(rt; is_own(alloc, "_POSITION", "POSITION")?);
+    assert!(rt; is_own(alloc, "__+", "_+")?);
     Ok(())
 }
 
@@ -142,19 +149,21 @@ fn checked_items(rt: HostRuntime) -> Result<(), Fail> {
     Ok(())
 }
 
+/// Whether a fault has this text.
+fn is_shown(alloc: Global, error: Error, text: &str) -> Result<bool, Fail> {
+    Ok(format!(in alloc; "{error}")?.as_str() == text)
+}
+
 #[test]
 fn errors(rt: HostRuntime) -> Result<(), Fail> {
-    let texts = [
-        (Error::IndexOutOfBounds, "Index out of bounds"),
-        (Error::Invalid, "Invalid value"),
-        (Error::Missing, "Missing data"),
-        (Error::Oversize, "Size exceeds system limits"),
-        (Error::Unsupported, "Unsupported extension"),
-    ];
-    for (error, text) in texts {
-        assert_eq!(rt; format!(in rt.alloc(); "{error}")?.as_str(), text);
-        assert!(rt; Error::IndexOutOfBounds <= error && error <= Error::Unsupported);
-    }
+    let alloc = rt.alloc();
+    assert!(rt; is_shown(alloc, Error::IndexOutOfBounds, "Index out of bounds")?);
+    assert!(rt; is_shown(alloc, Error::Invalid, "Invalid value")?);
+    assert!(rt; is_shown(alloc, Error::Missing, "Missing data")?);
+    assert!(rt; is_shown(alloc, Error::Oversize, "Size exceeds system limits")?);
+    assert!(rt; is_shown(alloc, Error::Unsupported, "Unsupported extension")?);
+    assert!(rt; Error::IndexOutOfBounds < Error::Invalid && Error::Invalid < Error::Missing);
+    assert!(rt; Error::Missing < Error::Oversize && Error::Oversize < Error::Unsupported);
     Ok(())
 }
 

@@ -4,6 +4,7 @@ use super::run_over;
 use gltf_json::root::Watched;
 use gltf_json::{Error, Root};
 use serde_json::Value;
+use std::alloc::Global;
 use std::test::Fail;
 
 /// A document, the status of its run, and the text.
@@ -107,25 +108,34 @@ fn status_without_reports(reading: &Result<Root, Error>) -> u8 {
     }
 }
 
+/// Whether a run over a document writes its text and answers its status.
+fn is_written(alloc: Global, (document, status, text): &Case) -> bool {
+    let (written, answered) = run_over(alloc, document);
+    answered == *status && written.as_slice() == text.as_bytes()
+}
+
 #[test]
 fn written_lines(rt: HostRuntime) {
-    for (document, status, text) in CASES {
-        let (written, answered) = run_over(rt.alloc(), document);
-        assert_eq!(rt; answered, status, "{document}");
-        assert_eq!(rt; written.as_slice(), text.as_bytes(), "{document}");
+    for case in CASES.iter() {
+        assert!(rt; is_written(rt.alloc(), case), "{}", case.0);
     }
+}
+
+/// Whether a document is read, or refused, as its status says, from bytes and from a reader.
+fn is_answered(alloc: Global, (document, status, _): &Case) -> bool {
+    let expected = if *status == 1 { 0 } else { *status };
+    let sliced = Root::from_slice(alloc, document.as_bytes());
+    let mut reader = Watched::new(document.as_bytes());
+    let read = Root::from_reader(alloc, &mut reader);
+    status_without_reports(&sliced) == expected
+        && status_without_reports(&read) == expected
+        && !reader.failed()
 }
 
 #[test]
 fn answers(rt: HostRuntime) {
-    for (document, status, _) in CASES {
-        let expected = if status == 1 { 0 } else { status };
-        let sliced = Root::from_slice(rt.alloc(), document.as_bytes());
-        assert_eq!(rt; status_without_reports(&sliced), expected, "{document}");
-        let mut reader = Watched::new(document.as_bytes());
-        let read = Root::from_reader(rt.alloc(), &mut reader);
-        assert_eq!(rt; status_without_reports(&read), expected, "{document}");
-        assert!(rt; !reader.failed());
+    for case in CASES.iter() {
+        assert!(rt; is_answered(rt.alloc(), case), "{}", case.0);
     }
 }
 

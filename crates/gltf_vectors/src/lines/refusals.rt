@@ -5,6 +5,7 @@ use super::hog::Hog;
 use gltf_json::root::{ByteIn, Failed, Watched};
 use gltf_json::{Error, Root};
 use gltf_lines::run;
+use std::alloc::Global;
 use std::test::Fail;
 
 const DOCUMENT: &str = r#"{"asset":{"version":"2.0"}}"#;
@@ -23,40 +24,61 @@ fn failed_is_printed(rt: HostRuntime) -> Result<(), Fail> {
     Ok(())
 }
 
+/// Whether a run over a reader that fails at a call says so, and tells nothing of the document.
+fn is_refused_at(alloc: Global, fails_at: usize) -> bool {
+    let mut reader = Watched::new(Giver::new(DOCUMENT, fails_at));
+    let mut writer = Watched::new(Vec::new(alloc));
+    run(alloc, &mut reader, &mut writer) == 4
+        && reader.failed()
+        && writer.into_inner().as_slice() == REFUSAL
+}
+
+/// Whether reading from a reader that fails at a call is a failed read.
+fn is_failed_at(alloc: Global, fails_at: usize) -> bool {
+    let mut reader = Watched::new(Giver::new(DOCUMENT, fails_at));
+    matches!(Root::from_reader(alloc, &mut reader), Err(Error::Read))
+}
+
 #[test]
 fn readers_that_fail(rt: HostRuntime) {
     for fails_at in 1..DOCUMENT.len() + 2 {
-        let mut reader = Watched::new(Giver::new(DOCUMENT, fails_at));
-        let mut writer = Watched::new(Vec::new(rt.alloc()));
-        assert!(rt; run(rt.alloc(), &mut reader, &mut writer) == 4);
-        assert!(rt; reader.failed());
-        assert_eq!(rt; writer.into_inner().as_slice(), REFUSAL);
-
-        let mut reader = Watched::new(Giver::new(DOCUMENT, fails_at));
-        assert!(rt; matches!(Root::from_reader(rt.alloc(), &mut reader), Err(Error::Read)));
+        assert!(rt; is_refused_at(rt.alloc(), fails_at), "{fails_at}");
+        assert!(rt; is_failed_at(rt.alloc(), fails_at), "{fails_at}");
     }
+}
+
+#[test]
+fn readers_that_end(rt: HostRuntime) {
     let mut reader = Watched::new(Giver::new(DOCUMENT, 0));
     assert!(rt; Root::from_reader(rt.alloc(), &mut reader).is_ok());
     assert!(rt; !reader.failed());
     assert!(rt; matches!(reader.read(&mut [0]), Ok(0)));
 }
 
+/// Whether a run that may write less than is due writes the front that there is room for.
+fn is_cut_off(alloc: Global, document: &'static str, due: &[u8], room: usize) -> bool {
+    let mut reader = Watched::new(Giver::new(document, 0));
+    let mut writer = Watched::new(Taker {
+        taken: Vec::new(alloc),
+        room,
+    });
+    let is_refused = run(alloc, &mut reader, &mut writer) == 4 && writer.failed();
+    let taken = writer.into_inner().taken;
+    is_refused
+        && due
+            .get(..room)
+            .is_some_and(|front| taken.as_slice() == front)
+}
+
 #[test]
 fn writers_that_are_full(rt: HostRuntime) {
-    for (document, due) in [
-        (DOCUMENT, b"clean\n".as_slice()),
-        ("{}", b"refused: not a glTF document\n".as_slice()),
-    ] {
-        for room in 0..due.len() {
-            let mut reader = Watched::new(Giver::new(document, 0));
-            let mut writer = Watched::new(Taker {
-                taken: Vec::new(rt.alloc()),
-                room,
-            });
-            assert!(rt; run(rt.alloc(), &mut reader, &mut writer) == 4);
-            assert!(rt; writer.failed());
-            assert_eq!(rt; writer.into_inner().taken.as_slice(), &due[..room]);
-        }
+    let clean = b"clean\n";
+    for room in 0..clean.len() {
+        assert!(rt; is_cut_off(rt.alloc(), DOCUMENT, clean, room), "{room}");
+    }
+    let refused = b"refused: not a glTF document\n";
+    for room in 0..refused.len() {
+        assert!(rt; is_cut_off(rt.alloc(), "{}", refused, room), "{room}");
     }
 }
 

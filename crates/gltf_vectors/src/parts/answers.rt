@@ -3,6 +3,7 @@
 use super::{is_refused, read};
 use gltf_base::validation::Checked;
 use gltf_parts::accessor::Accessor;
+use gltf_parts::extensions::texture;
 use gltf_parts::extras::Void;
 use gltf_parts::image::Image;
 use gltf_parts::material::{Material, PbrMetallicRoughness};
@@ -12,11 +13,11 @@ use std::test::Fail;
 #[test]
 fn samplers(rt: HostRuntime) -> Result<(), Fail> {
     let alloc = rt.alloc();
-    let plain: Sampler = read(alloc, "{}")??;
+    let plain: Sampler = read(alloc, "{}")?;
     assert!(rt; matches!(plain.wrap_s, Checked::Valid(WrappingMode::Repeat)));
     assert!(rt; matches!(plain.wrap_t, Checked::Valid(WrappingMode::Repeat)));
     assert!(rt; plain.mag_filter.is_none() && plain.min_filter.is_none());
-    let filtered: Sampler = read(alloc, r#"{"magFilter":9984,"minFilter":9984}"#)??;
+    let filtered: Sampler = read(alloc, r#"{"magFilter":9984,"minFilter":9984}"#)?;
     assert!(rt; matches!(filtered.mag_filter, Some(Checked::Invalid)));
     assert!(rt;
         matches!(
@@ -30,39 +31,58 @@ fn samplers(rt: HostRuntime) -> Result<(), Fail> {
 #[test]
 fn textures(rt: HostRuntime) -> Result<(), Fail> {
     let alloc = rt.alloc();
-    let texture: Texture = read(alloc, "{}")??;
-    assert_eq!(rt; texture.source.value(), 4294967295);
+    let source = read::<Texture>(alloc, "{}")?.source;
+    assert_eq!(rt; source.value(), 4294967295);
     assert!(rt; is_refused::<Texture>(alloc, r#"{"source":null}"#)?);
     assert!(rt; is_refused::<Texture>(alloc, r#"{"source":4294967296}"#)?);
-    let info: Info = read(
-        alloc,
-        r#"{"index":0,"extensions":{"EXT_y":null,"KHR_texture_transform":null}}"#,
-    )??;
-    let extensions = info.extensions.ok_or("no extensions")?;
+    Ok(())
+}
+
+#[test]
+fn extensions_of_references(rt: HostRuntime) -> Result<(), Fail> {
+    let extensions: texture::Info = read(
+        rt.alloc(),
+        r#"{"EXT_y":null,"KHR_texture_transform":null}"#,
+    )?;
     assert!(rt; extensions.texture_transform.is_none());
-    assert_eq!(rt; extensions.others.len(), 1);
-    assert!(rt; extensions.others.contains_key("EXT_y"));
+    assert!(rt; extensions.others.len() == 1 && extensions.others.contains_key("EXT_y"));
+    Ok(())
+}
+
+#[test]
+fn references(rt: HostRuntime) -> Result<(), Fail> {
+    let text = r#"{"index":0,"extensions":{"EXT_y":null,"KHR_texture_transform":null}}"#;
+    let extensions = read::<Info>(rt.alloc(), text)?.extensions;
+    let kept = extensions.ok_or("no extensions")?.others;
+    assert!(rt; kept.contains_key("EXT_y"));
+    Ok(())
+}
+
+#[test]
+fn metallic_roughness(rt: HostRuntime) -> Result<(), Fail> {
+    let alloc = rt.alloc();
+    assert!(rt; is_refused::<PbrMetallicRoughness>(alloc, r#"{"metallicFactor":null}"#)?);
+    let text = r#"{"metallicFactor":0.5}"#;
+    let factor = read::<PbrMetallicRoughness>(alloc, text)?.metallic_factor;
+    let factor = factor.0.ok_or("no factor")?;
+    assert_eq!(rt; factor.as_value().as_f64(), Some(0.5));
     Ok(())
 }
 
 #[test]
 fn materials(rt: HostRuntime) -> Result<(), Fail> {
     let alloc = rt.alloc();
-    assert!(rt; is_refused::<PbrMetallicRoughness>(alloc, r#"{"metallicFactor":null}"#)?);
-    let metallic: PbrMetallicRoughness = read(alloc, r#"{"metallicFactor":0.5}"#)??;
-    let factor = metallic.metallic_factor.0.ok_or("no factor")?;
-    assert_eq!(rt; factor.as_value().as_f64(), Some(0.5));
     assert!(rt; is_refused::<Material>(alloc, r#"{"emissiveFactor":[0,0]}"#)?);
-    let dark: Material = read(alloc, r#"{"emissiveFactor":[0,0,0]}"#)??;
-    assert!(rt; dark.emissive_factor.0.is_some());
     assert!(rt; is_refused::<Material>(alloc, r#"{"pbrMetallicRoughness":null}"#)?);
+    let factor = read::<Material>(alloc, r#"{"emissiveFactor":[0,0,0]}"#)?.emissive_factor;
+    assert!(rt; factor.0.is_some());
     Ok(())
 }
 
 #[test]
 fn images_and_accessors(rt: HostRuntime) -> Result<(), Fail> {
     let alloc = rt.alloc();
-    let image: Image = read(alloc, r#"{"mimeType":"image/gif"}"#)??;
+    let image: Image = read(alloc, r#"{"mimeType":"image/gif"}"#)?;
     assert!(rt; image.mime_type.is_some());
     assert!(rt; is_refused::<Accessor>(alloc, "[]")?);
     Ok(())

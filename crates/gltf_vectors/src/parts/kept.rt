@@ -15,29 +15,41 @@ fn is_kept(others: &Map<String, Value>) -> bool {
 #[test]
 fn by_extensions_of_storage(rt: HostRuntime) -> Result<(), Fail> {
     let alloc = rt.alloc();
-    assert!(rt; is_kept(&read::<accessor::Accessor>(alloc, UNKNOWN)??.others));
-    assert!(rt; is_kept(&read::<buffer::Buffer>(alloc, UNKNOWN)??.others));
-    assert!(rt; is_kept(&read::<buffer::View>(alloc, UNKNOWN)??.others));
-    assert!(rt; is_kept(&read::<image::Image>(alloc, UNKNOWN)??.others));
+    assert!(rt; is_kept(&read::<accessor::Accessor>(alloc, UNKNOWN)?.others));
+    assert!(rt; is_kept(&read::<buffer::Buffer>(alloc, UNKNOWN)?.others));
+    assert!(rt; is_kept(&read::<buffer::View>(alloc, UNKNOWN)?.others));
+    assert!(rt; is_kept(&read::<image::Image>(alloc, UNKNOWN)?.others));
     Ok(())
 }
 
 #[test]
 fn by_extensions_of_textures(rt: HostRuntime) -> Result<(), Fail> {
     let alloc = rt.alloc();
-    assert!(rt; is_kept(&read::<texture::Sampler>(alloc, UNKNOWN)??.others));
-    assert!(rt; is_kept(&read::<texture::Texture>(alloc, UNKNOWN)??.others));
-    assert!(rt; is_kept(&read::<texture::Info>(alloc, UNKNOWN)??.others));
+    assert!(rt; is_kept(&read::<texture::Sampler>(alloc, UNKNOWN)?.others));
+    assert!(rt; is_kept(&read::<texture::Texture>(alloc, UNKNOWN)?.others));
+    assert!(rt; is_kept(&read::<texture::Info>(alloc, UNKNOWN)?.others));
     Ok(())
 }
 
 #[test]
 fn by_extensions_of_materials(rt: HostRuntime) -> Result<(), Fail> {
+    let kept = read::<material::Material>(rt.alloc(), UNKNOWN)?.others;
+    assert!(rt; is_kept(&kept));
+    Ok(())
+}
+
+#[test]
+fn by_extensions_of_references(rt: HostRuntime) -> Result<(), Fail> {
     let alloc = rt.alloc();
-    assert!(rt; is_kept(&read::<material::Material>(alloc, UNKNOWN)??.others));
-    assert!(rt; is_kept(&read::<material::PbrMetallicRoughness>(alloc, UNKNOWN)??.others));
-    assert!(rt; is_kept(&read::<material::NormalTexture>(alloc, UNKNOWN)??.others));
-    assert!(rt; is_kept(&read::<material::OcclusionTexture>(alloc, UNKNOWN)??.others));
-    assert!(rt; is_kept(&read::<material::PbrSpecularGlossiness>(alloc, UNKNOWN)??.others));
+    assert!(rt; is_kept(&read::<material::PbrMetallicRoughness>(alloc, UNKNOWN)?.others));
+    assert!(rt; is_kept(&read::<material::NormalTexture>(alloc, UNKNOWN)?.others));
+    assert!(rt; is_kept(&read::<material::OcclusionTexture>(alloc, UNKNOWN)?.others));
+    Ok(())
+}
+
+#[test]
+fn by_glossiness(rt: HostRuntime) -> Result<(), Fail> {
+    let kept = read::<material::PbrSpecularGlossiness>(rt.alloc(), UNKNOWN)?.others;
+    assert!(rt; is_kept(&kept));
     Ok(())
 }

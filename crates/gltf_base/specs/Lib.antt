@@ -1,16 +1,7 @@
 pub mod Lists
 pub mod Indexes
-pub mod Spelling
-pub mod Choices
-pub mod Elements
-pub mod SceneChoices
-pub mod TextureChoices
-pub mod Keys
-pub mod Semantics
-pub mod Names
 pub mod Steps
 pub mod Text
 pub mod Reals
 pub mod Errors
-pub mod Checked
 pub mod Pushes

@@ -1,7 +1,7 @@
 -- The steps of a path, without where they lie in memory.
 use Rattle.std.specs.Prelude.{ℕ, List, map}
-use Rattle.gltf_base.specs.Keys.{key_text}
-use Rattle.gltf_base.specs.Semantics.{checked_key}
+use Rattle.gltf_checked.specs.Keys.{key_text}
+use Rattle.gltf_checked.specs.Semantics.{checked_key}
 use Rattle.gltf_base.specs.declared.path.Step.{Step as Borrowed}
 use Rattle.gltf_base.specs.declared.path.Step.TheVariants as borrowed
 use Rattle.arrayvec.specs.ArrayVec.{ArrayVec}

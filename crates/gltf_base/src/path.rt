@@ -5,9 +5,9 @@ ghost use Rattle.std.specs.String.{string_bytes};
 ghost use Rattle.gltf_base.specs.Steps.{field, item, key, value, steps_of, step_of};
 ghost use Rattle.gltf_base.specs.Text.{path_text, text_with};
 
-use crate::mesh::{Semantic, write_semantic};
 use crate::validation::Checked;
 use arrayvec::ArrayVec;
+use gltf_checked::mesh::{Semantic, write_semantic};
 use std::alloc::{AllocError, Global};
 use std::fmt::{self, Display, Formatter, Write};
 
@@ -59,8 +59,8 @@ impl KeyStep for String {
 }
 
 impl KeyStep for Checked<Semantic> {
-    ghost use Rattle.gltf_base.specs.Semantics.{checked_key};
-    ghost use Rattle.gltf_base.specs.Keys.{key_text as text_of_key};
+    ghost use Rattle.gltf_checked.specs.Semantics.{checked_key};
+    ghost use Rattle.gltf_checked.specs.Keys.{key_text as text_of_key};
 
     ghost key_text = { λ semantic. text_of_key (checked_key semantic) };
 

@@ -1,7 +1,8 @@
-//! What is wrong at a place of a document, and items of a choice that may be none of its values.
+//! What is wrong at a place of a document, and numbers of bytes or items.
 
 ghost use Rattle.std.specs.Prelude.{◌≡◌};
 
+pub use gltf_checked::validation::Checked;
 use std::fmt::{self, Display, Formatter, Write};
 
 /// What is wrong at a place of a document.
@@ -37,50 +38,6 @@ impl Display for Error {
 }
 
 impl std::error::Error for Error {}
-
-/// An item of a choice, or a value that is none of the choice's.
-#[derive(Clone, Copy, Debug, Drop, PartialEq, Eq, PartialOrd, Ord, Hash)]
-pub enum Checked<T> {
-    /// The item.
-    Valid(T),
-    /// A value that is none of the choice's items.
-    Invalid,
-}
-
-impl<T> Checked<T> {
-    ghost use Rattle.gltf_base.specs.Checked.{IsValid, checked_copied};
-
-    /// The item behind a reference.
-    pub fn as_ref(&self) -> Checked<&T>
-        ensures { checked_copied result ≡ self.now }
-    {
-        match self {
-            Checked::Valid(item) => Checked::Valid(item),
-            Checked::Invalid => Checked::Invalid,
-        }
-    }
-
-    /// The item, of what holds one.
-    pub fn unwrap(self) -> T
-        requires { IsValid self }
-        ensures { self ≡ Checked.Valid result }
-    {
-        match self {
-            Checked::Valid(item) => item,
-            Checked::Invalid => unreachable!(),
-        }
-    }
-}
-
-impl<T: Default> Default for Checked<T> {
-    ghost use Rattle.gltf_base.specs.Checked.{IsValidAnd};
-
-    ghost is_default = { λ checked. IsValidAnd checked T.is_default };
-
-    fn default() -> Checked<T> {
-        Checked::Valid(T::default())
-    }
-}
 
 /// A number of bytes or items, as JSON can hold it.
 #[derive(Clone, Copy, Debug, PartialEq, Eq, Hash)]

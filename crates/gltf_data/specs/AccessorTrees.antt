@@ -2,7 +2,7 @@
 use Rattle.std.specs.Prelude.{[], ◌∷◌}
 use Rattle.serde_json.specs.Data.{no_members}
 use Rattle.serde_json.specs.View.{members_view}
-use Rattle.gltf_base.specs.Choices.{generic_component_type_spelling, index_component_type_spelling, accessor_type_spelling}
+use Rattle.gltf_choices.specs.Choices.{generic_component_type_spelling, index_component_type_spelling, accessor_type_spelling}
 use Rattle.gltf_schema.specs.Tree.{Tree, Trees, trees, tree_or_absent, truth, object}
 use Rattle.gltf_schema.specs.Leaves.{checked_tree}
 use Rattle.gltf_schema.specs.Fields.{index_tree, size_tree, text_tree, any_tree, closed_object}

@@ -1,7 +1,7 @@
 -- The members of buffers and their views, in the rows' order.
 use Rattle.std.specs.Prelude.{[], ◌∷◌}
 use Rattle.serde_json.specs.View.{members_view}
-use Rattle.gltf_base.specs.Choices.{target_spelling}
+use Rattle.gltf_choices.specs.Choices.{target_spelling}
 use Rattle.gltf_schema.specs.Tree.{Tree, Trees, trees, tree_or_absent, whole, object}
 use Rattle.gltf_schema.specs.Leaves.{checked_tree}
 use Rattle.gltf_schema.specs.Fields.{index_tree, size_tree, text_tree, any_tree}

@@ -25,6 +25,7 @@ pub use gltf_base::accessor::{
 };
 
 /// How the data of a view is read as elements.
+// What takes longest to drop stands last (docs/DECISIONS.md).
 #[derive(Clone, Debug, Drop)]
 pub struct Accessor {
     /// The view that the elements lie in; without one they are zeros, or come from `sparse`.

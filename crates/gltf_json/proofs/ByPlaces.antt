@@ -2,8 +2,8 @@
 use Rattle.std.proofs.Common.{◌≡◌, ℕ, suc, Bool, List, [], ◌∷◌, ◌++◌, refl, sym, ◌∙◌, ap, append_assoc}
 use Rattle.std.proofs.lemmas.List.{append-nil}
 use Rattle.std.specs.List.{flat_map}
-use Rattle.gltf_base.specs.Keys.{Key, key_text}
-use Rattle.gltf_base.specs.Keys as keys
+use Rattle.gltf_checked.specs.Keys.{Key, key_text}
+use Rattle.gltf_checked.specs.Keys as keys
 use Rattle.gltf_base.specs.Lists.{ListName}
 use Rattle.gltf_base.specs.Steps.{Step, field, item, key}
 use Rattle.gltf_schema.specs.Tree as tree

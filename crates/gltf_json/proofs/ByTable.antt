@@ -1,9 +1,9 @@
 -- The reports of options, lists and choices are those of the table.
 use Rattle.std.proofs.Common.{◌≡◌, ℕ, suc, List, [], ◌∷◌, ◌++◌, map, Option, Some, None, refl, ap}
-use Rattle.gltf_base.specs.Spelling.{Spelling}
+use Rattle.gltf_checked.specs.Spelling.{Spelling}
 use Rattle.gltf_base.specs.Steps.{Step, item}
-use Rattle.gltf_base.specs.declared.validation.Checked.{Checked}
-use Rattle.gltf_base.specs.declared.validation.Checked.TheVariants.{Valid, Invalid}
+use Rattle.gltf_checked.specs.declared.validation.Checked.{Checked}
+use Rattle.gltf_checked.specs.declared.validation.Checked.TheVariants.{Valid, Invalid}
 use Rattle.gltf_schema.specs.Tree.{Tree, absent, trees, list, tree_or_absent}
 use Rattle.gltf_schema.specs.Kind.{Kind, IndexInto, SourceImage, ChannelSampler, U32, U64, Stride, Number, Numbers, Text, Truth, Any, Choice, Attributes, ListOf, Object}
 use Rattle.gltf_schema.specs.Leaves.{checked_tree}

@@ -1,8 +1,8 @@
 -- What has no report is closed.
 use Rattle.std.proofs.Common.{◌≡◌, ℕ, suc, ◌<◌, List, [], ◌∷◌, ◌++◌, Bool, true, false, not, cond, nat_lt, refl}
 use Rattle.std.proofs.lemmas.Bool.{ltb-true}
-use Rattle.gltf_base.specs.Keys.{Key, key_text}
-use Rattle.gltf_base.specs.Keys as keys
+use Rattle.gltf_checked.specs.Keys.{Key, key_text}
+use Rattle.gltf_checked.specs.Keys as keys
 use Rattle.gltf_base.specs.Lists.{ListName}
 use Rattle.gltf_base.specs.Steps.{Step, field, item, key}
 use Rattle.gltf_base.specs.declared.validation.Error.TheVariants.{IndexOutOfBounds, Missing}

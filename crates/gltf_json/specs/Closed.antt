@@ -1,6 +1,6 @@
 -- Documents in which every index names an item and every choice is one that is listed.
 use Rattle.std.specs.Prelude.{ℕ, ◌<◌, List, [], ◌∷◌}
-use Rattle.gltf_base.specs.Keys.{Key, unknown}
+use Rattle.gltf_checked.specs.Keys.{Key, unknown}
 use Rattle.gltf_base.specs.Lists.{ListName}
 use Rattle.gltf_schema.specs.Tree.{Tree, index, invalid, Trees, end, with_tree, items_in, members_in, entries_in}
 use Rattle.gltf_schema.specs.Kind.{Kind, IndexInto, SourceImage, ChannelSampler, Choice, Attributes, ListOf, Object, Rows, no_rows, row}

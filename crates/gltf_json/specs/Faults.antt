@@ -1,6 +1,6 @@
 -- What is wrong with a value by itself.
 use Rattle.std.specs.Prelude.{ℕ, List, [], ◌∷◌, ◌++◌, Bool, not, cond, ◌&&◌, nat_lt, nat_le, nat_eq, Option, Some, None}
-use Rattle.gltf_base.specs.Keys.{Key, unknown, key_text}
+use Rattle.gltf_checked.specs.Keys.{Key, unknown, key_text}
 use Rattle.gltf_base.specs.Steps.{Step, key}
 use Rattle.gltf_base.specs.declared.validation.Error.{Error}
 use Rattle.gltf_base.specs.declared.validation.Error.TheVariants.{IndexOutOfBounds, Invalid, Missing}

@@ -1,11 +1,11 @@
 -- The places of a tree, and what is wrong at each.
 use Rattle.std.specs.Prelude.{ℕ, suc, List, [], ◌∷◌, ◌++◌}
 use Rattle.std.specs.List.{flat_map}
-use Rattle.gltf_base.specs.Keys.{Key, unknown, key_text}
+use Rattle.gltf_checked.specs.Keys.{Key, unknown, key_text}
 use Rattle.gltf_base.specs.Lists.{ListName}
-use Rattle.gltf_base.specs.Spelling.{by_name}
+use Rattle.gltf_checked.specs.Spelling.{by_name}
 use Rattle.gltf_base.specs.Steps.{Step, field, item, key}
-use Rattle.gltf_base.specs.declared.choice.Form.TheVariants as form
+use Rattle.gltf_checked.specs.declared.choice.Form.TheVariants as form
 use Rattle.gltf_schema.specs.Tree.{Tree, absent, index, chosen, invalid, object, Trees, end, with_tree, items_in, members_in, entries_in}
 use Rattle.gltf_schema.specs.Kind.{Kind, IndexInto, SourceImage, ChannelSampler, Stride, Choice, Attributes, ListOf, Object, Rows, no_rows, row}
 use Rattle.gltf_json.specs.Lists.{count_in, sampler_count}

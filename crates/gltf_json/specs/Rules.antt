@@ -4,8 +4,8 @@ use Rattle.std.specs.List.{list_any}
 use Rattle.std.specs.Map.{lookup}
 use Rattle.std.specs.Str.{bytes_eq}
 use Rattle.serde_json.specs.Data.{Data, array, number, no_items, item as data_item}
-use Rattle.gltf_base.specs.Keys.{Key, positions}
-use Rattle.gltf_base.specs.Spelling.{by_name}
+use Rattle.gltf_checked.specs.Keys.{Key, positions}
+use Rattle.gltf_checked.specs.Spelling.{by_name}
 use Rattle.gltf_base.specs.Steps.{field, item, key, value}
 use Rattle.gltf_base.specs.Lists.{ListName}
 use Rattle.gltf_base.specs.declared.validation.Error.TheVariants.{Invalid, Missing, Unsupported}

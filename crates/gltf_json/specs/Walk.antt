@@ -4,8 +4,8 @@ use Rattle.gltf_base.specs.Steps.{Step, item, key, steps_of}
 use Rattle.gltf_base.specs.declared.path.Step.{Step as Borrowed}
 use Rattle.gltf_base.specs.declared.validation.Error.{Error}
 use Rattle.gltf_base.specs.declared.validation.Error.TheVariants as error
-use Rattle.gltf_base.specs.declared.validation.Checked.{Checked}
-use Rattle.gltf_base.specs.declared.validation.Checked.TheVariants as checked
+use Rattle.gltf_checked.specs.declared.validation.Checked.{Checked}
+use Rattle.gltf_checked.specs.declared.validation.Checked.TheVariants as checked
 use Rattle.arrayvec.specs.ArrayVec.{ArrayVec}
 use Rattle.gltf_schema.specs.Tree.{Tree}
 use Rattle.gltf_schema.specs.Kind.{Kind, ListOf}

@@ -1,17 +1,17 @@
 -- The rows of materials and of their references to textures (glTF 2.0, sections 5.19 to 5.22).
 use Rattle.std.specs.Prelude.{◌≡◌, true, false, codes, refl}
 use Rattle.gltf_base.specs.Lists.{textures}
-use Rattle.gltf_base.specs.SceneChoices.{alpha_mode_spelling, alpha_modes}
-use Rattle.gltf_base.specs.declared.choice.Form.TheVariants as form
-use Rattle.gltf_base.specs.declared.material.AlphaMode.TheVariants as alpha_mode
+use Rattle.gltf_choices.specs.SceneChoices.{alpha_mode_spelling, alpha_modes}
+use Rattle.gltf_checked.specs.declared.choice.Form.TheVariants as form
+use Rattle.gltf_choices.specs.declared.material.AlphaMode.TheVariants as alpha_mode
 use Rattle.gltf_schema.specs.Tree.{Tree, whole, truth, chosen}
 use Rattle.gltf_schema.specs.Kind.{required, optional, always, sometimes, Kind, IndexInto, U32, Number, Numbers, Text, Truth, Object, ObjectName, Rows, ◌◂◌}
 use Rattle.gltf_schema.specs.Leaves.{choice_of}
 use Rattle.gltf_schema.specs.Fields.{closed_object}
 use Rattle.gltf_schema.specs.Defaults.{defaults}
 use Rattle.gltf_schema.specs.Extensions.{kept_extensions, extensions_and_extras}
-use Rattle.gltf_parts.specs.TextureTable.{info_kind, info_sound}
-use Rattle.gltf_parts.specs.MaterialExtensionTable.{material_extensions_kind, material_extension_sound}
+use Rattle.gltf_textures.specs.TextureTable.{info_kind, info_sound}
+use Rattle.gltf_shading.specs.MaterialExtensionTable.{material_extensions_kind, material_extension_sound}
 use Rattle.gltf_schema.specs.Plain.{are_sound}
 
 abbrev pub alpha_mode_kind : Kind

@@ -1,21 +1,21 @@
 -- The members of materials and of their references to textures, in the rows' order.
 use Rattle.std.specs.Prelude.{[], ◌∷◌}
 use Rattle.serde_json.specs.View.{members_view}
-use Rattle.gltf_base.specs.SceneChoices.{alpha_mode_spelling}
+use Rattle.gltf_choices.specs.SceneChoices.{alpha_mode_spelling}
 use Rattle.gltf_schema.specs.Tree.{Tree, Trees, trees, tree_or_absent, whole, truth, object}
 use Rattle.gltf_schema.specs.Leaves.{checked_tree}
 use Rattle.gltf_schema.specs.Fields.{index_tree, text_tree, real_tree, reals_tree, any_tree, closed_object}
-use Rattle.gltf_parts.specs.TextureTrees.{info_members}
-use Rattle.gltf_parts.specs.MaterialExtensionTrees.{material_extension_members}
+use Rattle.gltf_textures.specs.TextureTrees.{info_members}
+use Rattle.gltf_shading.specs.MaterialExtensionTrees.{material_extension_members}
 use Rattle.gltf_parts.specs.declared.material.AlphaCutoff.{AlphaCutoff}
 use Rattle.gltf_parts.specs.declared.material.Material.{Material}
 use Rattle.gltf_parts.specs.declared.material.PbrMetallicRoughness.{PbrMetallicRoughness}
 use Rattle.gltf_parts.specs.declared.material.NormalTexture.{NormalTexture}
 use Rattle.gltf_parts.specs.declared.material.OcclusionTexture.{OcclusionTexture}
-use Rattle.gltf_parts.specs.declared.extensions.material.Material.{Material as MaterialExtensions}
-use Rattle.gltf_parts.specs.declared.extensions.material.PbrMetallicRoughness.{PbrMetallicRoughness as PbrMetallicRoughnessExtensions}
-use Rattle.gltf_parts.specs.declared.extensions.material.NormalTexture.{NormalTexture as NormalTextureExtensions}
-use Rattle.gltf_parts.specs.declared.extensions.material.OcclusionTexture.{OcclusionTexture as OcclusionTextureExtensions}
+use Rattle.gltf_shading.specs.declared.extensions.material.Material.{Material as MaterialExtensions}
+use Rattle.gltf_shading.specs.declared.extensions.material.PbrMetallicRoughness.{PbrMetallicRoughness as PbrMetallicRoughnessExtensions}
+use Rattle.gltf_shading.specs.declared.extensions.material.NormalTexture.{NormalTexture as NormalTextureExtensions}
+use Rattle.gltf_shading.specs.declared.extensions.material.OcclusionTexture.{OcclusionTexture as OcclusionTextureExtensions}
 
 abbrev pub alpha_cutoff_tree : AlphaCutoff → Tree
 alpha_cutoff_tree c = real_tree c.0

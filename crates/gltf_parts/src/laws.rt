@@ -2,32 +2,10 @@
 
 ghost use Rattle.std.specs.Prelude.{◌≡◌, None};
 
-use crate::extensions::material::{
-    AttenuationColor, AttenuationDistance, EmissiveStrengthFactor, IndexOfRefraction,
-    PbrDiffuseFactor, PbrSpecularFactor, SpecularColorFactor, SpecularFactor, ThicknessFactor,
-    TransmissionFactor,
-};
-use crate::extensions::texture::{
-    TextureTransformOffset, TextureTransformRotation, TextureTransformScale,
-};
-use crate::material::{EmissiveFactor, PbrBaseColorFactor, StrengthFactor};
+use crate::material::{EmissiveFactor, PbrBaseColorFactor};
 
 /// The default of each factor is `None`.
 pub fn factors_are_absent_by_default()
     ensures emissive { (x : _) → ⟦<EmissiveFactor as Default>⟧.is_default x → x.0 ≡ None }
     ensures base_color { (x : _) → ⟦<PbrBaseColorFactor as Default>⟧.is_default x → x.0 ≡ None }
-    ensures strength { (x : _) → ⟦<StrengthFactor as Default>⟧.is_default x → x.0 ≡ None }
-    ensures diffuse { (x : _) → ⟦<PbrDiffuseFactor as Default>⟧.is_default x → x.0 ≡ None }
-    ensures specular_color_of_glossiness { (x : _) → ⟦<PbrSpecularFactor as Default>⟧.is_default x → x.0 ≡ None }
-    ensures transmission { (x : _) → ⟦<TransmissionFactor as Default>⟧.is_default x → x.0 ≡ None }
-    ensures thickness { (x : _) → ⟦<ThicknessFactor as Default>⟧.is_default x → x.0 ≡ None }
-    ensures attenuation_distance { (x : _) → ⟦<AttenuationDistance as Default>⟧.is_default x → x.0 ≡ None }
-    ensures attenuation_color { (x : _) → ⟦<AttenuationColor as Default>⟧.is_default x → x.0 ≡ None }
-    ensures specular { (x : _) → ⟦<SpecularFactor as Default>⟧.is_default x → x.0 ≡ None }
-    ensures specular_color { (x : _) → ⟦<SpecularColorFactor as Default>⟧.is_default x → x.0 ≡ None }
-    ensures refraction { (x : _) → ⟦<IndexOfRefraction as Default>⟧.is_default x → x.0 ≡ None }
-    ensures emissive_strength { (x : _) → ⟦<EmissiveStrengthFactor as Default>⟧.is_default x → x.0 ≡ None }
-    ensures offset { (x : _) → ⟦<TextureTransformOffset as Default>⟧.is_default x → x.0 ≡ None }
-    ensures rotation { (x : _) → ⟦<TextureTransformRotation as Default>⟧.is_default x → x.0 ≡ None }
-    ensures scale { (x : _) → ⟦<TextureTransformScale as Default>⟧.is_default x → x.0 ≡ None }
 {}

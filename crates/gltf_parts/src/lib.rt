@@ -1,11 +1,11 @@
-//! The glTF 2.0 objects of textures and materials, and beside them those of accessors, buffers and
-//! images.
+//! The glTF 2.0 objects of materials, and beside them those of accessors, buffers, images and
+//! textures.
 #![tactic(auto)]
 
 pub mod extensions;
 pub mod laws;
 pub mod material;
-pub mod texture;
 
 pub use gltf_data::{accessor, buffer, extras, image};
 pub use gltf_schema::{Blank, Error, Object, Reading, Schema, Unlisted};
+pub use gltf_textures::texture;

@@ -15,6 +15,7 @@ pub use gltf_base::material::{AlphaMode, VALID_ALPHA_MODES};
 use gltf_base::validation::Checked;
 use gltf_base::{Index, Listed, Real};
 use gltf_schema::{Blank, Error, Object, Reading, Schema};
+pub use gltf_shading::material::StrengthFactor;
 use serde_json::{Map, Value};
 use std::alloc::Global;
 
@@ -114,6 +115,7 @@ impl Object for Material {
 }
 
 /// The parameters of the metallic-roughness model.
+// What takes longest to drop stands last (docs/DECISIONS.md).
 #[derive(Clone, Debug, Drop)]
 pub struct PbrMetallicRoughness {
     /// The factors of the base color.
@@ -300,7 +302,3 @@ pub struct EmissiveFactor(pub Option<[Real; 3]>);
 /// The factors of a base color: red, green, blue, alpha; `None` stands for ones.
 #[derive(Clone, Debug, Default, Drop)]
 pub struct PbrBaseColorFactor(pub Option<[Real; 4]>);
-
-/// A factor from 0 to 1; `None` stands for 1.
-#[derive(Clone, Debug, Default, Drop)]
-pub struct StrengthFactor(pub Option<Real>);

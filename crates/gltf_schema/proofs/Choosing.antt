@@ -4,8 +4,8 @@ use Rattle.std.proofs.lemmas.Bool.{eqb-true}
 use Rattle.std.proofs.lemmas.Slice.Eq.{bytes_eq-Decides}
 use Rattle.std.specs.List.{list_any}
 use Rattle.std.proofs.Common.{cond}
-use Rattle.gltf_base.specs.Spelling.{Spelling, by_number, by_name, is_spelled, item_spelled}
-use Rattle.gltf_base.specs.declared.validation.Checked.TheVariants.{Valid}
+use Rattle.gltf_checked.specs.Spelling.{Spelling, by_number, by_name, is_spelled, item_spelled}
+use Rattle.gltf_checked.specs.declared.validation.Checked.TheVariants.{Valid}
 use Rattle.gltf_schema.specs.Tree.{chosen, invalid}
 use Rattle.gltf_schema.specs.Read.{choice_among}
 use Rattle.gltf_schema.specs.Leaves.{checked_tree}

@@ -2,8 +2,8 @@
 use Rattle.std.specs.Prelude.{ℕ, List, Bool, false, ◌||◌}
 use Rattle.std.specs.Str.{bytes_eq}
 use Rattle.gltf_base.specs.Lists.{ListName}
-use Rattle.gltf_base.specs.Spelling.{Spelling}
-use Rattle.gltf_base.specs.declared.choice.Form.{Form}
+use Rattle.gltf_checked.specs.Spelling.{Spelling}
+use Rattle.gltf_checked.specs.declared.choice.Form.{Form}
 use Rattle.gltf_schema.specs.Tree.{Tree}
 
 -- the objects; some have an extension object of their own

@@ -2,7 +2,7 @@
 use Rattle.std.specs.Prelude.{Bool, true, false, not, ◌&&◌, ◌||◌}
 use Rattle.std.specs.List.{list_any}
 use Rattle.serde_json.specs.Data.{null, Members, no_members, member}
-use Rattle.gltf_base.specs.Spelling.{is_spelled}
+use Rattle.gltf_checked.specs.Spelling.{is_spelled}
 use Rattle.gltf_schema.specs.Tree.{Tree, any, chosen, list, object, Trees, end, with_tree}
 use Rattle.gltf_schema.specs.Kind.{Mark, optional, always, unless, Kind, Choice, ListOf, Object, Rows, no_rows, row, has_row}
 

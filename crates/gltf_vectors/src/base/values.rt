@@ -31,9 +31,10 @@ fn paths(rt: HostRuntime) -> Result<(), Fail> {
 fn paths_are_shown(rt: HostRuntime) -> Result<(), Fail> {
     let alloc = rt.alloc();
     let foo = Path::new(alloc).field(alloc, "foo")?;
-    assert!(rt; format!(in alloc; "{foo}")?.as_str() == "foo");
+    let first = foo.index(alloc, 0)?.value_str(alloc, "baz")?;
+    assert!(rt; format!(in alloc; "{first}")?.as_str() == "foo[0] = \"baz\"");
     assert!(rt; foo.clone()? == foo);
-    assert!(rt; foo != Path::new(alloc));
+    assert!(rt; foo != first);
     Ok(())
 }
 

@@ -3,7 +3,6 @@
 use super::{is_refused, read};
 use gltf_base::validation::Checked;
 use gltf_parts::accessor::Accessor;
-use gltf_parts::extensions::texture;
 use gltf_parts::extras::Void;
 use gltf_parts::image::Image;
 use gltf_parts::material::{Material, PbrMetallicRoughness};
@@ -39,22 +38,13 @@ fn textures(rt: HostRuntime) -> Result<(), Fail> {
 }
 
 #[test]
-fn extensions_of_references(rt: HostRuntime) -> Result<(), Fail> {
-    let extensions: texture::Info = read(
-        rt.alloc(),
-        r#"{"EXT_y":null,"KHR_texture_transform":null}"#,
-    )?;
-    assert!(rt; extensions.texture_transform.is_none());
-    assert!(rt; extensions.others.len() == 1 && extensions.others.contains_key("EXT_y"));
-    Ok(())
-}
-
-#[test]
 fn references(rt: HostRuntime) -> Result<(), Fail> {
     let text = r#"{"index":0,"extensions":{"EXT_y":null,"KHR_texture_transform":null}}"#;
     let extensions = read::<Info>(rt.alloc(), text)?.extensions;
-    let kept = extensions.ok_or("no extensions")?.others;
-    assert!(rt; kept.contains_key("EXT_y"));
+    let extensions = extensions.ok_or("no extensions")?;
+    assert!(rt; extensions.texture_transform.is_none());
+    assert_eq!(rt; extensions.others.len(), 1);
+    assert!(rt; extensions.others.contains_key("EXT_y"));
     Ok(())
 }
 

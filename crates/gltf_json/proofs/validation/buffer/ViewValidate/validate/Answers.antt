@@ -1,7 +1,7 @@
 -- Each member in the table's order.
 use Rattle.std.proofs.Common.{lit≤, ◌++◌, ◌∷◌, [], codes}
 use Rattle.gltf_base.specs.Steps.{field}
-use Rattle.gltf_base.specs.Choices.{target_spelling}
+use Rattle.gltf_choices.specs.Choices.{target_spelling}
 use Rattle.gltf_data.specs.BufferTable as table
 use Rattle.gltf_data.specs.BufferTrees as made
 use Rattle.gltf_json.specs.RootTrees.{root_tree}

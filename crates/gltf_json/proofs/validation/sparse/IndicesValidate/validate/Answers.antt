@@ -1,7 +1,7 @@
 -- Each member in the table's order.
 use Rattle.std.proofs.Common.{lit≤, ◌++◌, ◌∷◌, [], codes}
 use Rattle.gltf_base.specs.Steps.{field}
-use Rattle.gltf_base.specs.Choices.{index_component_type_spelling}
+use Rattle.gltf_choices.specs.Choices.{index_component_type_spelling}
 use Rattle.gltf_data.specs.AccessorTable as table
 use Rattle.gltf_data.specs.AccessorTrees as made
 use Rattle.gltf_json.specs.RootTrees.{root_tree}

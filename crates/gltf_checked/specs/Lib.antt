@@ -1,0 +1,5 @@
+pub mod Spelling
+pub mod Checked
+pub mod Keys
+pub mod Semantics
+pub mod Names

@@ -1,0 +1,150 @@
+//! What the attributes of meshes mean.
+
+ghost use Rattle.std.specs.Prelude.{◌≡◌, ◌++◌, codes, option_and_then, IsOk, IfOk, OnOk};
+ghost use Rattle.std.specs.Option.{option_copied};
+ghost use Rattle.std.specs.String.{string_bytes};
+ghost use Rattle.gltf_checked.specs.Keys.{Key, key_text};
+ghost use Rattle.gltf_checked.specs.Names.{behind, set_number, set_key, plain_key, key_named, IsNamed};
+ghost use Rattle.gltf_checked.specs.Semantics.{semantic_key, checked_key};
+
+use crate::validation::Checked;
+use std::alloc::{AllocError, Global};
+use std::fmt::Write;
+
+/// What an attribute of a mesh means.
+#[derive(Clone, Debug, Drop, PartialEq, Eq, PartialOrd, Ord, Hash)]
+pub enum Semantic {
+    /// An attribute of an application's own, without the underscore.
+    Extras(String),
+    /// Where the vertices stand.
+    Positions,
+    /// What is upright on the surface.
+    Normals,
+    /// What runs along the surface.
+    Tangents,
+    /// The colors of a set, by its number.
+    Colors(u32),
+    /// The texture coordinates of a set, by its number.
+    TexCoords(u32),
+    /// The joints of a set, by its number.
+    Joints(u32),
+    /// The weights of a set's joints, by its number.
+    Weights(u32),
+}
+
+impl Semantic {
+    /// The semantic that an attribute's name means (glTF 2.0, section 3.7.2.1). Memory is taken for
+    /// the name of an application's own attribute alone.
+    #[tactic(auto, unfolding(crate::specs::Names::key_named))]
+    pub fn checked(alloc: Global, text: &str) -> Result<Checked<Semantic>, AllocError>
+        ensures key { IfOk result (λ semantic. checked_key semantic ≡ key_named text.now) }
+        ensures no_memory { behind (codes "_") text.now ≡ None → IsOk result }
+    {
+        match strip("_", text) {
+            Some(name) => {
+                let name = String::from_str(alloc, name)?;
+                Ok(Checked::Valid(Semantic::Extras(name)))
+            }
+            None => Ok(plain_semantic(text)),
+        }
+    }
+
+    /// The attribute's name that means the semantic.
+    pub fn to_string(&self, alloc: Global) -> Result<String, AllocError>
+        ensures { IfOk result (λ text. string_bytes text ≡ key_text (semantic_key self.now)) }
+    {
+        let mut text = String::new(alloc);
+        write_valid(&mut text, self)?;
+        Ok(text)
+    }
+}
+
+impl Checked<Semantic> {
+    /// The attribute's name that means the semantic, or the text that stands for none.
+    pub fn to_string(&self, alloc: Global) -> Result<String, AllocError>
+        ensures { IfOk result (λ text. string_bytes text ≡ key_text (checked_key self.now)) }
+    {
+        let mut text = String::new(alloc);
+        write_semantic(&mut text, self)?;
+        Ok(text)
+    }
+}
+
+/// The semantic of a name that isn't an application's own.
+fn plain_semantic(text: &str) -> Checked<Semantic>
+    ensures { checked_key result ≡ plain_key text.now }
+{
+    match text {
+        "POSITION" => Checked::Valid(Semantic::Positions),
+        "NORMAL" => Checked::Valid(Semantic::Normals),
+        "TANGENT" => Checked::Valid(Semantic::Tangents),
+        _ => set_semantic(text),
+    }
+}
+
+/// The semantic of a name that ends in the number of a set.
+fn set_semantic(text: &str) -> Checked<Semantic>
+    ensures { checked_key result ≡ set_key text.now }
+{
+    if let Some(set) = set_behind("COLOR_", text) {
+        Checked::Valid(Semantic::Colors(set))
+    } else if let Some(set) = set_behind("TEXCOORD_", text) {
+        Checked::Valid(Semantic::TexCoords(set))
+    } else if let Some(set) = set_behind("JOINTS_", text) {
+        Checked::Valid(Semantic::Joints(set))
+    } else if let Some(set) = set_behind("WEIGHTS_", text) {
+        Checked::Valid(Semantic::Weights(set))
+    } else {
+        Checked::Invalid
+    }
+}
+
+/// The number of the set, where a prefix and nothing else stands before it.
+fn set_behind(prefix: &str, text: &str) -> Option<u32>
+    ensures { result ≡ option_and_then set_number (behind prefix.now text.now) }
+{
+    parse_set(strip(prefix, text)?)
+}
+
+/// What stands behind a prefix.
+fn strip<'a>(prefix: &str, text: &'a str) -> Option<&'a str>
+    ensures { option_copied result ≡ behind prefix.now text.now }
+{
+    text.strip_prefix(prefix)
+}
+
+fn parse_set(text: &str) -> Option<u32>
+    ensures { result ≡ set_number text.now }
+{
+    text.parse().ok()
+}
+
+/// Appends the text of a semantic or of none.
+pub fn write_semantic(text: &mut String, semantic: &Checked<Semantic>) -> Result<(), AllocError>
+    ensures { OnOk result (string_bytes text.new ≡ string_bytes text.old ++ key_text (checked_key semantic.now)) }
+{
+    match semantic {
+        Checked::Valid(semantic) => write_valid(text, semantic),
+        Checked::Invalid => text.push_str("<invalid semantic name>"),
+    }
+}
+
+fn write_valid(text: &mut String, semantic: &Semantic) -> Result<(), AllocError>
+    ensures { OnOk result (string_bytes text.new ≡ string_bytes text.old ++ key_text (semantic_key semantic.now)) }
+{
+    match semantic {
+        Semantic::Extras(name) => write!(text, "_{name}"),
+        Semantic::Positions => text.push_str("POSITION"),
+        Semantic::Normals => text.push_str("NORMAL"),
+        Semantic::Tangents => text.push_str("TANGENT"),
+        Semantic::Colors(set) => write!(text, "COLOR_{set}"),
+        Semantic::TexCoords(set) => write!(text, "TEXCOORD_{set}"),
+        Semantic::Joints(set) => write!(text, "JOINTS_{set}"),
+        Semantic::Weights(set) => write!(text, "WEIGHTS_{set}"),
+    }
+}
+
+/// The text of each semantic is read as that semantic.
+pub fn texts_are_read_back()
+    ensures { (key : Key) → IsNamed key → key_named (key_text key) ≡ key }
+{}

@@ -1,0 +1,47 @@
+//! Items of a choice that may be none of its values.
+
+ghost use Rattle.std.specs.Prelude.{◌≡◌};
+
+/// An item of a choice, or a value that is none of the choice's.
+#[derive(Clone, Copy, Debug, Drop, PartialEq, Eq, PartialOrd, Ord, Hash)]
+pub enum Checked<T> {
+    /// The item.
+    Valid(T),
+    /// A value that is none of the choice's items.
+    Invalid,
+}
+
+impl<T> Checked<T> {
+    ghost use Rattle.gltf_checked.specs.Checked.{IsValid, checked_copied};
+
+    /// The item behind a reference.
+    pub fn as_ref(&self) -> Checked<&T>
+        ensures { checked_copied result ≡ self.now }
+    {
+        match self {
+            Checked::Valid(item) => Checked::Valid(item),
+            Checked::Invalid => Checked::Invalid,
+        }
+    }
+
+    /// The item, of what holds one.
+    pub fn unwrap(self) -> T
+        requires { IsValid self }
+        ensures { self ≡ Checked.Valid result }
+    {
+        match self {
+            Checked::Valid(item) => item,
+            Checked::Invalid => unreachable!(),
+        }
+    }
+}
+
+impl<T: Default> Default for Checked<T> {
+    ghost use Rattle.gltf_checked.specs.Checked.{IsValidAnd};
+
+    ghost is_default = { λ checked. IsValidAnd checked T.is_default };
+
+    fn default() -> Checked<T> {
+        Checked::Valid(T::default())
+    }
+}

@@ -1,0 +1,4 @@
+pub mod Choices
+pub mod Elements
+pub mod SceneChoices
+pub mod TextureChoices

@@ -1,0 +1,279 @@
+//! The choices of accessors.
+
+ghost use Rattle.std.specs.Prelude.{◌≡◌, map};
+ghost use Rattle.gltf_checked.specs.Spelling.{by_number, by_name, item_spelled};
+ghost use Rattle.gltf_choices.specs.Choices.{component_type_spelling, generic_component_type_spelling, generic_component_types, index_component_type_spelling, index_component_types, accessor_type_spelling, accessor_types};
+ghost use Rattle.gltf_choices.specs.Elements.{component_size, component_count};
+
+pub use AccessorType as Type;
+use gltf_checked::choice::{Choice, Form, Spelling, item_of};
+use gltf_checked::validation::Checked;
+
+/// `GL_BYTE`.
+pub const BYTE: u32 = 5120;
+
+/// `GL_UNSIGNED_BYTE`.
+pub const UNSIGNED_BYTE: u32 = 5121;
+
+/// `GL_SHORT`.
+pub const SHORT: u32 = 5122;
+
+/// `GL_UNSIGNED_SHORT`.
+pub const UNSIGNED_SHORT: u32 = 5123;
+
+/// `GL_UNSIGNED_INT`.
+pub const UNSIGNED_INT: u32 = 5125;
+
+/// `GL_FLOAT`.
+pub const FLOAT: u32 = 5126;
+
+/// The numbers of the component types.
+pub const VALID_COMPONENT_TYPES: &[u32] = &[
+    BYTE,
+    UNSIGNED_BYTE,
+    SHORT,
+    UNSIGNED_SHORT,
+    UNSIGNED_INT,
+    FLOAT,
+];
+
+/// The numbers of the component types of indexes.
+pub const VALID_INDEX_TYPES: &[u32] = &[UNSIGNED_BYTE, UNSIGNED_SHORT, UNSIGNED_INT];
+
+/// The names of the types.
+pub const VALID_ACCESSOR_TYPES: &[&str] = &[
+    "SCALAR", "VEC2", "VEC3", "VEC4", "MAT2", "MAT3", "MAT4",
+];
+
+/// The type of one component of an element.
+#[derive(Clone, Copy, Debug, PartialEq, Eq)]
+pub enum ComponentType {
+    I8 = 1,
+    U8,
+    I16,
+    U16,
+    U32,
+    F32,
+}
+
+impl ComponentType {
+    /// How many bytes one component takes.
+    pub fn size(&self) -> usize
+        ensures { result ≡ component_size self.now }
+    {
+        match self {
+            ComponentType::I8 | ComponentType::U8 => 1,
+            ComponentType::I16 | ComponentType::U16 => 2,
+            ComponentType::U32 | ComponentType::F32 => 4,
+        }
+    }
+
+    /// The number by which a document spells the type.
+    pub fn as_gl_enum(self) -> u32
+        ensures { by_number result ≡ component_type_spelling self }
+    {
+        match self {
+            ComponentType::I8 => BYTE,
+            ComponentType::U8 => UNSIGNED_BYTE,
+            ComponentType::I16 => SHORT,
+            ComponentType::U16 => UNSIGNED_SHORT,
+            ComponentType::U32 => UNSIGNED_INT,
+            ComponentType::F32 => FLOAT,
+        }
+    }
+}
+
+/// A component type of an accessor.
+#[derive(Clone, Copy, Debug)]
+pub struct GenericComponentType(pub ComponentType);
+
+impl Choice for GenericComponentType {
+    ghost use Rattle.std.specs.Prelude.{refl};
+    ghost use Rattle.gltf_checked.specs.declared.choice.Form.TheVariants.{Number};
+
+    ghost spelling = { generic_component_type_spelling };
+
+    ghost listed = { generic_component_types };
+
+    ghost form = { Number };
+
+    ghost reads_back = { (refl, (refl, (refl, (refl, (refl, (refl, tt)))))) };
+
+    fn form() -> Form {
+        Form::Number
+    }
+
+    fn listed() -> &'static [GenericComponentType] {
+        &[
+            GenericComponentType(ComponentType::I8),
+            GenericComponentType(ComponentType::U8),
+            GenericComponentType(ComponentType::I16),
+            GenericComponentType(ComponentType::U16),
+            GenericComponentType(ComponentType::U32),
+            GenericComponentType(ComponentType::F32),
+        ]
+    }
+
+    fn spelling(self) -> Spelling<'static> {
+        Spelling::Number(u64::from(self.as_gl_enum()))
+    }
+}
+
+impl GenericComponentType {
+    /// The component type that a number spells.
+    pub fn from_gl_enum(number: u64) -> Checked<GenericComponentType>
+        ensures { result ≡ item_spelled generic_component_type_spelling generic_component_types (by_number number) }
+    {
+        item_of::<GenericComponentType>(Spelling::Number(number))
+    }
+
+    /// The number by which a document spells the type.
+    pub fn as_gl_enum(self) -> u32
+        ensures { by_number result ≡ generic_component_type_spelling self }
+    {
+        self.0.as_gl_enum()
+    }
+}
+
+/// A component type of indexes. It may hold any of the six; three of them are read.
+#[derive(Clone, Copy, Debug)]
+pub struct IndexComponentType(pub ComponentType);
+
+impl Choice for IndexComponentType {
+    ghost use Rattle.std.specs.Prelude.{refl};
+    ghost use Rattle.gltf_checked.specs.declared.choice.Form.TheVariants.{Number};
+
+    ghost spelling = { index_component_type_spelling };
+
+    ghost listed = { index_component_types };
+
+    ghost form = { Number };
+
+    ghost reads_back = { (refl, (refl, (refl, tt))) };
+
+    fn form() -> Form {
+        Form::Number
+    }
+
+    fn listed() -> &'static [IndexComponentType] {
+        &[
+            IndexComponentType(ComponentType::U8),
+            IndexComponentType(ComponentType::U16),
+            IndexComponentType(ComponentType::U32),
+        ]
+    }
+
+    fn spelling(self) -> Spelling<'static> {
+        Spelling::Number(u64::from(self.as_gl_enum()))
+    }
+}
+
+impl IndexComponentType {
+    /// The component type of indexes that a number spells.
+    pub fn from_gl_enum(number: u64) -> Checked<IndexComponentType>
+        ensures { result ≡ item_spelled index_component_type_spelling index_component_types (by_number number) }
+    {
+        item_of::<IndexComponentType>(Spelling::Number(number))
+    }
+
+    /// The number by which a document spells the type, also of one that isn't read.
+    pub fn as_gl_enum(self) -> u32
+        ensures { by_number result ≡ index_component_type_spelling self }
+    {
+        self.0.as_gl_enum()
+    }
+}
+
+/// How many components an element has, and how they lie.
+#[derive(Clone, Copy, Debug, PartialEq, Eq)]
+pub enum AccessorType {
+    Scalar = 1,
+    Vec2,
+    Vec3,
+    Vec4,
+    Mat2,
+    Mat3,
+    Mat4,
+}
+
+impl Choice for AccessorType {
+    ghost use Rattle.std.specs.Prelude.{refl};
+    ghost use Rattle.gltf_checked.specs.declared.choice.Form.TheVariants.{Name};
+
+    ghost spelling = { accessor_type_spelling };
+
+    ghost listed = { accessor_types };
+
+    ghost form = { Name };
+
+    ghost reads_back = { (refl, (refl, (refl, (refl, (refl, (refl, (refl, tt))))))) };
+
+    fn form() -> Form {
+        Form::Name
+    }
+
+    fn listed() -> &'static [AccessorType] {
+        &[
+            AccessorType::Scalar,
+            AccessorType::Vec2,
+            AccessorType::Vec3,
+            AccessorType::Vec4,
+            AccessorType::Mat2,
+            AccessorType::Mat3,
+            AccessorType::Mat4,
+        ]
+    }
+
+    fn spelling(self) -> Spelling<'static> {
+        Spelling::Name(self.name())
+    }
+}
+
+impl AccessorType {
+    /// How many components an element has.
+    pub fn multiplicity(&self) -> usize
+        ensures { result ≡ component_count self.now }
+    {
+        match self {
+            AccessorType::Scalar => 1,
+            AccessorType::Vec2 => 2,
+            AccessorType::Vec3 => 3,
+            AccessorType::Vec4 | AccessorType::Mat2 => 4,
+            AccessorType::Mat3 => 9,
+            AccessorType::Mat4 => 16,
+        }
+    }
+
+    /// The type that a name spells.
+    pub fn from_name(name: &str) -> Checked<AccessorType>
+        ensures { result ≡ item_spelled accessor_type_spelling accessor_types (by_name name.now) }
+    {
+        item_of::<AccessorType>(Spelling::Name(name))
+    }
+
+    /// The name by which a document spells the type.
+    pub fn name(self) -> &'static str
+        ensures { by_name result.now ≡ accessor_type_spelling self }
+    {
+        match self {
+            AccessorType::Scalar => "SCALAR",
+            AccessorType::Vec2 => "VEC2",
+            AccessorType::Vec3 => "VEC3",
+            AccessorType::Vec4 => "VEC4",
+            AccessorType::Mat2 => "MAT2",
+            AccessorType::Mat3 => "MAT3",
+            AccessorType::Mat4 => "MAT4",
+        }
+    }
+}
+
+/// The constants of this module are those that the specification lists.
+pub fn constants_are_listed()
+    ensures numbers { (BYTE ≡ 5120) × (UNSIGNED_BYTE ≡ 5121) × (SHORT ≡ 5122) × (UNSIGNED_SHORT ≡ 5123)
+        × (UNSIGNED_INT ≡ 5125) × (FLOAT ≡ 5126) }
+    ensures component_types { map by_number VALID_COMPONENT_TYPES.now
+        ≡ map generic_component_type_spelling generic_component_types }
+    ensures index_types { map by_number VALID_INDEX_TYPES.now
+        ≡ map index_component_type_spelling index_component_types }
+    ensures types { map (λ name. by_name name.now) VALID_ACCESSOR_TYPES.now ≡ map accessor_type_spelling accessor_types }
+{}

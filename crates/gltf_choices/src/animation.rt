@@ -1,0 +1,154 @@
+//! The choices of animations.
+
+ghost use Rattle.std.specs.Prelude.{◌≡◌, map};
+ghost use Rattle.gltf_checked.specs.Spelling.{by_name, item_spelled};
+ghost use Rattle.gltf_choices.specs.SceneChoices.{interpolation_spelling, interpolations, property_spelling, properties};
+
+use gltf_checked::choice::{Choice, Form, Spelling, item_of};
+use gltf_checked::validation::Checked;
+
+/// The names of the interpolations.
+pub const VALID_INTERPOLATIONS: &[&str] = &["LINEAR", "STEP", "CUBICSPLINE"];
+
+/// The names of the properties.
+pub const VALID_PROPERTIES: &[&str] = &["translation", "rotation", "scale", "weights"];
+
+/// How values between two keyframes are found.
+#[derive(Clone, Copy, Debug, PartialEq, Eq)]
+pub enum Interpolation {
+    /// Along the straight line between them.
+    Linear = 1,
+    /// The value of the earlier one.
+    Step,
+    /// Along a cubic spline with given tangents.
+    CubicSpline,
+}
+
+impl Default for Interpolation {
+    ghost use Rattle.gltf_choices.specs.declared.animation.Interpolation.TheVariants.{Linear};
+
+    ghost is_default = { λ x. x ≡ Linear };
+
+    fn default() -> Interpolation {
+        Interpolation::Linear
+    }
+}
+
+impl Choice for Interpolation {
+    ghost use Rattle.std.specs.Prelude.{refl};
+    ghost use Rattle.gltf_checked.specs.declared.choice.Form.TheVariants.{Name};
+
+    ghost spelling = { interpolation_spelling };
+
+    ghost listed = { interpolations };
+
+    ghost form = { Name };
+
+    ghost reads_back = { (refl, (refl, (refl, tt))) };
+
+    fn form() -> Form {
+        Form::Name
+    }
+
+    fn listed() -> &'static [Interpolation] {
+        &[
+            Interpolation::Linear,
+            Interpolation::Step,
+            Interpolation::CubicSpline,
+        ]
+    }
+
+    fn spelling(self) -> Spelling<'static> {
+        Spelling::Name(self.name())
+    }
+}
+
+impl Interpolation {
+    /// The interpolation that a name spells.
+    pub fn from_name(name: &str) -> Checked<Interpolation>
+        ensures { result ≡ item_spelled interpolation_spelling interpolations (by_name name.now) }
+    {
+        item_of::<Interpolation>(Spelling::Name(name))
+    }
+
+    /// The name by which a document spells the interpolation.
+    pub fn name(self) -> &'static str
+        ensures { by_name result.now ≡ interpolation_spelling self }
+    {
+        match self {
+            Interpolation::Linear => "LINEAR",
+            Interpolation::Step => "STEP",
+            Interpolation::CubicSpline => "CUBICSPLINE",
+        }
+    }
+}
+
+/// The property of a node that an animation moves.
+#[derive(Clone, Copy, Debug, PartialEq, Eq)]
+pub enum Property {
+    /// Where the node stands.
+    Translation = 1,
+    /// How it is turned.
+    Rotation,
+    /// How large it is.
+    Scale,
+    /// The weights of its morph targets.
+    MorphTargetWeights,
+}
+
+impl Choice for Property {
+    ghost use Rattle.std.specs.Prelude.{refl};
+    ghost use Rattle.gltf_checked.specs.declared.choice.Form.TheVariants.{Name};
+
+    ghost spelling = { property_spelling };
+
+    ghost listed = { properties };
+
+    ghost form = { Name };
+
+    ghost reads_back = { (refl, (refl, (refl, (refl, tt)))) };
+
+    fn form() -> Form {
+        Form::Name
+    }
+
+    fn listed() -> &'static [Property] {
+        &[
+            Property::Translation,
+            Property::Rotation,
+            Property::Scale,
+            Property::MorphTargetWeights,
+        ]
+    }
+
+    fn spelling(self) -> Spelling<'static> {
+        Spelling::Name(self.name())
+    }
+}
+
+impl Property {
+    /// The property that a name spells.
+    pub fn from_name(name: &str) -> Checked<Property>
+        ensures { result ≡ item_spelled property_spelling properties (by_name name.now) }
+    {
+        item_of::<Property>(Spelling::Name(name))
+    }
+
+    /// The name by which a document spells the property.
+    pub fn name(self) -> &'static str
+        ensures { by_name result.now ≡ property_spelling self }
+    {
+        match self {
+            Property::Translation => "translation",
+            Property::Rotation => "rotation",
+            Property::Scale => "scale",
+            Property::MorphTargetWeights => "weights",
+        }
+    }
+}
+
+/// The constants of this module are those by which the choices are spelled.
+pub fn constants_are_listed()
+    ensures interpolations { map (λ name. by_name name.now) VALID_INTERPOLATIONS.now ≡ map interpolation_spelling interpolations }
+    ensures properties { map (λ name. by_name name.now) VALID_PROPERTIES.now ≡ map property_spelling properties }
+{}

@@ -1,0 +1,81 @@
+//! The choices of buffers and their views.
+
+ghost use Rattle.std.specs.Prelude.{◌≡◌, map};
+ghost use Rattle.gltf_checked.specs.Spelling.{by_number, item_spelled};
+ghost use Rattle.gltf_choices.specs.Choices.{target_spelling, targets};
+
+use gltf_checked::choice::{Choice, Form, Spelling, item_of};
+use gltf_checked::validation::Checked;
+
+/// `GL_ARRAY_BUFFER`.
+pub const ARRAY_BUFFER: u32 = 34962;
+
+/// `GL_ELEMENT_ARRAY_BUFFER`.
+pub const ELEMENT_ARRAY_BUFFER: u32 = 34963;
+
+/// The numbers of the targets.
+pub const VALID_TARGETS: &[u32] = &[ARRAY_BUFFER, ELEMENT_ARRAY_BUFFER];
+
+/// The least stride of a view, in bytes.
+pub const MIN_BYTE_STRIDE: usize = 4;
+
+/// The greatest stride of a view, in bytes.
+pub const MAX_BYTE_STRIDE: usize = 252;
+
+/// What a view's data is bound to.
+#[derive(Clone, Copy, Debug, PartialEq, Eq)]
+pub enum Target {
+    ArrayBuffer = 1,
+    ElementArrayBuffer,
+}
+
+impl Choice for Target {
+    ghost use Rattle.std.specs.Prelude.{refl};
+    ghost use Rattle.gltf_checked.specs.declared.choice.Form.TheVariants.{Number};
+
+    ghost spelling = { target_spelling };
+
+    ghost listed = { targets };
+
+    ghost form = { Number };
+
+    ghost reads_back = { (refl, (refl, tt)) };
+
+    fn form() -> Form {
+        Form::Number
+    }
+
+    fn listed() -> &'static [Target] {
+        &[Target::ArrayBuffer, Target::ElementArrayBuffer]
+    }
+
+    fn spelling(self) -> Spelling<'static> {
+        Spelling::Number(u64::from(self.as_gl_enum()))
+    }
+}
+
+impl Target {
+    /// The target that a number spells.
+    pub fn from_gl_enum(number: u64) -> Checked<Target>
+        ensures { result ≡ item_spelled target_spelling targets (by_number number) }
+    {
+        item_of::<Target>(Spelling::Number(number))
+    }
+
+    /// The number by which a document spells the target.
+    pub fn as_gl_enum(self) -> u32
+        ensures { by_number result ≡ target_spelling self }
+    {
+        match self {
+            Target::ArrayBuffer => ARRAY_BUFFER,
+            Target::ElementArrayBuffer => ELEMENT_ARRAY_BUFFER,
+        }
+    }
+}
+
+/// The constants of this module are those that the specification lists.
+pub fn constants_are_listed()
+    ensures numbers { (ARRAY_BUFFER ≡ 34962) × (ELEMENT_ARRAY_BUFFER ≡ 34963) }
+    ensures strides { (MIN_BYTE_STRIDE ≡ 4) × (MAX_BYTE_STRIDE ≡ 252) }
+    ensures targets { map by_number VALID_TARGETS.now ≡ map target_spelling targets }
+{}

@@ -1,0 +1,70 @@
+//! The choices of cameras.
+
+ghost use Rattle.std.specs.Prelude.{◌≡◌, map};
+ghost use Rattle.gltf_checked.specs.Spelling.{by_name, item_spelled};
+ghost use Rattle.gltf_choices.specs.SceneChoices.{camera_type_spelling, camera_types};
+
+pub use CameraType as Type;
+use gltf_checked::choice::{Choice, Form, Spelling, item_of};
+use gltf_checked::validation::Checked;
+
+/// The names of the types.
+pub const VALID_CAMERA_TYPES: &[&str] = &["perspective", "orthographic"];
+
+/// How a camera projects.
+#[derive(Clone, Copy, Debug, PartialEq, Eq)]
+pub enum CameraType {
+    /// With perspective.
+    Perspective = 1,
+    /// Without perspective.
+    Orthographic,
+}
+
+impl Choice for CameraType {
+    ghost use Rattle.std.specs.Prelude.{refl};
+    ghost use Rattle.gltf_checked.specs.declared.choice.Form.TheVariants.{Name};
+
+    ghost spelling = { camera_type_spelling };
+
+    ghost listed = { camera_types };
+
+    ghost form = { Name };
+
+    ghost reads_back = { (refl, (refl, tt)) };
+
+    fn form() -> Form {
+        Form::Name
+    }
+
+    fn listed() -> &'static [CameraType] {
+        &[CameraType::Perspective, CameraType::Orthographic]
+    }
+
+    fn spelling(self) -> Spelling<'static> {
+        Spelling::Name(self.name())
+    }
+}
+
+impl CameraType {
+    /// The type that a name spells.
+    pub fn from_name(name: &str) -> Checked<CameraType>
+        ensures { result ≡ item_spelled camera_type_spelling camera_types (by_name name.now) }
+    {
+        item_of::<CameraType>(Spelling::Name(name))
+    }
+
+    /// The name by which a document spells the type.
+    pub fn name(self) -> &'static str
+        ensures { by_name result.now ≡ camera_type_spelling self }
+    {
+        match self {
+            CameraType::Perspective => "perspective",
+            CameraType::Orthographic => "orthographic",
+        }
+    }
+}
+
+/// The constants of this module are those by which the choices are spelled.
+pub fn constants_are_listed()
+    ensures { map (λ name. by_name name.now) VALID_CAMERA_TYPES.now ≡ map camera_type_spelling camera_types }
+{}

@@ -1,0 +1,73 @@
+//! The choices of punctual lights (`KHR_lights_punctual`).
+
+ghost use Rattle.std.specs.Prelude.{◌≡◌, map};
+ghost use Rattle.gltf_checked.specs.Spelling.{by_name, item_spelled};
+ghost use Rattle.gltf_choices.specs.SceneChoices.{light_type_spelling, light_types};
+
+pub use LightType as Type;
+use gltf_checked::choice::{Choice, Form, Spelling, item_of};
+use gltf_checked::validation::Checked;
+
+/// The names of the types.
+pub const VALID_TYPES: &[&str] = &["directional", "point", "spot"];
+
+/// How a light shines.
+#[derive(Clone, Copy, Debug, PartialEq, Eq, Hash)]
+pub enum LightType {
+    /// From far away, in one direction.
+    Directional = 1,
+    /// From a point, to all sides.
+    Point,
+    /// From a point, into a cone.
+    Spot,
+}
+
+impl Choice for LightType {
+    ghost use Rattle.std.specs.Prelude.{refl};
+    ghost use Rattle.gltf_checked.specs.declared.choice.Form.TheVariants.{Name};
+
+    ghost spelling = { light_type_spelling };
+
+    ghost listed = { light_types };
+
+    ghost form = { Name };
+
+    ghost reads_back = { (refl, (refl, (refl, tt))) };
+
+    fn form() -> Form {
+        Form::Name
+    }
+
+    fn listed() -> &'static [LightType] {
+        &[LightType::Directional, LightType::Point, LightType::Spot]
+    }
+
+    fn spelling(self) -> Spelling<'static> {
+        Spelling::Name(self.name())
+    }
+}
+
+impl LightType {
+    /// The type that a name spells.
+    pub fn from_name(name: &str) -> Checked<LightType>
+        ensures { result ≡ item_spelled light_type_spelling light_types (by_name name.now) }
+    {
+        item_of::<LightType>(Spelling::Name(name))
+    }
+
+    /// The name by which a document spells the type.
+    pub fn name(self) -> &'static str
+        ensures { by_name result.now ≡ light_type_spelling self }
+    {
+        match self {
+            LightType::Directional => "directional",
+            LightType::Point => "point",
+            LightType::Spot => "spot",
+        }
+    }
+}
+
+/// The constants of this module are those by which the choices are spelled.
+pub fn constants_are_listed()
+    ensures { map (λ name. by_name name.now) VALID_TYPES.now ≡ map light_type_spelling light_types }
+{}

@@ -1,0 +1,82 @@
+//! The choices of materials.
+
+ghost use Rattle.std.specs.Prelude.{◌≡◌, map};
+ghost use Rattle.gltf_checked.specs.Spelling.{by_name, item_spelled};
+ghost use Rattle.gltf_choices.specs.SceneChoices.{alpha_mode_spelling, alpha_modes};
+
+use gltf_checked::choice::{Choice, Form, Spelling, item_of};
+use gltf_checked::validation::Checked;
+
+/// The names of the modes.
+pub const VALID_ALPHA_MODES: &[&str] = &["OPAQUE", "MASK", "BLEND"];
+
+/// How the alpha of a base color is used.
+#[derive(Clone, Copy, Debug, PartialEq, Eq)]
+pub enum AlphaMode {
+    /// Not at all.
+    Opaque = 1,
+    /// As a cutoff: what is below it is not shown.
+    Mask,
+    /// To blend with what lies behind.
+    Blend,
+}
+
+impl Default for AlphaMode {
+    ghost use Rattle.gltf_choices.specs.declared.material.AlphaMode.TheVariants.{Opaque};
+
+    ghost is_default = { λ x. x ≡ Opaque };
+
+    fn default() -> AlphaMode {
+        AlphaMode::Opaque
+    }
+}
+
+impl Choice for AlphaMode {
+    ghost use Rattle.std.specs.Prelude.{refl};
+    ghost use Rattle.gltf_checked.specs.declared.choice.Form.TheVariants.{Name};
+
+    ghost spelling = { alpha_mode_spelling };
+
+    ghost listed = { alpha_modes };
+
+    ghost form = { Name };
+
+    ghost reads_back = { (refl, (refl, (refl, tt))) };
+
+    fn form() -> Form {
+        Form::Name
+    }
+
+    fn listed() -> &'static [AlphaMode] {
+        &[AlphaMode::Opaque, AlphaMode::Mask, AlphaMode::Blend]
+    }
+
+    fn spelling(self) -> Spelling<'static> {
+        Spelling::Name(self.name())
+    }
+}
+
+impl AlphaMode {
+    /// The mode that a name spells.
+    pub fn from_name(name: &str) -> Checked<AlphaMode>
+        ensures { result ≡ item_spelled alpha_mode_spelling alpha_modes (by_name name.now) }
+    {
+        item_of::<AlphaMode>(Spelling::Name(name))
+    }
+
+    /// The name by which a document spells the mode.
+    pub fn name(self) -> &'static str
+        ensures { by_name result.now ≡ alpha_mode_spelling self }
+    {
+        match self {
+            AlphaMode::Opaque => "OPAQUE",
+            AlphaMode::Mask => "MASK",
+            AlphaMode::Blend => "BLEND",
+        }
+    }
+}
+
+/// The constants of this module are those by which the choices are spelled.
+pub fn constants_are_listed()
+    ensures { map (λ name. by_name name.now) VALID_ALPHA_MODES.now ≡ map alpha_mode_spelling alpha_modes }
+{}

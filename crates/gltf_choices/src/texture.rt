@@ -1,0 +1,256 @@
+//! The choices of textures.
+
+ghost use Rattle.std.specs.Prelude.{◌≡◌, map};
+ghost use Rattle.gltf_checked.specs.Spelling.{by_number, item_spelled};
+ghost use Rattle.gltf_choices.specs.TextureChoices.{mag_filter_spelling, mag_filters, min_filter_spelling, min_filters, wrapping_mode_spelling, wrapping_modes};
+
+use gltf_checked::choice::{Choice, Form, Spelling, item_of};
+use gltf_checked::validation::Checked;
+
+/// `GL_NEAREST`.
+pub const NEAREST: u32 = 9728;
+
+/// `GL_LINEAR`.
+pub const LINEAR: u32 = 9729;
+
+/// `GL_NEAREST_MIPMAP_NEAREST`.
+pub const NEAREST_MIPMAP_NEAREST: u32 = 9984;
+
+/// `GL_LINEAR_MIPMAP_NEAREST`.
+pub const LINEAR_MIPMAP_NEAREST: u32 = 9985;
+
+/// `GL_NEAREST_MIPMAP_LINEAR`.
+pub const NEAREST_MIPMAP_LINEAR: u32 = 9986;
+
+/// `GL_LINEAR_MIPMAP_LINEAR`.
+pub const LINEAR_MIPMAP_LINEAR: u32 = 9987;
+
+/// `GL_CLAMP_TO_EDGE`.
+pub const CLAMP_TO_EDGE: u32 = 33071;
+
+/// `GL_MIRRORED_REPEAT`.
+pub const MIRRORED_REPEAT: u32 = 33648;
+
+/// `GL_REPEAT`.
+pub const REPEAT: u32 = 10497;
+
+/// The numbers of the magnification filters.
+pub const VALID_MAG_FILTERS: &[u32] = &[NEAREST, LINEAR];
+
+/// The numbers of the minification filters.
+pub const VALID_MIN_FILTERS: &[u32] = &[
+    NEAREST,
+    LINEAR,
+    NEAREST_MIPMAP_NEAREST,
+    LINEAR_MIPMAP_NEAREST,
+    NEAREST_MIPMAP_LINEAR,
+    LINEAR_MIPMAP_LINEAR,
+];
+
+/// The numbers of the wrapping modes.
+pub const VALID_WRAPPING_MODES: &[u32] = &[CLAMP_TO_EDGE, MIRRORED_REPEAT, REPEAT];
+
+/// How a texture is shown larger than it is.
+#[derive(Clone, Copy, Debug, PartialEq, Eq)]
+pub enum MagFilter {
+    /// By the nearest texel.
+    Nearest = 1,
+    /// By a blend of the texels round the place.
+    Linear,
+}
+
+impl Choice for MagFilter {
+    ghost use Rattle.std.specs.Prelude.{refl};
+    ghost use Rattle.gltf_checked.specs.declared.choice.Form.TheVariants.{Number};
+
+    ghost spelling = { mag_filter_spelling };
+
+    ghost listed = { mag_filters };
+
+    ghost form = { Number };
+
+    ghost reads_back = { (refl, (refl, tt)) };
+
+    fn form() -> Form {
+        Form::Number
+    }
+
+    fn listed() -> &'static [MagFilter] {
+        &[MagFilter::Nearest, MagFilter::Linear]
+    }
+
+    fn spelling(self) -> Spelling<'static> {
+        Spelling::Number(u64::from(self.as_gl_enum()))
+    }
+}
+
+impl MagFilter {
+    /// The filter that a number spells.
+    pub fn from_gl_enum(number: u64) -> Checked<MagFilter>
+        ensures { result ≡ item_spelled mag_filter_spelling mag_filters (by_number number) }
+    {
+        item_of::<MagFilter>(Spelling::Number(number))
+    }
+
+    /// The number by which a document spells the filter.
+    pub fn as_gl_enum(&self) -> u32
+        ensures { by_number result ≡ mag_filter_spelling self.now }
+    {
+        match self {
+            MagFilter::Nearest => NEAREST,
+            MagFilter::Linear => LINEAR,
+        }
+    }
+}
+
+/// How a texture is shown smaller than it is.
+#[derive(Clone, Copy, Debug, PartialEq, Eq)]
+pub enum MinFilter {
+    /// By the nearest texel.
+    Nearest = 1,
+    /// By a blend of the texels round the place.
+    Linear,
+    /// By the nearest texel of the nearest mipmap.
+    NearestMipmapNearest,
+    /// By a blend of texels of the nearest mipmap.
+    LinearMipmapNearest,
+    /// By the nearest texels of two mipmaps, blended.
+    NearestMipmapLinear,
+    /// By blends of texels of two mipmaps, blended.
+    LinearMipmapLinear,
+}
+
+impl Choice for MinFilter {
+    ghost use Rattle.std.specs.Prelude.{refl};
+    ghost use Rattle.gltf_checked.specs.declared.choice.Form.TheVariants.{Number};
+
+    ghost spelling = { min_filter_spelling };
+
+    ghost listed = { min_filters };
+
+    ghost form = { Number };
+
+    ghost reads_back = { (refl, (refl, (refl, (refl, (refl, (refl, tt)))))) };
+
+    fn form() -> Form {
+        Form::Number
+    }
+
+    fn listed() -> &'static [MinFilter] {
+        &[
+            MinFilter::Nearest,
+            MinFilter::Linear,
+            MinFilter::NearestMipmapNearest,
+            MinFilter::LinearMipmapNearest,
+            MinFilter::NearestMipmapLinear,
+            MinFilter::LinearMipmapLinear,
+        ]
+    }
+
+    fn spelling(self) -> Spelling<'static> {
+        Spelling::Number(u64::from(self.as_gl_enum()))
+    }
+}
+
+impl MinFilter {
+    /// The filter that a number spells.
+    pub fn from_gl_enum(number: u64) -> Checked<MinFilter>
+        ensures { result ≡ item_spelled min_filter_spelling min_filters (by_number number) }
+    {
+        item_of::<MinFilter>(Spelling::Number(number))
+    }
+
+    /// The number by which a document spells the filter.
+    pub fn as_gl_enum(&self) -> u32
+        ensures { by_number result ≡ min_filter_spelling self.now }
+    {
+        match self {
+            MinFilter::Nearest => NEAREST,
+            MinFilter::Linear => LINEAR,
+            MinFilter::NearestMipmapNearest => NEAREST_MIPMAP_NEAREST,
+            MinFilter::LinearMipmapNearest => LINEAR_MIPMAP_NEAREST,
+            MinFilter::NearestMipmapLinear => NEAREST_MIPMAP_LINEAR,
+            MinFilter::LinearMipmapLinear => LINEAR_MIPMAP_LINEAR,
+        }
+    }
+}
+
+/// What lies past the edges of a texture.
+#[derive(Clone, Copy, Debug, PartialEq, Eq)]
+pub enum WrappingMode {
+    /// The texels at the edge.
+    ClampToEdge = 1,
+    /// The texture again, mirrored each time.
+    MirroredRepeat,
+    /// The texture again.
+    Repeat,
+}
+
+impl Default for WrappingMode {
+    ghost use Rattle.gltf_choices.specs.declared.texture.WrappingMode.TheVariants.{Repeat};
+
+    ghost is_default = { λ x. x ≡ Repeat };
+
+    fn default() -> WrappingMode {
+        WrappingMode::Repeat
+    }
+}
+
+impl Choice for WrappingMode {
+    ghost use Rattle.std.specs.Prelude.{refl};
+    ghost use Rattle.gltf_checked.specs.declared.choice.Form.TheVariants.{Number};
+
+    ghost spelling = { wrapping_mode_spelling };
+
+    ghost listed = { wrapping_modes };
+
+    ghost form = { Number };
+
+    ghost reads_back = { (refl, (refl, (refl, tt))) };
+
+    fn form() -> Form {
+        Form::Number
+    }
+
+    fn listed() -> &'static [WrappingMode] {
+        &[
+            WrappingMode::ClampToEdge,
+            WrappingMode::MirroredRepeat,
+            WrappingMode::Repeat,
+        ]
+    }
+
+    fn spelling(self) -> Spelling<'static> {
+        Spelling::Number(u64::from(self.as_gl_enum()))
+    }
+}
+
+impl WrappingMode {
+    /// The mode that a number spells.
+    pub fn from_gl_enum(number: u64) -> Checked<WrappingMode>
+        ensures { result ≡ item_spelled wrapping_mode_spelling wrapping_modes (by_number number) }
+    {
+        item_of::<WrappingMode>(Spelling::Number(number))
+    }
+
+    /// The number by which a document spells the mode.
+    pub fn as_gl_enum(&self) -> u32
+        ensures { by_number result ≡ wrapping_mode_spelling self.now }
+    {
+        match self {
+            WrappingMode::ClampToEdge => CLAMP_TO_EDGE,
+            WrappingMode::MirroredRepeat => MIRRORED_REPEAT,
+            WrappingMode::Repeat => REPEAT,
+        }
+    }
+}
+
+/// The constants of this module are those that the specification lists.
+pub fn constants_are_listed()
+    ensures filters { (NEAREST ≡ 9728) × (LINEAR ≡ 9729) × (NEAREST_MIPMAP_NEAREST ≡ 9984)
+        × (LINEAR_MIPMAP_NEAREST ≡ 9985) × (NEAREST_MIPMAP_LINEAR ≡ 9986) × (LINEAR_MIPMAP_LINEAR ≡ 9987) }
+    ensures wrapping { (CLAMP_TO_EDGE ≡ 33071) × (MIRRORED_REPEAT ≡ 33648) × (REPEAT ≡ 10497) }
+    ensures mag_filters { map by_number VALID_MAG_FILTERS.now ≡ map mag_filter_spelling mag_filters }
+    ensures min_filters { map by_number VALID_MIN_FILTERS.now ≡ map min_filter_spelling min_filters }
+    ensures wrapping_modes { map by_number VALID_WRAPPING_MODES.now ≡ map wrapping_mode_spelling wrapping_modes }
+{}

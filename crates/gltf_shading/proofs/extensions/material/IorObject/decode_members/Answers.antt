@@ -1,0 +1,12 @@
+-- Each row is read in the table's order.
+use Rattle.gltf_schema.proofs.RowByRow.{all_read, read_none, read_row}
+use Rattle.gltf_shading.specs.MaterialExtensionTable.{ior_rows}
+use Rattle.gltf_shading.specs.MaterialExtensionTrees.{ior_members}
+use Rattle.gltf_shading.proofs.extensions.material.IorObject.decode_members.Goals as goal
+
+pub returns : goal.returns
+unfolding ior_rows ior_members
+returns c =
+    all_read ior_members c.from_members-reading.ensures
+    (read_row c.sometimes-ior.ensures
+    (read_row c.optional-extras.ensures.left_out read_none)) c.finish.ensures

@@ -1,0 +1,15 @@
+-- Each row is read in the table's order.
+use Rattle.gltf_schema.proofs.RowByRow.{all_read, read_none, read_row}
+use Rattle.gltf_shading.specs.MaterialExtensionTable.{specular_rows}
+use Rattle.gltf_shading.specs.MaterialExtensionTrees.{specular_members}
+use Rattle.gltf_shading.proofs.extensions.material.SpecularObject.decode_members.Goals as goal
+
+pub returns : goal.returns
+unfolding specular_rows specular_members
+returns c =
+    all_read specular_members c.from_members-reading.ensures
+    (read_row c.sometimes-specular_factor.ensures
+    (read_row c.optional-specular_texture.ensures.left_out
+    (read_row c.sometimes-specular_color_factor.ensures
+    (read_row c.optional-specular_color_texture.ensures.left_out
+    (read_row c.optional-extras.ensures.left_out read_none))))) c.finish.ensures

@@ -1,0 +1,2 @@
+pub mod MaterialExtensionTable
+pub mod MaterialExtensionTrees

@@ -1,0 +1,589 @@
+//! The extension objects of materials and of their references to textures.
+
+ghost use Rattle.std.specs.Prelude.{◌≡◌, true, false, refl};
+ghost use Rattle.serde_json.specs.Data.{no_members};
+ghost use Rattle.serde_json.specs.View.{members_view};
+ghost use Rattle.gltf_schema.specs.Kind.{ObjectName, extensions_of, no_rows};
+ghost use Rattle.gltf_schema.specs.Tree.{end};
+ghost use Rattle.gltf_schema.specs.Defaults.{defaults};
+ghost use Rattle.gltf_shading.specs.MaterialExtensionTable.{material_extension_rows, material_extension_sound, pbr_specular_glossiness_rows, pbr_specular_glossiness_sound, transmission_rows, transmission_sound, volume_rows, volume_sound, specular_rows, specular_sound, ior_rows, ior_sound, emissive_strength_rows, emissive_strength_sound};
+ghost use Rattle.gltf_shading.specs.MaterialExtensionTrees.{material_extension_members, pbr_specular_glossiness_members, transmission_members, volume_members, specular_members, ior_members, emissive_strength_members};
+
+use crate::material::StrengthFactor;
+use gltf_base::Real;
+use gltf_data::extras::Extras;
+use gltf_schema::{Error, Object, Reading, Unlisted};
+use gltf_textures::texture::Info;
+use serde_json::{Map, Value};
+use std::alloc::Global;
+
+/// The extensions of a material.
+#[derive(Clone, Debug, Drop)]
+pub struct Material {
+    /// `KHR_materials_pbrSpecularGlossiness`: the specular-glossiness model in place of the metallic-roughness one.
+    pub pbr_specular_glossiness: Option<PbrSpecularGlossiness>,
+    /// `KHR_materials_unlit`: the surface shows its base color, without light.
+    pub unlit: Option<Unlit>,
+    /// `KHR_materials_transmission`: light passes through the surface.
+    pub transmission: Option<Transmission>,
+    /// `KHR_materials_volume`: the surface bounds a body that light passes through.
+    pub volume: Option<Volume>,
+    /// `KHR_materials_specular`: how strong the specular reflection is, and its color.
+    pub specular: Option<Specular>,
+    /// `KHR_materials_ior`: the index of refraction.
+    pub ior: Option<Ior>,
+    /// `KHR_materials_emissive_strength`: how strong the emitted light is.
+    pub emissive_strength: Option<EmissiveStrength>,
+    /// The extensions that are not known.
+    pub others: Map<String, Value>,
+}
+
+impl Object for Material {
+    ghost named = { extensions_of ObjectName.material };
+
+    ghost rows = { material_extension_rows };
+
+    ghost keeps = { true };
+
+    ghost members = { material_extension_members };
+
+    ghost unknown = { λ e. members_view e.others.entries };
+
+    ghost sound = { material_extension_sound };
+
+    fn decode_members(alloc: Global, found: Map<String, Value>) -> Result<Material, Error> {
+        let mut reading = Reading::from_members(alloc, found);
+        let pbr_specular_glossiness = reading.optional("KHR_materials_pbrSpecularGlossiness");
+        let unlit = reading.optional("KHR_materials_unlit");
+        let transmission = reading.optional("KHR_materials_transmission");
+        let volume = reading.optional("KHR_materials_volume");
+        let specular = reading.optional("KHR_materials_specular");
+        let ior = reading.optional("KHR_materials_ior");
+        let emissive_strength = reading.optional("KHR_materials_emissive_strength");
+        let others = reading.others();
+        reading.finish(Material {
+            pbr_specular_glossiness,
+            unlit,
+            transmission,
+            volume,
+            specular,
+            ior,
+            emissive_strength,
+            others,
+        })
+    }
+}
+
+impl Material {
+    /// No extension.
+    #[tactic(auto, unfolding(crate::specs::MaterialExtensionTable::material_extension_rows, crate::specs::MaterialExtensionTrees::material_extension_members))]
+    pub fn new(alloc: Global) -> Material
+        ensures known { material_extension_members result ≡ defaults material_extension_rows }
+        ensures unknown { members_view result.others.entries ≡ no_members }
+    {
+        Material {
+            pbr_specular_glossiness: None,
+            unlit: None,
+            transmission: None,
+            volume: None,
+            specular: None,
+            ior: None,
+            emissive_strength: None,
+            others: Map::new(alloc),
+        }
+    }
+}
+
+/// The extensions of the parameters of the metallic-roughness model.
+#[derive(Clone, Debug, Drop)]
+pub struct PbrMetallicRoughness {
+    /// The extensions that are not known.
+    pub others: Map<String, Value>,
+}
+
+impl Unlisted for PbrMetallicRoughness {
+    ghost extends = { ObjectName.pbr_metallic_roughness };
+
+    ghost is_keeping = { true };
+
+    ghost kept = { λ e. members_view e.others.entries };
+
+    fn from_others(others: Map<String, Value>) -> PbrMetallicRoughness {
+        PbrMetallicRoughness { others }
+    }
+}
+
+impl PbrMetallicRoughness {
+    /// No extension.
+    pub fn new(alloc: Global) -> PbrMetallicRoughness
+        ensures { members_view result.others.entries ≡ no_members }
+    {
+        PbrMetallicRoughness {
+            others: Map::new(alloc),
+        }
+    }
+}
+
+/// The extensions of a reference to a texture of normals.
+#[derive(Clone, Debug, Drop)]
+pub struct NormalTexture {
+    /// The extensions that are not known.
+    pub others: Map<String, Value>,
+}
+
+impl Unlisted for NormalTexture {
+    ghost extends = { ObjectName.normal_texture };
+
+    ghost is_keeping = { true };
+
+    ghost kept = { λ e. members_view e.others.entries };
+
+    fn from_others(others: Map<String, Value>) -> NormalTexture {
+        NormalTexture { others }
+    }
+}
+
+impl NormalTexture {
+    /// No extension.
+    pub fn new(alloc: Global) -> NormalTexture
+        ensures { members_view result.others.entries ≡ no_members }
+    {
+        NormalTexture {
+            others: Map::new(alloc),
+        }
+    }
+}
+
+/// The extensions of a reference to a texture of occlusion.
+#[derive(Clone, Debug, Drop)]
+pub struct OcclusionTexture {
+    /// The extensions that are not known.
+    pub others: Map<String, Value>,
+}
+
+impl Unlisted for OcclusionTexture {
+    ghost extends = { ObjectName.occlusion_texture };
+
+    ghost is_keeping = { true };
+
+    ghost kept = { λ e. members_view e.others.entries };
+
+    fn from_others(others: Map<String, Value>) -> OcclusionTexture {
+        OcclusionTexture { others }
+    }
+}
+
+impl OcclusionTexture {
+    /// No extension.
+    pub fn new(alloc: Global) -> OcclusionTexture
+        ensures { members_view result.others.entries ≡ no_members }
+    {
+        OcclusionTexture {
+            others: Map::new(alloc),
+        }
+    }
+}
+
+/// The parameters of the specular-glossiness model (`KHR_materials_pbrSpecularGlossiness`).
+// What takes longest to drop stands last (docs/DECISIONS.md).
+#[derive(Clone, Debug, Drop)]
+pub struct PbrSpecularGlossiness {
+    /// The factors of the diffuse color.
+    pub diffuse_factor: PbrDiffuseFactor,
+    /// The factors of the specular color.
+    pub specular_factor: PbrSpecularFactor,
+    /// The factor of how glossy the surface is.
+    pub glossiness_factor: StrengthFactor,
+    pub extras: Extras,
+    /// The members that are not known.
+    pub others: Map<String, Value>,
+    /// The diffuse color.
+    pub diffuse_texture: Option<Info>,
+    /// The specular color, and how glossy the surface is, by alpha.
+    pub specular_glossiness_texture: Option<Info>,
+}
+
+impl Object for PbrSpecularGlossiness {
+    ghost named = { ObjectName.pbr_specular_glossiness };
+
+    ghost rows = { pbr_specular_glossiness_rows };
+
+    ghost keeps = { true };
+
+    ghost members = { pbr_specular_glossiness_members };
+
+    ghost unknown = { λ e. members_view e.others.entries };
+
+    ghost sound = { pbr_specular_glossiness_sound };
+
+    fn decode_members(
+        alloc: Global,
+        found: Map<String, Value>,
+    ) -> Result<PbrSpecularGlossiness, Error> {
+        let mut reading = Reading::from_members(alloc, found);
+        let diffuse_factor = reading.sometimes("diffuseFactor");
+        let diffuse_texture = reading.optional("diffuseTexture");
+        let specular_factor = reading.sometimes("specularFactor");
+        let glossiness_factor = reading.sometimes("glossinessFactor");
+        let specular_glossiness_texture = reading.optional("specularGlossinessTexture");
+        let extras = reading.optional("extras");
+        let others = reading.others();
+        reading.finish(PbrSpecularGlossiness {
+            diffuse_factor: PbrDiffuseFactor(diffuse_factor),
+            diffuse_texture,
+            specular_factor: PbrSpecularFactor(specular_factor),
+            glossiness_factor: StrengthFactor(glossiness_factor),
+            specular_glossiness_texture,
+            extras,
+            others,
+        })
+    }
+}
+
+impl PbrSpecularGlossiness {
+    /// Parameters that say nothing.
+    #[tactic(auto, unfolding(crate::specs::MaterialExtensionTable::pbr_specular_glossiness_rows, crate::specs::MaterialExtensionTrees::pbr_specular_glossiness_members))]
+    pub fn new(alloc: Global) -> PbrSpecularGlossiness
+        ensures known { pbr_specular_glossiness_members result ≡ defaults pbr_specular_glossiness_rows }
+        ensures unknown { members_view result.others.entries ≡ no_members }
+    {
+        PbrSpecularGlossiness {
+            diffuse_factor: PbrDiffuseFactor(None),
+            diffuse_texture: None,
+            specular_factor: PbrSpecularFactor(None),
+            glossiness_factor: StrengthFactor(None),
+            specular_glossiness_texture: None,
+            extras: None,
+            others: Map::new(alloc),
+        }
+    }
+}
+
+/// The factors of a diffuse color: red, green, blue, alpha; `None` stands for ones.
+#[derive(Clone, Debug, Default, Drop)]
+pub struct PbrDiffuseFactor(pub Option<[Real; 4]>);
+
+/// The factors of a specular color: red, green, blue; `None` stands for ones.
+#[derive(Clone, Debug, Default, Drop)]
+pub struct PbrSpecularFactor(pub Option<[Real; 3]>);
+
+/// That a surface shows its base color, without light (`KHR_materials_unlit`).
+#[derive(Clone, Debug, Drop)]
+pub struct Unlit {}
+
+#[tactic(auto, unfolding(gltf_schema::specs::Taken::take_all, gltf_schema::specs::Taken::take_rows))]
+impl Object for Unlit {
+    ghost named = { ObjectName.unlit };
+
+    ghost rows = { no_rows };
+
+    ghost keeps = { false };
+
+    ghost members = { λ _. end };
+
+    ghost unknown = { λ _. no_members };
+
+    ghost sound = { refl };
+
+    fn decode_members(_alloc: Global, _found: Map<String, Value>) -> Result<Unlit, Error> {
+        Ok(Unlit {})
+    }
+}
+
+impl Unlit {
+    /// It has no members.
+    pub fn new() -> Unlit {
+        Unlit {}
+    }
+}
+
+/// How light passes through a surface (`KHR_materials_transmission`).
+// What takes longest to drop stands last (docs/DECISIONS.md).
+#[derive(Clone, Debug, Drop)]
+pub struct Transmission {
+    /// The part of the light that passes.
+    pub transmission_factor: TransmissionFactor,
+    pub extras: Extras,
+    /// The part of the light that passes, by red.
+    pub transmission_texture: Option<Info>,
+}
+
+impl Object for Transmission {
+    ghost named = { ObjectName.transmission };
+
+    ghost rows = { transmission_rows };
+
+    ghost keeps = { false };
+
+    ghost members = { transmission_members };
+
+    ghost unknown = { λ _. no_members };
+
+    ghost sound = { transmission_sound };
+
+    fn decode_members(alloc: Global, found: Map<String, Value>) -> Result<Transmission, Error> {
+        let mut reading = Reading::from_members(alloc, found);
+        let transmission_factor = reading.sometimes("transmissionFactor");
+        let transmission_texture = reading.optional("transmissionTexture");
+        let extras = reading.optional("extras");
+        reading.finish(Transmission {
+            transmission_factor: TransmissionFactor(transmission_factor),
+            transmission_texture,
+            extras,
+        })
+    }
+}
+
+impl Transmission {
+    /// A surface through which no light passes.
+    #[tactic(auto, unfolding(crate::specs::MaterialExtensionTable::transmission_rows, crate::specs::MaterialExtensionTrees::transmission_members))]
+    pub fn new() -> Transmission
+        ensures { transmission_members result ≡ defaults transmission_rows }
+    {
+        Transmission {
+            transmission_factor: TransmissionFactor(None),
+            transmission_texture: None,
+            extras: None,
+        }
+    }
+}
+
+/// The part of the light that passes, from 0 to 1; `None` stands for 0.
+#[derive(Clone, Debug, Default, Drop)]
+pub struct TransmissionFactor(pub Option<Real>);
+
+/// The body that a surface bounds (`KHR_materials_volume`).
+// What takes longest to drop stands last (docs/DECISIONS.md).
+#[derive(Clone, Debug, Drop)]
+pub struct Volume {
+    /// How thick the body is.
+    pub thickness_factor: ThicknessFactor,
+    /// How far light goes in the body before it is absorbed, on average.
+    pub attenuation_distance: AttenuationDistance,
+    /// What becomes of white light at that distance.
+    pub attenuation_color: AttenuationColor,
+    pub extras: Extras,
+    /// How thick the body is, by green.
+    pub thickness_texture: Option<Info>,
+}
+
+impl Object for Volume {
+    ghost named = { ObjectName.volume };
+
+    ghost rows = { volume_rows };
+
+    ghost keeps = { false };
+
+    ghost members = { volume_members };
+
+    ghost unknown = { λ _. no_members };
+
+    ghost sound = { volume_sound };
+
+    fn decode_members(alloc: Global, found: Map<String, Value>) -> Result<Volume, Error> {
+        let mut reading = Reading::from_members(alloc, found);
+        let thickness_factor = reading.sometimes("thicknessFactor");
+        let thickness_texture = reading.optional("thicknessTexture");
+        let attenuation_distance = reading.sometimes("attenuationDistance");
+        let attenuation_color = reading.sometimes("attenuationColor");
+        let extras = reading.optional("extras");
+        reading.finish(Volume {
+            thickness_factor: ThicknessFactor(thickness_factor),
+            thickness_texture,
+            attenuation_distance: AttenuationDistance(attenuation_distance),
+            attenuation_color: AttenuationColor(attenuation_color),
+            extras,
+        })
+    }
+}
+
+impl Volume {
+    /// A surface without a body.
+    #[tactic(auto, unfolding(crate::specs::MaterialExtensionTable::volume_rows, crate::specs::MaterialExtensionTrees::volume_members))]
+    pub fn new() -> Volume
+        ensures { volume_members result ≡ defaults volume_rows }
+    {
+        Volume {
+            thickness_factor: ThicknessFactor(None),
+            thickness_texture: None,
+            attenuation_distance: AttenuationDistance(None),
+            attenuation_color: AttenuationColor(None),
+            extras: None,
+        }
+    }
+}
+
+/// A thickness, in the units of the mesh; `None` stands for 0, a surface without a body.
+#[derive(Clone, Debug, Default, Drop)]
+pub struct ThicknessFactor(pub Option<Real>);
+
+/// A distance, in the units of the scene; `None` stands for one without end.
+#[derive(Clone, Debug, Default, Drop)]
+pub struct AttenuationDistance(pub Option<Real>);
+
+/// A color: red, green, blue; `None` stands for ones.
+#[derive(Clone, Debug, Default, Drop)]
+pub struct AttenuationColor(pub Option<[Real; 3]>);
+
+/// How strong the specular reflection is, and its color (`KHR_materials_specular`).
+// What takes longest to drop stands last (docs/DECISIONS.md).
+#[derive(Clone, Debug, Drop)]
+pub struct Specular {
+    /// How strong the reflection is.
+    pub specular_factor: SpecularFactor,
+    /// The factors of the color of the reflection.
+    pub specular_color_factor: SpecularColorFactor,
+    pub extras: Extras,
+    /// How strong the reflection is, by alpha.
+    pub specular_texture: Option<Info>,
+    /// The color of the reflection.
+    pub specular_color_texture: Option<Info>,
+}
+
+impl Object for Specular {
+    ghost named = { ObjectName.specular };
+
+    ghost rows = { specular_rows };
+
+    ghost keeps = { false };
+
+    ghost members = { specular_members };
+
+    ghost unknown = { λ _. no_members };
+
+    ghost sound = { specular_sound };
+
+    fn decode_members(alloc: Global, found: Map<String, Value>) -> Result<Specular, Error> {
+        let mut reading = Reading::from_members(alloc, found);
+        let specular_factor = reading.sometimes("specularFactor");
+        let specular_texture = reading.optional("specularTexture");
+        let specular_color_factor = reading.sometimes("specularColorFactor");
+        let specular_color_texture = reading.optional("specularColorTexture");
+        let extras = reading.optional("extras");
+        reading.finish(Specular {
+            specular_factor: SpecularFactor(specular_factor),
+            specular_texture,
+            specular_color_factor: SpecularColorFactor(specular_color_factor),
+            specular_color_texture,
+            extras,
+        })
+    }
+}
+
+impl Specular {
+    /// A reflection that says nothing.
+    #[tactic(auto, unfolding(crate::specs::MaterialExtensionTable::specular_rows, crate::specs::MaterialExtensionTrees::specular_members))]
+    pub fn new() -> Specular
+        ensures { specular_members result ≡ defaults specular_rows }
+    {
+        Specular {
+            specular_factor: SpecularFactor(None),
+            specular_texture: None,
+            specular_color_factor: SpecularColorFactor(None),
+            specular_color_texture: None,
+            extras: None,
+        }
+    }
+}
+
+/// How strong a reflection is, from 0 to 1; `None` stands for 1.
+#[derive(Clone, Debug, Default, Drop)]
+pub struct SpecularFactor(pub Option<Real>);
+
+/// The factors of the color of a reflection: red, green, blue; `None` stands for ones.
+#[derive(Clone, Debug, Default, Drop)]
+pub struct SpecularColorFactor(pub Option<[Real; 3]>);
+
+/// How light is bent at a surface (`KHR_materials_ior`).
+#[derive(Clone, Debug, Drop)]
+pub struct Ior {
+    /// The index of refraction.
+    pub ior: IndexOfRefraction,
+    pub extras: Extras,
+}
+
+impl Object for Ior {
+    ghost named = { ObjectName.ior };
+
+    ghost rows = { ior_rows };
+
+    ghost keeps = { false };
+
+    ghost members = { ior_members };
+
+    ghost unknown = { λ _. no_members };
+
+    ghost sound = { ior_sound };
+
+    fn decode_members(alloc: Global, found: Map<String, Value>) -> Result<Ior, Error> {
+        let mut reading = Reading::from_members(alloc, found);
+        let ior = reading.sometimes("ior");
+        let extras = reading.optional("extras");
+        reading.finish(Ior {
+            ior: IndexOfRefraction(ior),
+            extras,
+        })
+    }
+}
+
+impl Ior {
+    /// An index that says nothing.
+    #[tactic(auto, unfolding(crate::specs::MaterialExtensionTable::ior_rows, crate::specs::MaterialExtensionTrees::ior_members))]
+    pub fn new() -> Ior
+        ensures { ior_members result ≡ defaults ior_rows }
+    {
+        Ior {
+            ior: IndexOfRefraction(None),
+            extras: None,
+        }
+    }
+}
+
+/// An index of refraction; `None` stands for 1.5.
+#[derive(Clone, Debug, Default, Drop)]
+pub struct IndexOfRefraction(pub Option<Real>);
+
+/// How strong the light is that a surface sends out (`KHR_materials_emissive_strength`).
+#[derive(Clone, Debug, Drop)]
+pub struct EmissiveStrength {
+    /// The factor of that light.
+    pub emissive_strength: EmissiveStrengthFactor,
+}
+
+impl Object for EmissiveStrength {
+    ghost named = { ObjectName.emissive_strength };
+
+    ghost rows = { emissive_strength_rows };
+
+    ghost keeps = { false };
+
+    ghost members = { emissive_strength_members };
+
+    ghost unknown = { λ _. no_members };
+
+    ghost sound = { emissive_strength_sound };
+
+    fn decode_members(alloc: Global, found: Map<String, Value>) -> Result<EmissiveStrength, Error> {
+        let mut reading = Reading::from_members(alloc, found);
+        let emissive_strength = reading.sometimes("emissiveStrength");
+        reading.finish(EmissiveStrength {
+            emissive_strength: EmissiveStrengthFactor(emissive_strength),
+        })
+    }
+}
+
+impl EmissiveStrength {
+    /// A strength that says nothing.
+    #[tactic(auto, unfolding(crate::specs::MaterialExtensionTable::emissive_strength_rows, crate::specs::MaterialExtensionTrees::emissive_strength_members))]
+    pub fn new() -> EmissiveStrength
+        ensures { emissive_strength_members result ≡ defaults emissive_strength_rows }
+    {
+        EmissiveStrength {
+            emissive_strength: EmissiveStrengthFactor(None),
+        }
+    }
+}
+
+/// The factor of an emitted light; `None` stands for 1.
+#[derive(Clone, Debug, Default, Drop)]
+pub struct EmissiveStrengthFactor(pub Option<Real>);

@@ -1,0 +1,15 @@
+-- Each row is read in the table's order.
+use Rattle.gltf_schema.proofs.RowByRow.{all_read, read_none, read_row}
+use Rattle.gltf_textures.specs.TextureTable.{texture_transform_rows}
+use Rattle.gltf_textures.specs.TextureTrees.{texture_transform_members}
+use Rattle.gltf_textures.proofs.extensions.texture.TextureTransformObject.decode_members.Goals as goal
+
+pub returns : goal.returns
+unfolding texture_transform_rows texture_transform_members
+returns c =
+    all_read texture_transform_members c.from_members-reading.ensures
+    (read_row c.sometimes-offset.ensures
+    (read_row c.sometimes-rotation.ensures
+    (read_row c.sometimes-scale.ensures
+    (read_row c.optional-tex_coord.ensures.or_null
+    (read_row c.optional-extras.ensures.left_out read_none))))) c.finish.ensures

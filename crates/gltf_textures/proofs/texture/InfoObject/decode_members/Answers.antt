@@ -1,0 +1,14 @@
+-- Each row is read in the table's order.
+use Rattle.gltf_schema.proofs.RowByRow.{all_read, read_none, read_row}
+use Rattle.gltf_textures.specs.TextureTable.{info_rows}
+use Rattle.gltf_textures.specs.TextureTrees.{info_members}
+use Rattle.gltf_textures.proofs.texture.InfoObject.decode_members.Goals as goal
+
+pub returns : goal.returns
+unfolding info_rows info_members
+returns c =
+    all_read info_members c.from_members-reading.ensures
+    (read_row c.required-index.ensures
+    (read_row c.or_default-tex_coord.ensures.always
+    (read_row c.optional-extensions.ensures.left_out
+    (read_row c.optional-extras.ensures.left_out read_none)))) c.finish.ensures

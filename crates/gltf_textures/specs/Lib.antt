@@ -1,0 +1,2 @@
+pub mod TextureTable
+pub mod TextureTrees

@@ -1,0 +1,101 @@
+-- The rows of textures, their samplers and the references to them (glTF 2.0, sections 5.26, 5.29
+-- and 5.30), and of the extension KHR_texture_transform.
+use Rattle.std.specs.Prelude.{◌≡◌, true, false, codes, refl}
+use Rattle.gltf_base.specs.Lists.{samplers, textures}
+use Rattle.gltf_choices.specs.TextureChoices.{mag_filter_spelling, mag_filters, min_filter_spelling, min_filters, wrapping_mode_spelling, wrapping_modes}
+use Rattle.gltf_checked.specs.declared.choice.Form.TheVariants as form
+use Rattle.gltf_choices.specs.declared.texture.WrappingMode.TheVariants as wrapping_mode
+use Rattle.gltf_schema.specs.Tree.{Tree, whole, chosen, index}
+use Rattle.gltf_schema.specs.Kind.{required, optional, always, unless, sometimes, or_null, Kind, IndexInto, SourceImage, U32, Number, Numbers, Text, Any, Object, ObjectName, extensions_of, Rows, no_rows, ◌◂◌}
+use Rattle.gltf_schema.specs.Leaves.{choice_of}
+use Rattle.gltf_schema.specs.Extensions.{kept_extensions, extensions_and_extras}
+use Rattle.gltf_schema.specs.Plain.{are_sound}
+
+abbrev pub mag_filter_kind : Kind
+mag_filter_kind = choice_of form.Number mag_filter_spelling mag_filters
+
+abbrev pub min_filter_kind : Kind
+min_filter_kind = choice_of form.Number min_filter_spelling min_filters
+
+abbrev pub wrapping_mode_kind : Kind
+wrapping_mode_kind = choice_of form.Number wrapping_mode_spelling wrapping_modes
+
+-- past its edges a texture repeats
+abbrev pub repeated : Tree
+repeated = chosen (wrapping_mode_spelling wrapping_mode.Repeat)
+
+unfoldable pub sampler_rows : Rows
+sampler_rows =
+    (codes "magFilter", optional, mag_filter_kind)
+    ◂ (codes "minFilter", optional, min_filter_kind)
+    ◂ (codes "name", optional, Text)
+    ◂ (codes "wrapS", always repeated, wrapping_mode_kind)
+    ◂ (codes "wrapT", always repeated, wrapping_mode_kind)
+    ◂ extensions_and_extras (kept_extensions ObjectName.sampler)
+
+abbrev pub sampler_kind : Kind
+sampler_kind = Object ObjectName.sampler sampler_rows false
+
+-- a texture without an image names the index past all others
+unfoldable pub texture_rows : Rows
+texture_rows =
+    (codes "name", optional, Text)
+    ◂ (codes "sampler", optional, IndexInto samplers)
+    ◂ (codes "extensions", optional, kept_extensions ObjectName.texture)
+    ◂ (codes "source", unless (index 4294967295), SourceImage)
+    ◂ (codes "extras", optional, Any)
+    ◂ no_rows
+
+abbrev pub texture_kind : Kind
+texture_kind = Object ObjectName.texture texture_rows false
+
+unfoldable pub texture_transform_rows : Rows
+texture_transform_rows =
+    (codes "offset", sometimes, Numbers 2)
+    ◂ (codes "rotation", sometimes, Number)
+    ◂ (codes "scale", sometimes, Numbers 2)
+    ◂ (codes "texCoord", or_null, U32)
+    ◂ (codes "extras", optional, Any)
+    ◂ no_rows
+
+abbrev pub texture_transform_kind : Kind
+texture_transform_kind = Object ObjectName.texture_transform texture_transform_rows false
+
+unfoldable pub info_extension_rows : Rows
+info_extension_rows =
+    (codes "KHR_texture_transform", optional, texture_transform_kind)
+    ◂ no_rows
+
+abbrev pub info_extensions_kind : Kind
+info_extensions_kind = Object (extensions_of ObjectName.texture_info) info_extension_rows true
+
+unfoldable pub info_rows : Rows
+info_rows =
+    (codes "index", required, IndexInto textures)
+    ◂ (codes "texCoord", always (whole 0), U32)
+    ◂ extensions_and_extras info_extensions_kind
+
+abbrev pub info_kind : Kind
+info_kind = Object ObjectName.texture_info info_rows false
+
+-- ---- the rows are sound
+
+pub sampler_sound : are_sound sampler_rows ≡ true
+unfolding sampler_rows
+sampler_sound = refl
+
+pub texture_sound : are_sound texture_rows ≡ true
+unfolding texture_rows
+texture_sound = refl
+
+pub texture_transform_sound : are_sound texture_transform_rows ≡ true
+unfolding texture_transform_rows
+texture_transform_sound = refl
+
+pub info_extension_sound : are_sound info_extension_rows ≡ true
+unfolding info_extension_rows
+info_extension_sound = rw texture_transform_sound refl
+
+pub info_sound : are_sound info_rows ≡ true
+unfolding info_rows
+info_sound = rw info_extension_sound refl

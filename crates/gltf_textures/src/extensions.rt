@@ -1,0 +1,3 @@
+//! Extension objects: what stands behind the member `extensions` of an object.
+
+pub mod texture;

@@ -1,0 +1,192 @@
+//! The extension objects of textures, their samplers and the references to them.
+
+ghost use Rattle.std.specs.Prelude.{◌≡◌, true, false};
+ghost use Rattle.serde_json.specs.Data.{no_members};
+ghost use Rattle.serde_json.specs.View.{members_view};
+ghost use Rattle.gltf_schema.specs.Kind.{ObjectName, extensions_of};
+ghost use Rattle.gltf_schema.specs.Defaults.{defaults};
+ghost use Rattle.gltf_textures.specs.TextureTable.{info_extension_rows, info_extension_sound, texture_transform_rows, texture_transform_sound};
+ghost use Rattle.gltf_textures.specs.TextureTrees.{info_extension_members, texture_transform_members};
+
+use gltf_base::Real;
+use gltf_data::extras::Extras;
+use gltf_schema::{Error, Object, Reading, Unlisted};
+use serde_json::{Map, Value};
+use std::alloc::Global;
+
+/// The extensions of a sampler.
+#[derive(Clone, Debug, Drop)]
+pub struct Sampler {
+    /// The extensions that are not known.
+    pub others: Map<String, Value>,
+}
+
+impl Unlisted for Sampler {
+    ghost extends = { ObjectName.sampler };
+
+    ghost is_keeping = { true };
+
+    ghost kept = { λ e. members_view e.others.entries };
+
+    fn from_others(others: Map<String, Value>) -> Sampler {
+        Sampler { others }
+    }
+}
+
+impl Sampler {
+    /// No extension.
+    pub fn new(alloc: Global) -> Sampler
+        ensures { members_view result.others.entries ≡ no_members }
+    {
+        Sampler {
+            others: Map::new(alloc),
+        }
+    }
+}
+
+/// The extensions of a texture.
+#[derive(Clone, Debug, Drop)]
+pub struct Texture {
+    /// The extensions that are not known.
+    pub others: Map<String, Value>,
+}
+
+impl Unlisted for Texture {
+    ghost extends = { ObjectName.texture };
+
+    ghost is_keeping = { true };
+
+    ghost kept = { λ e. members_view e.others.entries };
+
+    fn from_others(others: Map<String, Value>) -> Texture {
+        Texture { others }
+    }
+}
+
+impl Texture {
+    /// No extension.
+    pub fn new(alloc: Global) -> Texture
+        ensures { members_view result.others.entries ≡ no_members }
+    {
+        Texture {
+            others: Map::new(alloc),
+        }
+    }
+}
+
+/// The extensions of a reference to a texture.
+#[derive(Clone, Debug, Drop)]
+pub struct Info {
+    /// `KHR_texture_transform`: how texture coordinates are changed before they are used.
+    pub texture_transform: Option<TextureTransform>,
+    /// The extensions that are not known.
+    pub others: Map<String, Value>,
+}
+
+impl Object for Info {
+    ghost named = { extensions_of ObjectName.texture_info };
+
+    ghost rows = { info_extension_rows };
+
+    ghost keeps = { true };
+
+    ghost members = { info_extension_members };
+
+    ghost unknown = { λ e. members_view e.others.entries };
+
+    ghost sound = { info_extension_sound };
+
+    fn decode_members(alloc: Global, found: Map<String, Value>) -> Result<Info, Error> {
+        let mut reading = Reading::from_members(alloc, found);
+        let texture_transform = reading.optional("KHR_texture_transform");
+        let others = reading.others();
+        reading.finish(Info {
+            texture_transform,
+            others,
+        })
+    }
+}
+
+impl Info {
+    /// No extension.
+    #[tactic(auto, unfolding(crate::specs::TextureTable::info_extension_rows, crate::specs::TextureTrees::info_extension_members))]
+    pub fn new(alloc: Global) -> Info
+        ensures known { info_extension_members result ≡ defaults info_extension_rows }
+        ensures unknown { members_view result.others.entries ≡ no_members }
+    {
+        Info {
+            texture_transform: None,
+            others: Map::new(alloc),
+        }
+    }
+}
+
+/// How texture coordinates are changed before they are used: scaled, then turned, then moved.
+#[derive(Clone, Debug, Drop)]
+pub struct TextureTransform {
+    pub offset: TextureTransformOffset,
+    pub rotation: TextureTransformRotation,
+    pub scale: TextureTransformScale,
+    /// Which set of texture coordinates is used in place of the one that the reference names.
+    pub tex_coord: Option<u32>,
+    pub extras: Extras,
+}
+
+impl Object for TextureTransform {
+    ghost named = { ObjectName.texture_transform };
+
+    ghost rows = { texture_transform_rows };
+
+    ghost keeps = { false };
+
+    ghost members = { texture_transform_members };
+
+    ghost unknown = { λ _. no_members };
+
+    ghost sound = { texture_transform_sound };
+
+    fn decode_members(alloc: Global, found: Map<String, Value>) -> Result<TextureTransform, Error> {
+        let mut reading = Reading::from_members(alloc, found);
+        let offset = reading.sometimes("offset");
+        let rotation = reading.sometimes("rotation");
+        let scale = reading.sometimes("scale");
+        let tex_coord = reading.optional("texCoord");
+        let extras = reading.optional("extras");
+        reading.finish(TextureTransform {
+            offset: TextureTransformOffset(offset),
+            rotation: TextureTransformRotation(rotation),
+            scale: TextureTransformScale(scale),
+            tex_coord,
+            extras,
+        })
+    }
+}
+
+impl TextureTransform {
+    /// The transform that changes nothing.
+    #[tactic(auto, unfolding(crate::specs::TextureTable::texture_transform_rows, crate::specs::TextureTrees::texture_transform_members))]
+    pub fn new() -> TextureTransform
+        ensures { texture_transform_members result ≡ defaults texture_transform_rows }
+    {
+        TextureTransform {
+            offset: TextureTransformOffset(None),
+            rotation: TextureTransformRotation(None),
+            scale: TextureTransformScale(None),
+            tex_coord: None,
+            extras: None,
+        }
+    }
+}
+
+/// How far the origin is moved, in widths and heights of the texture; `None` stands for zeros.
+#[derive(Clone, Debug, Default, Drop)]
+pub struct TextureTransformOffset(pub Option<[Real; 2]>);
+
+/// The angle by which the texture is turned round the origin, in radians, against the clock; `None`
+/// stands for 0.
+#[derive(Clone, Debug, Default, Drop)]
+pub struct TextureTransformRotation(pub Option<Real>);
+
+/// The factors by which the coordinates are scaled; `None` stands for ones.
+#[derive(Clone, Debug, Default, Drop)]
+pub struct TextureTransformScale(pub Option<[Real; 2]>);

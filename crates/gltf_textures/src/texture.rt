@@ -1,0 +1,181 @@
+//! Textures, their samplers, and the references of materials to them (glTF 2.0, sections 5.26, 5.29
+//! and 5.30).
+
+ghost use Rattle.std.specs.Prelude.{◌≡◌, false};
+ghost use Rattle.serde_json.specs.Data.{no_members};
+ghost use Rattle.gltf_base.specs.Lists.{samplers, textures};
+ghost use Rattle.gltf_schema.specs.Kind.{ObjectName};
+ghost use Rattle.gltf_schema.specs.Defaults.{defaults};
+ghost use Rattle.gltf_textures.specs.TextureTable.{sampler_rows, sampler_sound, texture_rows, texture_sound, info_rows, info_sound};
+ghost use Rattle.gltf_textures.specs.TextureTrees.{sampler_members, texture_members, info_members};
+
+use crate::extensions;
+pub use gltf_base::texture::{
+    CLAMP_TO_EDGE, LINEAR, LINEAR_MIPMAP_LINEAR, LINEAR_MIPMAP_NEAREST, MIRRORED_REPEAT, MagFilter,
+    MinFilter, NEAREST, NEAREST_MIPMAP_LINEAR, NEAREST_MIPMAP_NEAREST, REPEAT, VALID_MAG_FILTERS,
+    VALID_MIN_FILTERS, VALID_WRAPPING_MODES, WrappingMode,
+};
+use gltf_base::validation::Checked;
+use gltf_base::{Index, Listed};
+use gltf_data::extras::Extras;
+use gltf_data::image::Image;
+use gltf_schema::{Error, Object, Reading};
+use serde_json::{Map, Value};
+use std::alloc::Global;
+
+/// How a texture is sampled: how it is filtered, and what lies past its edges.
+#[derive(Clone, Debug, Drop)]
+pub struct Sampler {
+    /// How the texture is shown larger than it is.
+    pub mag_filter: Option<Checked<MagFilter>>,
+    /// How the texture is shown smaller than it is.
+    pub min_filter: Option<Checked<MinFilter>>,
+    pub name: Option<String>,
+    /// What lies past the left and the right edge.
+    pub wrap_s: Checked<WrappingMode>,
+    /// What lies past the upper and the lower edge.
+    pub wrap_t: Checked<WrappingMode>,
+    pub extensions: Option<extensions::texture::Sampler>,
+    pub extras: Extras,
+}
+
+impl Sampler {
+    /// A sampler that repeats the texture and says nothing else.
+    #[tactic(auto, unfolding(crate::specs::TextureTable::sampler_rows, crate::specs::TextureTrees::sampler_members))]
+    pub fn new() -> Sampler
+        ensures { sampler_members result ≡ defaults sampler_rows }
+    {
+        Sampler {
+            mag_filter: None,
+            min_filter: None,
+            name: None,
+            wrap_s: Checked::Valid(WrappingMode::Repeat),
+            wrap_t: Checked::Valid(WrappingMode::Repeat),
+            extensions: None,
+            extras: None,
+        }
+    }
+}
+
+impl Listed for Sampler {
+    ghost list = { samplers };
+}
+
+impl Object for Sampler {
+    ghost named = { ObjectName.sampler };
+
+    ghost rows = { sampler_rows };
+
+    ghost keeps = { false };
+
+    ghost members = { sampler_members };
+
+    ghost unknown = { λ _. no_members };
+
+    ghost sound = { sampler_sound };
+
+    fn decode_members(alloc: Global, found: Map<String, Value>) -> Result<Sampler, Error> {
+        let mut reading = Reading::from_members(alloc, found);
+        let mag_filter = reading.optional("magFilter");
+        let min_filter = reading.optional("minFilter");
+        let name = reading.optional("name");
+        let wrap_s = reading.or_default("wrapS", Checked::Valid(WrappingMode::Repeat));
+        let wrap_t = reading.or_default("wrapT", Checked::Valid(WrappingMode::Repeat));
+        let extensions = reading.optional("extensions");
+        let extras = reading.optional("extras");
+        reading.finish(Sampler {
+            mag_filter,
+            min_filter,
+            name,
+            wrap_s,
+            wrap_t,
+            extensions,
+            extras,
+        })
+    }
+}
+
+/// An image and how it is sampled.
+#[derive(Clone, Debug, Drop)]
+pub struct Texture {
+    pub name: Option<String>,
+    /// How the image is sampled; without it the texture repeats and is filtered at will.
+    pub sampler: Option<Index<Sampler>>,
+    pub extensions: Option<extensions::texture::Texture>,
+    /// The image; 4294967295 where the document names none, as where an extension gives it.
+    pub source: Index<Image>,
+    pub extras: Extras,
+}
+
+impl Listed for Texture {
+    ghost list = { textures };
+}
+
+impl Object for Texture {
+    ghost named = { ObjectName.texture };
+
+    ghost rows = { texture_rows };
+
+    ghost keeps = { false };
+
+    ghost members = { texture_members };
+
+    ghost unknown = { λ _. no_members };
+
+    ghost sound = { texture_sound };
+
+    fn decode_members(alloc: Global, found: Map<String, Value>) -> Result<Texture, Error> {
+        let mut reading = Reading::from_members(alloc, found);
+        let name = reading.optional("name");
+        let sampler = reading.optional("sampler");
+        let extensions = reading.optional("extensions");
+        let source = reading.or_default("source", Index::new(u32::MAX));
+        let extras = reading.optional("extras");
+        reading.finish(Texture {
+            name,
+            sampler,
+            extensions,
+            source,
+            extras,
+        })
+    }
+}
+
+/// A reference to a texture.
+#[derive(Clone, Debug, Drop)]
+pub struct Info {
+    /// The texture.
+    pub index: Index<Texture>,
+    /// Which set of texture coordinates is used: the number in `TEXCOORD_n`.
+    pub tex_coord: u32,
+    pub extensions: Option<extensions::texture::Info>,
+    pub extras: Extras,
+}
+
+impl Object for Info {
+    ghost named = { ObjectName.texture_info };
+
+    ghost rows = { info_rows };
+
+    ghost keeps = { false };
+
+    ghost members = { info_members };
+
+    ghost unknown = { λ _. no_members };
+
+    ghost sound = { info_sound };
+
+    fn decode_members(alloc: Global, found: Map<String, Value>) -> Result<Info, Error> {
+        let mut reading = Reading::from_members(alloc, found);
+        let index = reading.required("index");
+        let tex_coord = reading.or_default("texCoord", 0);
+        let extensions = reading.optional("extensions");
+        let extras = reading.optional("extras");
+        reading.finish(Info {
+            index,
+            tex_coord,
+            extensions,
+            extras,
+        })
+    }
+}

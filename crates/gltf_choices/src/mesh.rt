@@ -5,7 +5,6 @@ ghost use Rattle.gltf_checked.specs.Spelling.{by_number, item_spelled};
 ghost use Rattle.gltf_choices.specs.Choices.{mode_spelling, modes};
 
 use gltf_checked::choice::{Choice, Form, Spelling, item_of};
-pub use gltf_checked::mesh::Semantic;
 use gltf_checked::validation::Checked;
 
 /// `GL_POINTS`.

@@ -1,6 +1,6 @@
 -- The rows of accessors (glTF 2.0, sections 5.1 to 5.4).
 use Rattle.std.specs.Prelude.{◌≡◌, true, false, codes, refl}
-use Rattle.gltf_base.specs.Lists.{buffer_views}
+use Rattle.gltf_paths.specs.Lists.{buffer_views}
 use Rattle.gltf_choices.specs.Choices.{generic_component_type_spelling, generic_component_types, index_component_type_spelling, index_component_types, accessor_type_spelling, accessor_types}
 use Rattle.gltf_checked.specs.declared.choice.Form.TheVariants as form
 use Rattle.gltf_schema.specs.Tree.{whole, truth}

@@ -1,6 +1,6 @@
 -- The rows of buffers and their views (glTF 2.0, sections 5.10 and 5.11).
 use Rattle.std.specs.Prelude.{◌≡◌, true, false, codes, refl}
-use Rattle.gltf_base.specs.Lists.{buffers}
+use Rattle.gltf_paths.specs.Lists.{buffers}
 use Rattle.gltf_choices.specs.Choices.{target_spelling, targets}
 use Rattle.gltf_checked.specs.declared.choice.Form.TheVariants as form
 use Rattle.gltf_schema.specs.Tree.{whole}

@@ -1,6 +1,6 @@
 -- The rows of images (glTF 2.0, section 5.18).
 use Rattle.std.specs.Prelude.{◌≡◌, true, false, codes, refl}
-use Rattle.gltf_base.specs.Lists.{buffer_views}
+use Rattle.gltf_paths.specs.Lists.{buffer_views}
 use Rattle.gltf_schema.specs.Kind.{optional, Kind, IndexInto, Text, Object, ObjectName, Rows, ◌◂◌}
 use Rattle.gltf_schema.specs.Extensions.{kept_extensions, extensions_and_extras}
 use Rattle.gltf_schema.specs.Plain.{are_sound}

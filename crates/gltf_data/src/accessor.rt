@@ -2,7 +2,7 @@
 
 ghost use Rattle.std.specs.Prelude.{false};
 ghost use Rattle.serde_json.specs.Data.{no_members};
-ghost use Rattle.gltf_base.specs.Lists.{accessors};
+ghost use Rattle.gltf_paths.specs.Lists.{accessors};
 ghost use Rattle.gltf_schema.specs.Kind.{ObjectName};
 ghost use Rattle.gltf_data.specs.AccessorTable.{accessor_rows, accessor_sound};
 ghost use Rattle.gltf_data.specs.AccessorTrees.{accessor_members};
@@ -10,6 +10,7 @@ ghost use Rattle.gltf_data.specs.AccessorTrees.{accessor_members};
 use crate::buffer::View;
 use crate::extensions;
 use crate::extras::Extras;
+use gltf_base::accessor::{AccessorType, GenericComponentType};
 use gltf_base::validation::{Checked, USize64};
 use gltf_base::{Index, Listed};
 use gltf_schema::{Error, Object, Reading};
@@ -17,12 +18,6 @@ use serde_json::{Map, Value};
 use std::alloc::Global;
 
 pub mod sparse;
-
-pub use gltf_base::accessor::{
-    AccessorType, BYTE, ComponentType, FLOAT, GenericComponentType, IndexComponentType, SHORT,
-    Type, UNSIGNED_BYTE, UNSIGNED_INT, UNSIGNED_SHORT, VALID_ACCESSOR_TYPES, VALID_COMPONENT_TYPES,
-    VALID_INDEX_TYPES,
-};
 
 /// How the data of a view is read as elements.
 // What takes longest to drop stands last (docs/DECISIONS.md).
@@ -37,7 +32,7 @@ pub struct Accessor {
     /// The type of one component.
     pub component_type: Checked<GenericComponentType>,
     /// How many components an element has, and how they lie.
-    pub type_: Checked<Type>,
+    pub type_: Checked<AccessorType>,
     pub name: Option<String>,
     /// Whether integers stand for fractions.
     pub normalized: bool,

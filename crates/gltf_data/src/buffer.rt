@@ -2,16 +2,14 @@
 
 ghost use Rattle.std.specs.Prelude.{false, refl};
 ghost use Rattle.serde_json.specs.Data.{no_members};
-ghost use Rattle.gltf_base.specs.Lists.{buffers, buffer_views};
+ghost use Rattle.gltf_paths.specs.Lists.{buffers, buffer_views};
 ghost use Rattle.gltf_schema.specs.Kind.{ObjectName, Stride as stride_kind};
 ghost use Rattle.gltf_data.specs.BufferTable.{buffer_rows, buffer_sound, view_rows, view_sound};
 ghost use Rattle.gltf_data.specs.BufferTrees.{buffer_members, view_members, stride_tree};
 
 use crate::extensions;
 use crate::extras::Extras;
-pub use gltf_base::buffer::{
-    ARRAY_BUFFER, ELEMENT_ARRAY_BUFFER, MAX_BYTE_STRIDE, MIN_BYTE_STRIDE, Target, VALID_TARGETS,
-};
+use gltf_base::buffer::Target;
 use gltf_base::validation::{Checked, USize64};
 use gltf_base::{Index, Listed};
 use gltf_schema::{Error, Object, Reading, Schema};

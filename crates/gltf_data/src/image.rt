@@ -2,7 +2,7 @@
 
 ghost use Rattle.std.specs.Prelude.{false, refl};
 ghost use Rattle.serde_json.specs.Data.{no_members};
-ghost use Rattle.gltf_base.specs.Lists.{images};
+ghost use Rattle.gltf_paths.specs.Lists.{images};
 ghost use Rattle.gltf_schema.specs.Kind.{ObjectName, Text};
 ghost use Rattle.gltf_data.specs.ImageTable.{image_rows, image_sound};
 ghost use Rattle.gltf_data.specs.ImageTrees.{image_members, mime_type_tree};
@@ -10,13 +10,12 @@ ghost use Rattle.gltf_data.specs.ImageTrees.{image_members, mime_type_tree};
 use crate::buffer::View;
 use crate::extensions;
 use crate::extras::Extras;
-pub use gltf_base::image::VALID_MIME_TYPES;
 use gltf_base::{Index, Listed};
 use gltf_schema::{Error, Object, Reading, Schema};
 use serde_json::{Map, Value};
 use std::alloc::Global;
 
-/// What an image is written in: a media type, which may be another than [`VALID_MIME_TYPES`] lists.
+/// What an image is written in: a media type, which may be another than `VALID_MIME_TYPES` lists.
 #[derive(Clone, Debug, Drop)]
 pub struct MimeType(pub String);
 

@@ -1,10 +1,9 @@
-//! glTF 2.0 documents: read from JSON, and checked against the table of the format.
+//! glTF 2.0 documents: read from JSON, and checked against the table of the format. This crate names
+//! what the crates below it hold, under the modules of the format.
 #![tactic(auto)]
 
 pub mod extensions;
-pub mod laws;
 pub mod root;
-mod scene;
 pub mod validation;
 
 pub use gltf_base::{Index, Path, Real, animation, camera, mesh, path};
@@ -15,7 +14,8 @@ pub use gltf_parts::image::Image;
 pub use gltf_parts::material::Material;
 pub use gltf_parts::texture::Texture;
 pub use gltf_parts::{Error, Schema, accessor, buffer, extras, image, material, texture};
+pub use gltf_root::asset;
+pub use gltf_root::asset::Asset;
+pub use gltf_validation::laws;
 pub use root::Root;
-pub use scene::asset;
-pub use scene::asset::Asset;
 pub use serde_json::Value;

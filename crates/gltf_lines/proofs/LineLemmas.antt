@@ -2,12 +2,12 @@
 use Rattle.std.proofs.Common.{◌≡◌, ◌<◌, ◌+◌, ℕ, List, [], ◌∷◌, ◌++◌, Ok, Err, sym, ◌∙◌, append_assoc, length, map, ap, subst, arith}
 use Rattle.std.proofs.lemmas.List.{append-nil}
 use Rattle.arrayvec.specs.ArrayVec.{ArrayVec}
-use Rattle.gltf_base.specs.Steps.{Step, steps_of, step_of}
-use Rattle.gltf_base.specs.declared.path.Step.{Step as Borrowed}
-use Rattle.gltf_base.specs.declared.validation.Error.{Error}
-use Rattle.gltf_json.specs.Faults.{Report, From}
-use Rattle.gltf_json.specs.Walk.{run, Walked}
-use Rattle.gltf_json.specs.declared.validation.sink.Stop.TheVariants.{StepsFull}
+use Rattle.gltf_paths.specs.Steps.{Step, steps_of, step_of}
+use Rattle.gltf_paths.specs.declared.path.Step.{Step as Borrowed}
+use Rattle.gltf_paths.specs.declared.validation.Error.{Error}
+use Rattle.gltf_validation.specs.Faults.{Report, From}
+use Rattle.gltf_validation.specs.Walk.{run, Walked}
+use Rattle.gltf_validation.specs.declared.validation.sink.Stop.TheVariants.{StepsFull}
 use Rattle.gltf_lines.specs.Output.{report_line, report_lines, with_report}
 
 -- a sink of lines appends the lines of all reports

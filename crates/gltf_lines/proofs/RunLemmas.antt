@@ -4,11 +4,11 @@ use Rattle.std.proofs.lemmas.Bool.{true≢false}
 use Rattle.std.specs.Io.KnownBytes.{Appends}
 use Rattle.gltf_schema.specs.declared.error.Error.{Error}
 use Rattle.gltf_schema.specs.declared.error.Error.TheVariants.{Json, Schema, InvalidItem, Read, Write, Memory, TooLong}
-use Rattle.gltf_json.specs.Answer.{Answer, no_json, no_document, document, answer, IsReadAnswer, IsReading}
-use Rattle.gltf_json.specs.Device.{Seen, IsWithin, AppendsFront}
-use Rattle.gltf_json.specs.Faults.{Report}
-use Rattle.gltf_json.specs.RootTrees.{root_tree}
-use Rattle.gltf_json.specs.declared.root.Root.{Root}
+use Rattle.gltf_root.specs.Answer.{Answer, no_json, no_document, document, answer, IsReadAnswer, IsReading}
+use Rattle.gltf_root.specs.Device.{Seen, IsWithin, AppendsFront}
+use Rattle.gltf_validation.specs.Faults.{Report}
+use Rattle.gltf_root.specs.RootTrees.{root_tree}
+use Rattle.gltf_root.specs.declared.root.Root.{Root}
 use Rattle.gltf_lines.specs.Output.{Output, answer_output, reports_output, document_reports, output, refusal}
 use Rattle.gltf_lines.specs.Run.{IsRun, IsWritten, reading_output}
 

@@ -1,14 +1,14 @@
 -- What is written and answered for the bytes of a document.
 use Rattle.std.specs.Prelude.{ℕ, List, [], ◌∷◌, ◌++◌, codes}
-use Rattle.gltf_base.specs.Errors.{error_text}
-use Rattle.gltf_base.specs.Steps.{Step}
-use Rattle.gltf_base.specs.Text.{path_text}
-use Rattle.gltf_base.specs.declared.validation.Error.{Error}
+use Rattle.gltf_paths.specs.Errors.{error_text}
+use Rattle.gltf_paths.specs.Steps.{Step}
+use Rattle.gltf_paths.specs.Text.{path_text}
+use Rattle.gltf_paths.specs.declared.validation.Error.{Error}
 use Rattle.gltf_schema.specs.Tree.{Tree}
-use Rattle.gltf_json.specs.Answer.{Answer, no_json, no_document, document, answer}
-use Rattle.gltf_json.specs.Faults.{Report, report}
-use Rattle.gltf_json.specs.Reports.{reports_of}
-use Rattle.gltf_json.specs.RootTable.{root_kind}
+use Rattle.gltf_root.specs.Answer.{Answer, no_json, no_document, document, answer}
+use Rattle.gltf_validation.specs.Faults.{Report, report}
+use Rattle.gltf_validation.specs.Reports.{reports_of}
+use Rattle.gltf_root.specs.RootTable.{root_kind}
 
 -- a text, and an exit status
 pub record Output : Type 0 where

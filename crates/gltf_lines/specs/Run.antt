@@ -3,10 +3,10 @@ use Rattle.std.specs.Prelude.{◌≡◌, ◌≢◌, ◌⊎◌, ℕ, List, Bool, 
 use Rattle.std.specs.Io.KnownBytes.{Appends}
 use Rattle.gltf_schema.specs.declared.error.Error.{Error}
 use Rattle.gltf_schema.specs.declared.error.Error.TheVariants as errors
-use Rattle.gltf_json.specs.Answer.{no_json, no_document, document}
-use Rattle.gltf_json.specs.Device.{AppendsFront}
-use Rattle.gltf_json.specs.RootTrees.{root_tree}
-use Rattle.gltf_json.specs.declared.root.Root.{Root}
+use Rattle.gltf_root.specs.Answer.{no_json, no_document, document}
+use Rattle.gltf_root.specs.Device.{AppendsFront}
+use Rattle.gltf_root.specs.RootTrees.{root_tree}
+use Rattle.gltf_root.specs.declared.root.Root.{Root}
 use Rattle.gltf_lines.specs.Output.{Output, answer_output, output, refusal}
 
 -- by the bytes that the reader told at the start, if any, what the writer told before and after, whether it has failed then

@@ -1,7 +1,7 @@
 //! A line for each report.
 
 ghost use Rattle.std.specs.Prelude.{◌≡◌, List, ℕ, ⊤, IfOk, string_bytes};
-ghost use Rattle.gltf_json.specs.RootTrees.{root_tree};
+ghost use Rattle.gltf_root.specs.RootTrees.{root_tree};
 ghost use Rattle.gltf_lines.specs.Output.{document_reports, report_lines, with_report};
 
 use gltf_base::Steps;

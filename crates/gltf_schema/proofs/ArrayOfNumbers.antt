@@ -6,8 +6,8 @@ use Rattle.std.specs.Option.{ok_or}
 use Rattle.std.specs.Result.{MatchResult, result_ok}
 use Rattle.serde_json.specs.Data.{Num, unsigned, Items, no_items, item}
 use Rattle.serde_json.specs.Find.{as_number}
-use Rattle.gltf_base.specs.Reals.{real_number}
-use Rattle.gltf_base.specs.declared.real.Real.{Real}
+use Rattle.gltf_paths.specs.Reals.{real_number}
+use Rattle.gltf_paths.specs.declared.real.Real.{Real}
 use Rattle.gltf_schema.specs.declared.error.Error.{Error}
 use Rattle.gltf_schema.specs.declared.error.Error.TheVariants as errors
 use Rattle.gltf_schema.specs.Outcome.{Reads, Refuses}

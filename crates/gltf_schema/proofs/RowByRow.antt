@@ -6,7 +6,7 @@ use Rattle.gltf_schema.specs.declared.error.Error.TheVariants as errors
 use Rattle.gltf_schema.specs.Outcome.{Reads, Refuses}
 use Rattle.gltf_schema.specs.Maybe.{◌>>=◌}
 use Rattle.gltf_schema.specs.Tree.{Tree, Trees, end, with_tree}
-use Rattle.gltf_base.specs.Lists.{images}
+use Rattle.gltf_paths.specs.Lists.{images}
 use Rattle.gltf_schema.specs.Kind.{Mark, Kind, IndexInto, SourceImage, Rows, no_rows, row}
 use Rattle.gltf_schema.specs.Taken.{take_member, take_rows, take_all, left}
 use Rattle.gltf_schema.specs.Readings.{MemberFrom, RowsFrom, OthersFrom, FinishFrom, ReadsMember, ReadsRows, TakesOthers, Finishes}

@@ -4,11 +4,11 @@ use Rattle.std.specs.declared.alloc.Global.{Global}
 use Rattle.serde_json.specs.Data.{no_members}
 use Rattle.serde_json.specs.View.{view}
 use Rattle.serde_json.specs.declared.value.Value.{Value}
-use Rattle.gltf_base.specs.Indexes.{index_number}
-use Rattle.gltf_base.specs.Reals.{real_number}
-use Rattle.gltf_base.specs.declared.index.IndexTo.{IndexTo}
-use Rattle.gltf_base.specs.declared.real.Real.{Real}
-use Rattle.gltf_base.specs.declared.validation.USize64.{USize64}
+use Rattle.gltf_paths.specs.Indexes.{index_number}
+use Rattle.gltf_paths.specs.Reals.{real_number}
+use Rattle.gltf_paths.specs.declared.index.IndexTo.{IndexTo}
+use Rattle.gltf_paths.specs.declared.real.Real.{Real}
+use Rattle.gltf_paths.specs.declared.validation.USize64.{USize64}
 use Rattle.gltf_schema.specs.Tree.{Tree, Trees, trees, whole, number, numbers, text, any, index, list, object}
 
 abbrev pub index_tree : {P : Type 0} → IndexTo P → Tree

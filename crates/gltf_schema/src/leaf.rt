@@ -2,8 +2,8 @@
 
 ghost use Rattle.std.specs.Prelude.{◌≡◌, map, string_bytes, refl};
 ghost use Rattle.serde_json.specs.View.{view, items_view};
-ghost use Rattle.gltf_base.specs.Indexes.{index_number};
-ghost use Rattle.gltf_base.specs.Reals.{real_number};
+ghost use Rattle.gltf_paths.specs.Indexes.{index_number};
+ghost use Rattle.gltf_paths.specs.Reals.{real_number};
 ghost use Rattle.gltf_schema.specs.Tree.{whole, number, text, truth, any, index, list, trees};
 ghost use Rattle.gltf_schema.specs.Kind.{IndexInto, U32, U64, Number, Numbers, Text, Truth, Any, ListOf};
 ghost use Rattle.gltf_schema.specs.Read.{read, read_items, small_number as number_of_32_bits};

@@ -1,7 +1,7 @@
 -- The rows of textures, their samplers and the references to them (glTF 2.0, sections 5.26, 5.29
 -- and 5.30), and of the extension KHR_texture_transform.
 use Rattle.std.specs.Prelude.{◌≡◌, true, false, codes, refl}
-use Rattle.gltf_base.specs.Lists.{samplers, textures}
+use Rattle.gltf_paths.specs.Lists.{samplers, textures}
 use Rattle.gltf_choices.specs.TextureChoices.{mag_filter_spelling, mag_filters, min_filter_spelling, min_filters, wrapping_mode_spelling, wrapping_modes}
 use Rattle.gltf_checked.specs.declared.choice.Form.TheVariants as form
 use Rattle.gltf_choices.specs.declared.texture.WrappingMode.TheVariants as wrapping_mode

@@ -3,18 +3,14 @@
 
 ghost use Rattle.std.specs.Prelude.{◌≡◌, false};
 ghost use Rattle.serde_json.specs.Data.{no_members};
-ghost use Rattle.gltf_base.specs.Lists.{samplers, textures};
+ghost use Rattle.gltf_paths.specs.Lists.{samplers, textures};
 ghost use Rattle.gltf_schema.specs.Kind.{ObjectName};
 ghost use Rattle.gltf_schema.specs.Defaults.{defaults};
 ghost use Rattle.gltf_textures.specs.TextureTable.{sampler_rows, sampler_sound, texture_rows, texture_sound, info_rows, info_sound};
 ghost use Rattle.gltf_textures.specs.TextureTrees.{sampler_members, texture_members, info_members};
 
 use crate::extensions;
-pub use gltf_base::texture::{
-    CLAMP_TO_EDGE, LINEAR, LINEAR_MIPMAP_LINEAR, LINEAR_MIPMAP_NEAREST, MIRRORED_REPEAT, MagFilter,
-    MinFilter, NEAREST, NEAREST_MIPMAP_LINEAR, NEAREST_MIPMAP_NEAREST, REPEAT, VALID_MAG_FILTERS,
-    VALID_MIN_FILTERS, VALID_WRAPPING_MODES, WrappingMode,
-};
+use gltf_base::texture::{MagFilter, MinFilter, WrappingMode};
 use gltf_base::validation::Checked;
 use gltf_base::{Index, Listed};
 use gltf_data::extras::Extras;

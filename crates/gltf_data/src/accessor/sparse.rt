@@ -7,11 +7,11 @@ ghost use Rattle.gltf_schema.specs.Kind.{ObjectName};
 ghost use Rattle.gltf_data.specs.AccessorTable.{sparse_rows, sparse_sound, sparse_indices_rows, sparse_indices_sound, sparse_values_rows, sparse_values_sound};
 ghost use Rattle.gltf_data.specs.AccessorTrees.{sparse_members, sparse_indices_members, sparse_values_members};
 
-use super::IndexComponentType;
 use crate::buffer::View;
 use crate::extensions;
 use crate::extras::Extras;
 use gltf_base::Index;
+use gltf_base::accessor::IndexComponentType;
 use gltf_base::validation::{Checked, USize64};
 use gltf_schema::{Blank, Error, Object, Reading};
 use serde_json::{Map, Value};

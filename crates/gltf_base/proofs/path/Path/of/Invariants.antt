@@ -1,9 +1,0 @@
-use Rattle.std.proofs.Common.{◌≡◌, drop, map}
-use Rattle.std.specs.String.{string_bytes}
-use Rattle.gltf_base.specs.Steps.{steps_of, step_of}
-use Rattle.gltf_base.specs.Text.{path_text, text_behind}
-use Rattle.gltf_base.proofs.path.Path.of.Given as goal
-
--- the rest of the steps applied to what is written gives the whole text
-abbrev pub invariant-loop-step : goal.invariant-loop-step
-invariant-loop-step l = text_behind (string_bytes l.written) (map step_of (drop l.step-index l.steps.items)) ≡ path_text (steps_of l.steps)

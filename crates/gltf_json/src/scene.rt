@@ -1,3 +1,0 @@
-//! The objects of a scene.
-
-pub mod asset;

@@ -1,0 +1,15 @@
+-- Each row is read in the table's order.
+use Rattle.gltf_schema.proofs.RowByRow.{all_read, read_none, read_row}
+use Rattle.gltf_materials.specs.MaterialTable.{occlusion_texture_rows}
+use Rattle.gltf_materials.specs.MaterialTrees.{occlusion_texture_members}
+use Rattle.gltf_materials.proofs.material.OcclusionTextureObject.decode_members.Goals as goal
+
+pub returns : goal.returns
+unfolding occlusion_texture_rows occlusion_texture_members
+returns c =
+    all_read occlusion_texture_members c.from_members-reading.ensures
+    (read_row c.required-index.ensures
+    (read_row c.sometimes-strength.ensures
+    (read_row c.or_default-tex_coord.ensures.always
+    (read_row c.optional-extensions.ensures.left_out
+    (read_row c.optional-extras.ensures.left_out read_none))))) c.finish.ensures

@@ -1,0 +1,304 @@
+//! Materials, and their references to textures (glTF 2.0, sections 5.19 to 5.22).
+
+ghost use Rattle.std.specs.Prelude.{◌≡◌, false, refl};
+ghost use Rattle.serde_json.specs.Data.{no_members};
+ghost use Rattle.gltf_paths.specs.Lists.{materials};
+ghost use Rattle.gltf_schema.specs.Kind.{ObjectName, Number};
+ghost use Rattle.gltf_schema.specs.Defaults.{defaults};
+ghost use Rattle.gltf_materials.specs.MaterialTable.{material_rows, material_sound, pbr_metallic_roughness_rows, pbr_metallic_roughness_sound, normal_texture_rows, normal_texture_sound, occlusion_texture_rows, occlusion_texture_sound};
+ghost use Rattle.gltf_materials.specs.MaterialTrees.{alpha_cutoff_tree, material_members, pbr_metallic_roughness_members, normal_texture_members, occlusion_texture_members};
+
+use gltf_base::material::AlphaMode;
+use gltf_base::validation::Checked;
+use gltf_base::{Index, Listed, Real};
+use gltf_data::extras::Extras;
+use gltf_schema::{Blank, Error, Object, Reading, Schema};
+use gltf_shading::extensions;
+use gltf_shading::material::StrengthFactor;
+use gltf_textures::texture::{Info, Texture};
+use serde_json::{Map, Value};
+use std::alloc::Global;
+
+/// How a surface looks.
+#[derive(Clone, Debug, Drop)]
+pub struct Material {
+    /// Below which alpha nothing is shown where `alpha_mode` is `Mask`; without it one half.
+    pub alpha_cutoff: Option<AlphaCutoff>,
+    /// How the alpha of the base color is used.
+    pub alpha_mode: Checked<AlphaMode>,
+    /// Whether the back of the surface is shown too.
+    pub double_sided: bool,
+    pub name: Option<String>,
+    /// The parameters of the metallic-roughness model.
+    pub pbr_metallic_roughness: PbrMetallicRoughness,
+    /// Normals in tangent space.
+    pub normal_texture: Option<NormalTexture>,
+    /// How much indirect light reaches a place.
+    pub occlusion_texture: Option<OcclusionTexture>,
+    /// The color of the light that the surface sends out.
+    pub emissive_texture: Option<Info>,
+    /// The factors of that color.
+    pub emissive_factor: EmissiveFactor,
+    pub extensions: Option<extensions::material::Material>,
+    pub extras: Extras,
+}
+
+impl Material {
+    /// A material that says nothing.
+    #[tactic(auto, unfolding(crate::specs::MaterialTable::material_rows, crate::specs::MaterialTrees::material_members))]
+    pub fn new() -> Material
+        ensures { material_members result ≡ defaults material_rows }
+    {
+        Material {
+            alpha_cutoff: None,
+            alpha_mode: Checked::Valid(AlphaMode::Opaque),
+            double_sided: false,
+            name: None,
+            pbr_metallic_roughness: PbrMetallicRoughness::new(),
+            normal_texture: None,
+            occlusion_texture: None,
+            emissive_texture: None,
+            emissive_factor: EmissiveFactor(None),
+            extensions: None,
+            extras: None,
+        }
+    }
+}
+
+impl Listed for Material {
+    ghost list = { materials };
+}
+
+impl Object for Material {
+    ghost named = { ObjectName.material };
+
+    ghost rows = { material_rows };
+
+    ghost keeps = { false };
+
+    ghost members = { material_members };
+
+    ghost unknown = { λ _. no_members };
+
+    ghost sound = { material_sound };
+
+    fn decode_members(alloc: Global, found: Map<String, Value>) -> Result<Material, Error> {
+        let mut reading = Reading::from_members(alloc, found);
+        let alpha_cutoff = reading.optional("alphaCutoff");
+        let alpha_mode = reading.or_default("alphaMode", Checked::Valid(AlphaMode::Opaque));
+        let double_sided = reading.or_default("doubleSided", false);
+        let name = reading.optional("name");
+        let pbr_metallic_roughness = reading.or_default(
+            "pbrMetallicRoughness",
+            PbrMetallicRoughness::new(),
+        );
+        let normal_texture = reading.optional("normalTexture");
+        let occlusion_texture = reading.optional("occlusionTexture");
+        let emissive_texture = reading.optional("emissiveTexture");
+        let emissive_factor = reading.sometimes("emissiveFactor");
+        let extensions = reading.optional("extensions");
+        let extras = reading.optional("extras");
+        reading.finish(Material {
+            alpha_cutoff,
+            alpha_mode,
+            double_sided,
+            name,
+            pbr_metallic_roughness,
+            normal_texture,
+            occlusion_texture,
+            emissive_texture,
+            emissive_factor: EmissiveFactor(emissive_factor),
+            extensions,
+            extras,
+        })
+    }
+}
+
+/// The parameters of the metallic-roughness model.
+// What takes longest to drop stands last (docs/DECISIONS.md).
+#[derive(Clone, Debug, Drop)]
+pub struct PbrMetallicRoughness {
+    /// The factors of the base color.
+    pub base_color_factor: PbrBaseColorFactor,
+    /// The factor of how metallic the surface is.
+    pub metallic_factor: StrengthFactor,
+    /// The factor of how rough the surface is.
+    pub roughness_factor: StrengthFactor,
+    pub extensions: Option<extensions::material::PbrMetallicRoughness>,
+    pub extras: Extras,
+    /// The base color.
+    pub base_color_texture: Option<Info>,
+    /// How rough the surface is, by green, and how metallic, by blue.
+    pub metallic_roughness_texture: Option<Info>,
+}
+
+impl PbrMetallicRoughness {
+    /// Parameters that say nothing.
+    #[tactic(auto, unfolding(crate::specs::MaterialTable::pbr_metallic_roughness_rows, crate::specs::MaterialTrees::pbr_metallic_roughness_members))]
+    pub fn new() -> PbrMetallicRoughness
+        ensures { pbr_metallic_roughness_members result ≡ defaults pbr_metallic_roughness_rows }
+    {
+        PbrMetallicRoughness {
+            base_color_factor: PbrBaseColorFactor(None),
+            base_color_texture: None,
+            metallic_factor: StrengthFactor(None),
+            roughness_factor: StrengthFactor(None),
+            metallic_roughness_texture: None,
+            extensions: None,
+            extras: None,
+        }
+    }
+}
+
+impl Object for PbrMetallicRoughness {
+    ghost named = { ObjectName.pbr_metallic_roughness };
+
+    ghost rows = { pbr_metallic_roughness_rows };
+
+    ghost keeps = { false };
+
+    ghost members = { pbr_metallic_roughness_members };
+
+    ghost unknown = { λ _. no_members };
+
+    ghost sound = { pbr_metallic_roughness_sound };
+
+    fn decode_members(
+        alloc: Global,
+        found: Map<String, Value>,
+    ) -> Result<PbrMetallicRoughness, Error> {
+        let mut reading = Reading::from_members(alloc, found);
+        let base_color_factor = reading.sometimes("baseColorFactor");
+        let base_color_texture = reading.optional("baseColorTexture");
+        let metallic_factor = reading.sometimes("metallicFactor");
+        let roughness_factor = reading.sometimes("roughnessFactor");
+        let metallic_roughness_texture = reading.optional("metallicRoughnessTexture");
+        let extensions = reading.optional("extensions");
+        let extras = reading.optional("extras");
+        reading.finish(PbrMetallicRoughness {
+            base_color_factor: PbrBaseColorFactor(base_color_factor),
+            base_color_texture,
+            metallic_factor: StrengthFactor(metallic_factor),
+            roughness_factor: StrengthFactor(roughness_factor),
+            metallic_roughness_texture,
+            extensions,
+            extras,
+        })
+    }
+}
+
+impl Blank for PbrMetallicRoughness {
+    fn blank(_alloc: Global) -> PbrMetallicRoughness {
+        PbrMetallicRoughness::new()
+    }
+}
+
+/// A reference to a texture of normals.
+#[derive(Clone, Debug, Drop)]
+pub struct NormalTexture {
+    /// The texture.
+    pub index: Index<Texture>,
+    /// The factor of a normal's first two components; `None` stands for 1.
+    pub scale: Option<Real>,
+    /// Which set of texture coordinates is used: the number in `TEXCOORD_n`.
+    pub tex_coord: u32,
+    pub extensions: Option<extensions::material::NormalTexture>,
+    pub extras: Extras,
+}
+
+impl Object for NormalTexture {
+    ghost named = { ObjectName.normal_texture };
+
+    ghost rows = { normal_texture_rows };
+
+    ghost keeps = { false };
+
+    ghost members = { normal_texture_members };
+
+    ghost unknown = { λ _. no_members };
+
+    ghost sound = { normal_texture_sound };
+
+    fn decode_members(alloc: Global, found: Map<String, Value>) -> Result<NormalTexture, Error> {
+        let mut reading = Reading::from_members(alloc, found);
+        let index = reading.required("index");
+        let scale = reading.sometimes("scale");
+        let tex_coord = reading.or_default("texCoord", 0);
+        let extensions = reading.optional("extensions");
+        let extras = reading.optional("extras");
+        reading.finish(NormalTexture {
+            index,
+            scale,
+            tex_coord,
+            extensions,
+            extras,
+        })
+    }
+}
+
+/// A reference to a texture of occlusion.
+#[derive(Clone, Debug, Drop)]
+pub struct OcclusionTexture {
+    /// The texture.
+    pub index: Index<Texture>,
+    /// How much of the occlusion is applied.
+    pub strength: StrengthFactor,
+    /// Which set of texture coordinates is used: the number in `TEXCOORD_n`.
+    pub tex_coord: u32,
+    pub extensions: Option<extensions::material::OcclusionTexture>,
+    pub extras: Extras,
+}
+
+impl Object for OcclusionTexture {
+    ghost named = { ObjectName.occlusion_texture };
+
+    ghost rows = { occlusion_texture_rows };
+
+    ghost keeps = { false };
+
+    ghost members = { occlusion_texture_members };
+
+    ghost unknown = { λ _. no_members };
+
+    ghost sound = { occlusion_texture_sound };
+
+    fn decode_members(alloc: Global, found: Map<String, Value>) -> Result<OcclusionTexture, Error> {
+        let mut reading = Reading::from_members(alloc, found);
+        let index = reading.required("index");
+        let strength = reading.sometimes("strength");
+        let tex_coord = reading.or_default("texCoord", 0);
+        let extensions = reading.optional("extensions");
+        let extras = reading.optional("extras");
+        reading.finish(OcclusionTexture {
+            index,
+            strength: StrengthFactor(strength),
+            tex_coord,
+            extensions,
+            extras,
+        })
+    }
+}
+
+/// Below which alpha nothing is shown.
+#[derive(Clone, Debug, Drop)]
+pub struct AlphaCutoff(pub Real);
+
+impl Schema for AlphaCutoff {
+    ghost kind = { Number };
+
+    ghost tree = { alpha_cutoff_tree };
+
+    ghost present = { λ _. refl };
+
+    fn decode(alloc: Global, value: Value) -> Result<AlphaCutoff, Error> {
+        Ok(AlphaCutoff(Real::decode(alloc, value)?))
+    }
+}
+
+/// The factors of an emitted color: red, green, blue; `None` stands for zeros.
+#[derive(Clone, Debug, Default, Drop)]
+pub struct EmissiveFactor(pub Option<[Real; 3]>);
+
+/// The factors of a base color: red, green, blue, alpha; `None` stands for ones.
+#[derive(Clone, Debug, Default, Drop)]
+pub struct PbrBaseColorFactor(pub Option<[Real; 4]>);

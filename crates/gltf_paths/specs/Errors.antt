@@ -1,0 +1,19 @@
+-- The text and the rank of each error that validation reports.
+use Rattle.std.specs.Prelude.{ℕ, List, codes}
+use Rattle.gltf_paths.specs.declared.validation.Error.{Error}
+use Rattle.gltf_paths.specs.declared.validation.Error.TheVariants.{IndexOutOfBounds, Invalid, Missing, Oversize, Unsupported}
+
+abbrev pub error_text : Error → List ℕ
+error_text IndexOutOfBounds = codes "Index out of bounds"
+error_text Invalid = codes "Invalid value"
+error_text Missing = codes "Missing data"
+error_text Oversize = codes "Size exceeds system limits"
+error_text Unsupported = codes "Unsupported extension"
+
+-- where the error stands in the order of errors
+abbrev pub error_rank : Error → ℕ
+error_rank IndexOutOfBounds = 0
+error_rank Invalid = 1
+error_rank Missing = 2
+error_rank Oversize = 3
+error_rank Unsupported = 4

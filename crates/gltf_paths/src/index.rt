@@ -1,0 +1,120 @@
+//! Indexes into the lists of a document.
+
+ghost use Rattle.std.specs.Prelude.{◌≡◌, ◌↔◌, ◌-◌, ◌^◌, ◌≤◌, [], ◌∷◌, ◌++◌, Err, IfOk, IfErr, OnErr, vec_len};
+ghost use Rattle.gltf_paths.specs.Lists.{ListName};
+
+use std::fmt::{self, Debug, Display, Formatter, Write};
+use std::marker::PhantomData;
+
+/// A type whose values a document lists.
+pub trait Listed {
+    ghost list: { ListName };
+}
+
+/// What the indexes into a list are written by: a pointer to what the list holds.
+pub trait Names {
+    type Item;
+
+    ghost list: { ListName };
+}
+
+impl<T: Listed + 'static> Names for *const T {
+    type Item = T;
+
+    ghost list = { T.list };
+}
+
+/// The place of a `T` in the document's list of them.
+pub type Index<T> = IndexTo<*const T>;
+
+/// A place in a list. It names what the list holds as behind a pointer, so that a node may hold
+/// indexes of nodes. No pointer is ever made.
+#[derive_where(Clone, Copy, PartialEq, Eq, PartialOrd, Ord, Hash)]
+pub struct IndexTo<P>(u32, PhantomData<P>);
+
+unsafe impl<P> Send for IndexTo<P> {}
+
+unsafe impl<P> Sync for IndexTo<P> {}
+
+impl<T> Index<T> {
+    ghost use Rattle.gltf_paths.specs.Indexes.{index_number};
+    ghost use Rattle.gltf_paths.specs.Pushes.{IsHandedBack};
+
+    /// The index that a number is.
+    pub fn new(number: u32) -> Index<T>
+        ensures { index_number result ≡ number }
+    {
+        IndexTo::from_number(number)
+    }
+
+    /// The index as a place in a slice.
+    pub fn value(&self) -> usize
+        ensures { result ≡ index_number self.now }
+    {
+        self.0 as usize
+    }
+
+    /// Appends an item to its list, and answers its index. A list of 4294967295 items or more is
+    /// full, which is told before any memory is taken.
+    pub fn push(list: &mut Vec<T>, item: T) -> Result<Index<T>, PushError<T>>
+        ensures pushed { IfOk result (λ index. (index_number index ≡ vec_len list.old)
+            × (list.new.items ≡ list.old.items ++ item ∷ [])) }
+        ensures full { (result ≡ Err (PushError.Full item)) ↔ (2 ^ 32 - 1 ≤ vec_len list.old) }
+        ensures handed_back { IfErr result (IsHandedBack item) }
+        ensures unchanged { OnErr result (list.new.items ≡ list.old.items) }
+    {
+        let number = list.len();
+        if number >= u32::MAX as usize {
+            return Err(PushError::Full(item));
+        }
+        match list.push(item) {
+            Ok(()) => Ok(Index::new(number as u32)),
+            Err(refused) => Err(PushError::Memory(refused.value)),
+        }
+    }
+}
+
+/// Why an item was not appended; each kind hands it back.
+#[derive(Debug, Drop)]
+pub enum PushError<T> {
+    /// The list has as many items as there are indexes.
+    Full(T),
+    /// There was no memory for one item more.
+    Memory(T),
+}
+
+impl<P> IndexTo<P> {
+    ghost use Rattle.gltf_paths.specs.Indexes.{index_number};
+
+    /// The index that a number is, whatever it goes into.
+    pub fn from_number(number: u32) -> IndexTo<P>
+        ensures { index_number result ≡ number }
+    {
+        IndexTo(number, PhantomData)
+    }
+
+    /// The number of the index, whatever it goes into.
+    pub fn number(&self) -> u32
+        ensures { result ≡ index_number self.now }
+    {
+        self.0
+    }
+}
+
+impl<P> Display for IndexTo<P> {
+    ghost use Rattle.std.specs.Prelude.{Some};
+    ghost use Rattle.std.specs.Fmt.{decimal};
+    ghost use Rattle.gltf_paths.specs.Indexes.{index_number};
+
+    ghost output = { λ i. Some (decimal (index_number i)) };
+
+    fn fmt<W: Write>(&self, f: &mut Formatter<W>) -> fmt::Result {
+        Display::fmt(&self.0, f)
+    }
+}
+
+impl<P> Debug for IndexTo<P> {
+    fn fmt<W: Write>(&self, f: &mut Formatter<W>) -> fmt::Result {
+        Debug::fmt(&self.0, f)
+    }
+}

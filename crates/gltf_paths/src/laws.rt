@@ -1,0 +1,52 @@
+//! Laws of the crate's types. Each function does nothing; its contract is the law.
+
+ghost use Rattle.std.specs.Prelude.{◌≡◌, ◌==◌, [], ◌∷◌, codes, Some, IsTrue};
+ghost use Rattle.std.specs.Cmp.{IsTotalOrder};
+ghost use Rattle.std.specs.Ordering.{nat_cmp, is_eq};
+ghost use Rattle.gltf_paths.specs.Errors.{error_rank};
+ghost use Rattle.gltf_paths.specs.Indexes.{index_number};
+ghost use Rattle.gltf_checked.specs.Keys.{key_text, unknown};
+ghost use Rattle.gltf_paths.specs.Steps.{field, item, key, value};
+ghost use Rattle.gltf_paths.specs.Text.{path_text};
+ghost use Rattle.gltf_paths.specs.declared.index.IndexTo.{IndexTo as AnIndex};
+ghost use Rattle.gltf_paths.specs.declared.validation.Error.{Error as AnError};
+ghost use Rattle.gltf_paths.specs.declared.validation.USize64.{USize64 as ASize};
+
+use crate::index::IndexTo;
+use crate::validation::{Error, USize64};
+use std::hash::Hash;
+
+/// An order is total, is zero just where values are equal, and equal values hash alike.
+pub fn orders_agree_with_equality<T: Ord + Hash>()
+    ensures total { IsTotalOrder T.cmp }
+    ensures equality { (x y : T) → T.eq x y ≡ is_eq (T.cmp x y) }
+    ensures hash { (x y : T) → IsTrue (T.eq x y) → T.hash_input x ≡ T.hash_input y }
+{}
+
+/// Indexes are compared and hashed as their numbers.
+pub fn indexes_are_compared_as_numbers<P>()
+    ensures equality { (i j : AnIndex P) → ⟦<IndexTo<P> as PartialEq>⟧.eq i j ≡ (index_number i == index_number j) }
+    ensures order { (i j : AnIndex P) → ⟦<IndexTo<P> as Ord>⟧.cmp i j ≡ nat_cmp (index_number i) (index_number j) }
+    ensures partial_order { (i j : AnIndex P) → ⟦<IndexTo<P> as PartialOrd>⟧.partial_cmp i j ≡ Some (nat_cmp (index_number i) (index_number j)) }
+    ensures hash { (i : AnIndex P) → ⟦<IndexTo<P> as Hash>⟧.hash_input i ≡ ⟦<u32 as Hash>⟧.hash_input (index_number i) }
+{}
+
+/// Errors stand in the order in which they are declared.
+pub fn errors_are_ordered_by_rank()
+    ensures order { (a b : AnError) → ⟦<Error as Ord>⟧.cmp a b ≡ nat_cmp (error_rank a) (error_rank b) }
+    ensures equality { (a b : AnError) → ⟦<Error as PartialEq>⟧.eq a b ≡ (error_rank a == error_rank b) }
+{}
+
+/// Sizes are equal where their numbers are.
+pub fn sizes_are_compared_as_numbers()
+    ensures equality { (a b : ASize) → ⟦<USize64 as PartialEq>⟧.eq a b ≡ (a.0 == b.0) }
+    ensures hash { (a : ASize) → ⟦<USize64 as Hash>⟧.hash_input a ≡ ⟦<u64 as Hash>⟧.hash_input a.0 }
+{}
+
+/// What some steps mean, computed from the definitions.
+pub fn worked_paths()
+    ensures { (path_text (field (codes "foo") ∷ item 0 ∷ value (codes "baz") ∷ []) ≡ codes "foo[0] = \"baz\"")
+        × (path_text (field (codes "foo") ∷ field (codes "bar") ∷ item 123 ∷ []) ≡ codes "foo.bar[123]")
+        × (path_text (field (codes "a") ∷ key (key_text unknown) ∷ item 2 ∷ field (codes "b") ∷ [])
+        ≡ codes "a[\"<invalid semantic name>\"][2].b") }
+{}

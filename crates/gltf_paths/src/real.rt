@@ -1,0 +1,67 @@
+//! JSON numbers that are carried as they stand.
+
+ghost use Rattle.std.specs.Prelude.{◌≡◌, true, is_some};
+ghost use Rattle.serde_json.specs.Find.{as_number};
+ghost use Rattle.serde_json.specs.View.{view};
+
+use serde_json::Value;
+use std::alloc::AllocError;
+
+/// A JSON number, carried untouched.
+#[derive(Debug)]
+pub struct Real {
+    value: Value,
+    ghost is_number: { is_some (as_number (view value)) ≡ true },
+}
+
+impl Real {
+    ghost use Rattle.std.specs.Prelude.{IfOk, IfErr, None};
+    ghost use Rattle.serde_json.specs.Find.{of_integer};
+    ghost use Rattle.gltf_paths.specs.Reals.{real_value, real_number};
+
+    /// The number that a value is; a value that is none is handed back.
+    pub fn from_value(value: Value) -> Result<Real, Value>
+        ensures number { IfOk result (λ x. real_value x ≡ value) }
+        ensures other { IfErr result (λ v. (v ≡ value) × (as_number (view value) ≡ None)) }
+    {
+        if value.is_number() {
+            Ok(Real { value })
+        } else {
+            Err(value)
+        }
+    }
+
+    /// A whole number.
+    pub fn from_i64(number: i64) -> Real
+        ensures { real_number result ≡ of_integer number }
+    {
+        Real {
+            value: Value::from(number),
+        }
+    }
+
+    /// The number held, as a value.
+    pub fn as_value(&self) -> &Value
+        ensures { result.now ≡ real_value self.now }
+    {
+        &self.value
+    }
+}
+
+// One call drops it, wherever it is held: the six kinds of a value are told apart here alone.
+impl Drop for Real {
+    fn drop(self) {
+        let Real { value: _ } = self;
+    }
+}
+
+impl Clone for Real {
+    ghost use Rattle.gltf_paths.specs.Reals.{real_number};
+
+    ghost is_clone = { λ from to. real_number to ≡ real_number from };
+
+    fn clone(&self) -> Result<Real, AllocError> {
+        let value = self.value.clone()?;
+        Ok(Real { value })
+    }
+}

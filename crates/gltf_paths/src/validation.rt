@@ -1,0 +1,67 @@
+//! What is wrong at a place of a document, and numbers of bytes or items.
+
+ghost use Rattle.std.specs.Prelude.{◌≡◌};
+
+use std::fmt::{self, Display, Formatter, Write};
+
+/// What is wrong at a place of a document.
+#[derive(Clone, Copy, Debug, PartialEq, Eq, PartialOrd, Ord, Hash)]
+pub enum Error {
+    /// An index past the end of its list.
+    IndexOutOfBounds,
+    /// A value that the specification doesn't list.
+    Invalid,
+    /// Data that the specification asks for.
+    Missing,
+    /// A size past what the machine can address.
+    Oversize,
+    /// An extension that is required and not known.
+    Unsupported,
+}
+
+impl Display for Error {
+    ghost use Rattle.std.specs.Prelude.{Some};
+    ghost use Rattle.gltf_paths.specs.Errors.{error_text};
+
+    ghost output = { λ error. Some (error_text error) };
+
+    fn fmt<W: Write>(&self, f: &mut Formatter<W>) -> fmt::Result {
+        f.write_str(match self {
+            Error::IndexOutOfBounds => "Index out of bounds",
+            Error::Invalid => "Invalid value",
+            Error::Missing => "Missing data",
+            Error::Oversize => "Size exceeds system limits",
+            Error::Unsupported => "Unsupported extension",
+        })
+    }
+}
+
+impl std::error::Error for Error {}
+
+/// A number of bytes or items, as JSON can hold it.
+#[derive(Clone, Copy, Debug, PartialEq, Eq, Hash)]
+pub struct USize64(pub u64);
+
+impl Default for USize64 {
+    ghost is_default = { λ size. size.0 ≡ 0 };
+
+    fn default() -> USize64 {
+        USize64(0)
+    }
+}
+
+impl From<u64> for USize64 {
+    ghost from_gives = { λ number size. size.0 ≡ number };
+
+    fn from(number: u64) -> USize64 {
+        USize64(number)
+    }
+}
+
+impl From<usize> for USize64 {
+    ghost from_gives = { λ number size. size.0 ≡ number };
+
+    fn from(number: usize) -> USize64 {
+        USize64(number as u64)
+    }
+}

@@ -1,0 +1,9 @@
+pub mod AssetTable
+pub mod AssetTrees
+pub mod RootTable
+pub mod RootTrees
+pub mod Lists
+pub mod Items
+pub mod Device
+pub mod Watched
+pub mod Answer

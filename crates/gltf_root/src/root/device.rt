@@ -1,0 +1,105 @@
+//! What documents are read from and written to.
+
+ghost use Rattle.std.specs.Prelude.{◌≡◌, ◌+◌, ◌<◌, ◌≤◌, ◌&&◌, ℕ, List, [], Bool, Option, None, true, false, nat_eq, nat_lt, length, IfOk, IfErr, OnOk, OnErr, MatchResult};
+ghost use Rattle.std.specs.Io.KnownBytes.{ReadConsumes, WriteAppends};
+ghost use Rattle.gltf_root.specs.Device.{Seen, saturated, IsFresh, IsWithin, IsReadToEnd, GaveUp};
+
+use gltf_parts::Error as DocumentError;
+use std::alloc::Global;
+use thiserror::Error;
+
+const PIECE_LEN: usize = 65536;
+
+/// A device refused a call.
+#[derive(Clone, Copy, Debug, Error)]
+#[error("device failed")]
+pub struct Failed;
+
+/// What bytes are read from. An implementer holds what its calls have shown in fields of its own,
+/// as [`Watched`](crate::root::Watched) does.
+pub trait ByteIn {
+    // The bytes that are left, where they are known.
+    ghost left: { Self → Option (List ℕ) } = { λ _. None };
+
+    // What the calls so far have shown.
+    ghost seen: { Self → Seen };
+
+    /// Reads bytes into the front of `buf` and answers how many. `Ok(0)` for a slice that isn't
+    /// empty is the end.
+    fn read(&mut self, buf: &mut [u8]) -> Result<usize, Failed>
+        ensures bound { IfOk result (λ n. n ≤ length buf.new) }
+        ensures bytes { ReadConsumes (left self.old) (left self.new) result buf.new }
+        ensures breaks { OnErr result ((seen self.new).has_failed ≡ true) }
+        ensures works { OnOk result ((seen self.new).has_failed ≡ (seen self.old).has_failed) }
+        ensures calls { (seen self.new).calls ≡ saturated ((seen self.old).calls + 1) }
+        ensures given { MatchResult result
+            (λ n. (seen self.new).given ≡ saturated ((seen self.old).given + n))
+            (λ _. (seen self.new).given ≡ (seen self.old).given) }
+        ensures end { MatchResult result
+            (λ n. (seen self.new).has_ended ≡ (nat_eq n 0 && nat_lt 0 (length buf.new)))
+            (λ _. (seen self.new).has_ended ≡ false) };
+}
+
+/// What bytes are written to. An implementer holds whether a call has failed in a field of its own.
+pub trait ByteOut {
+    // The bytes that it took so far, where they are known.
+    ghost taken: { Self → Option (List ℕ) } = { λ _. None };
+
+    // Whether a call has failed.
+    ghost has_failed: { Self → Bool };
+
+    /// Takes bytes off the front of `buf` and answers how many: at least one, if there is one.
+    fn write(&mut self, buf: &[u8]) -> Result<usize, Failed>
+        ensures bound { IfOk result (λ n. n ≤ length buf.now) }
+        ensures some { 0 < length buf.now → IfOk result (λ n. 0 < n) }
+        ensures bytes { WriteAppends (taken self.old) (taken self.new) result buf.now }
+        ensures breaks { OnErr result (has_failed self.new ≡ true) }
+        ensures works { OnOk result (has_failed self.new ≡ has_failed self.old) };
+}
+
+/// All bytes up to the end, within a count of bytes and a count of calls.
+pub(crate) fn read_to_end<R: ByteIn>(
+    alloc: Global,
+    reader: &mut R,
+    most_bytes: u64,
+    most_calls: u64,
+) -> Result<Vec<u8>, DocumentError>
+    ensures all { IfOk result (λ bytes. IsReadToEnd (R.left reader.old) (R.left reader.new) bytes.items) }
+    ensures within { IsFresh (R.seen reader.old) → OnOk result (IsWithin most_bytes most_calls (R.seen reader.new)) }
+    ensures gave_up { IfErr result (λ e. GaveUp most_bytes most_calls (R.seen reader.old) (R.seen reader.new) e) }
+{
+    let mut bytes = Vec::new(alloc);
+    let mut piece = vec![in alloc; 0u8; PIECE_LEN]?;
+    fill(reader, &mut bytes, &mut piece, most_bytes, most_calls)?;
+    Ok(bytes)
+}
+
+/// Appends all bytes up to the end, piece by piece.
+#[tactic(auto, using(crate::proofs::DeviceLemmas::reads))]
+fn fill<R: ByteIn>(
+    reader: &mut R,
+    bytes: &mut Vec<u8>,
+    piece: &mut [u8],
+    most_bytes: u64,
+    most_calls: u64,
+) -> Result<(), DocumentError>
+    requires room { 0 < length piece.old }
+    requires empty { bytes.old.items ≡ [] }
+    ensures all { OnOk result (IsReadToEnd (R.left reader.old) (R.left reader.new) bytes.new.items) }
+    ensures within { IsFresh (R.seen reader.old) → OnOk result (IsWithin most_bytes most_calls (R.seen reader.new)) }
+    ensures gave_up { IfErr result (λ e. GaveUp most_bytes most_calls (R.seen reader.old) (R.seen reader.new) e) }
+{
+    for _ in 0..most_calls {
+        let Ok(count) = reader.read(piece) else {
+            return Err(DocumentError::Read);
+        };
+        if count == 0 {
+            return Ok(());
+        }
+        if count as u64 > most_bytes - bytes.len() as u64 {
+            return Err(DocumentError::TooLong);
+        }
+        bytes.extend_from_slice(&piece[..count])?;
+    }
+    Err(DocumentError::TooLong)
+}

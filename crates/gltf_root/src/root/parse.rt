@@ -1,0 +1,75 @@
+//! Documents from values, bytes and readers.
+
+ghost use Rattle.std.specs.Prelude.{◌≡◌, true, None, Err, IfOk, IfSome};
+ghost use Rattle.serde_json.specs.Find.{as_object};
+ghost use Rattle.serde_json.specs.View.{view};
+ghost use Rattle.gltf_schema.specs.Outcome.{Reads};
+ghost use Rattle.gltf_schema.specs.Plain.{is_plain};
+ghost use Rattle.gltf_schema.specs.Read.{read};
+ghost use Rattle.gltf_root.specs.Answer.{IsAnswer, IsReadAnswer, IsReading, answer};
+ghost use Rattle.gltf_root.specs.Device.{IsFresh, byte_limit, call_limit};
+ghost use Rattle.gltf_root.specs.RootTable.{root_kind};
+ghost use Rattle.gltf_root.specs.RootTrees.{root_tree};
+
+use super::Root;
+use super::device::{ByteIn, read_to_end};
+use gltf_parts::{Error, Schema};
+use serde_json::Value;
+use std::alloc::{AllocError, Global};
+
+const MOST_BYTES: u64 = 1073741824;
+
+const MOST_CALLS: u64 = 2147483648;
+
+impl Root {
+    /// The document that a JSON value is: `Ok` exactly where the table reads it, as the table reads
+    /// it, else `Schema`; `Memory` may come in place of either where a growth was refused.
+    pub fn from_value(alloc: Global, value: Value) -> Result<Root, Error>
+        ensures by_table { Reads root_tree result (read root_kind (view value)) }
+        // What is no object needs no memory to be refused.
+        ensures no_object { as_object (view value) ≡ None → result ≡ Err Error.Schema }
+        ensures plain { IfOk result (λ root. is_plain root_kind (root_tree root) ≡ true) }
+    {
+        Root::decode(alloc, value)
+    }
+
+    /// The document that bytes of JSON are: `Json` exactly where they are no JSON, else as
+    /// [`Root::from_value`].
+    #[tactic(auto, using(crate::proofs::AnswerLemmas::answers))]
+    pub fn from_slice(alloc: Global, bytes: &[u8]) -> Result<Root, Error>
+        ensures by_bytes { IsAnswer (answer bytes.now) result }
+        ensures plain { IfOk result (λ root. is_plain root_kind (root_tree root) ≡ true) }
+    {
+        match Value::from_slice(alloc, bytes) {
+            Ok(value) => Root::from_value(alloc, value),
+            Err(e) if e.is_memory() => Err(Error::Memory(AllocError)),
+            Err(_) => Err(Error::Json),
+        }
+    }
+
+    /// The document that a reader gives up to its end, as [`Root::from_slice`]. `Read` comes where
+    /// the reader fails; `TooLong` where it gives more than 1073741824 bytes, or hasn't given its end
+    /// in 2147483648 calls. It reads 65536 bytes a call.
+    pub fn from_reader<R: ByteIn>(alloc: Global, reader: &mut R) -> Result<Root, Error>
+        ensures told { IfSome (R.left reader.old) (λ bytes. IsReadAnswer (answer bytes) result) }
+        ensures fresh { IsFresh (R.seen reader.old) → IsReading byte_limit call_limit (R.seen reader.new) result }
+        ensures plain { IfOk result (λ root. is_plain root_kind (root_tree root) ≡ true) }
+    {
+        Root::read_within(alloc, reader, MOST_BYTES, MOST_CALLS)
+    }
+
+    #[tactic(auto, using(crate::proofs::AnswerLemmas::readings))]
+    fn read_within<R: ByteIn>(
+        alloc: Global,
+        reader: &mut R,
+        most_bytes: u64,
+        most_calls: u64,
+    ) -> Result<Root, Error>
+        ensures told { IfSome (R.left reader.old) (λ bytes. IsReadAnswer (answer bytes) result) }
+        ensures fresh { IsFresh (R.seen reader.old) → IsReading most_bytes most_calls (R.seen reader.new) result }
+        ensures plain { IfOk result (λ root. is_plain root_kind (root_tree root) ≡ true) }
+    {
+        let bytes = read_to_end(alloc, reader, most_bytes, most_calls)?;
+        Root::from_slice(alloc, &bytes)
+    }
+}

@@ -1,0 +1,14 @@
+-- Each member in the table's order.
+use Rattle.std.proofs.Common.{lit≤}
+use Rattle.gltf_data.specs.BufferTable as table
+use Rattle.gltf_data.specs.BufferTrees as made
+use Rattle.gltf_validation.proofs.Walks.{went_nowhere, went_then}
+use Rattle.gltf_validation.proofs.validation.buffer.BufferValidate.validate.Goals as goal
+
+pub returns-clause-walked : goal.returns-clause-walked
+unfolding table.buffer_rows made.buffer_members
+returns-clause-walked g c =
+    went_then
+    (went_then c.member.ensures (lit≤ tt)
+    (went_nowhere _ _ _ 1))
+    (lit≤ tt) (went_nowhere _ _ _ 1)

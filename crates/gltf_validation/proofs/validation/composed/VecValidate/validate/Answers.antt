@@ -1,0 +1,39 @@
+-- One item after another, by the table where it has the items' kind.
+use Rattle.std.proofs.Common.{rules, arith, ◌+◌, ◌++◌, ◌∷◌, [], drop}
+use Rattle.gltf_paths.specs.Steps.{item}
+use Rattle.gltf_root.specs.RootTrees.{root_tree}
+use Rattle.gltf_validation.specs.Walk.{reports_in, each_at}
+use Rattle.gltf_validation.proofs.ByTable.{list-each}
+use Rattle.gltf_validation.proofs.Loops.{underway-begin, underway-same, underway-more, underway-exit, underway-end, each_at-next, each_at-past}
+use Rattle.gltf_validation.proofs.Walks.{went_same}
+use Rattle.gltf_validation.proofs.validation.composed.VecValidate.validate.Goals as goal
+
+pub loop-i-init : goal.loop-i-init
+loop-i-init g c =
+    let v = g.T.Validate in
+    underway-begin g.S.Sink.next _ _ (each_at (reports_in v.kind v.tree v.own (root_tree c.args.root.now)) 0 c.args.self.now.items)
+
+pub loop-i-preserved : goal.loop-i-preserved
+loop-i-preserved g c =
+    let v = g.T.Validate in
+    let each = reports_in v.kind v.tree v.own (root_tree c.args.root.now) in
+    let xs = c.args.self.now.items in
+    underway-more (λ base. each c.item-item.result (base ++ item c.loop-i.i ∷ [])) (each_at each (c.loop-i.i + 1) (drop (c.loop-i.i + 1) xs))
+    (underway-same {all = each_at each 0 xs} (each_at-next each _ xs c.item-item.result (omega arith) (search rules)) c.loop-i.invariant) c.in_ok-within.ensures
+
+pub returns-in_err-within-clause-walked : goal.returns-in_err-within-clause-walked
+returns-in_err-within-clause-walked g c =
+    let v = g.T.Validate in
+    let each = reports_in v.kind v.tree v.own (root_tree c.args.root.now) in
+    let xs = c.args.self.now.items in
+    went_same (list-each v.kind v.tree v.own (root_tree c.args.root.now) xs)
+    (underway-exit (λ base. each c.item-item.result (base ++ item c.loop-i.i ∷ [])) (each_at each (c.loop-i.i + 1) (drop (c.loop-i.i + 1) xs)) c.from_residual.ensures.1
+    (underway-same {all = each_at each 0 xs} (each_at-next each _ xs c.item-item.result (omega arith) (search rules)) c.loop-i.invariant) c.in_err-within.ensures)
+
+pub returns-clause-walked : goal.returns-clause-walked
+returns-clause-walked g c =
+    let v = g.T.Validate in
+    let each = reports_in v.kind v.tree v.own (root_tree c.args.root.now) in
+    let xs = c.args.self.now.items in
+    went_same (list-each v.kind v.tree v.own (root_tree c.args.root.now) xs)
+    (underway-end (underway-same {all = each_at each 0 xs} (each_at-past each _ xs (omega arith)) c.loop-i.invariant))

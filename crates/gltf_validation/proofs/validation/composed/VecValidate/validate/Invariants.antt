@@ -1,0 +1,12 @@
+-- The items from the number on are to come.
+use Rattle.std.proofs.Common.{drop}
+use Rattle.gltf_root.specs.RootTrees.{root_tree}
+use Rattle.gltf_validation.specs.Walk.{reports_in, each_at}
+use Rattle.gltf_validation.proofs.Loops.{Underway}
+use Rattle.gltf_validation.proofs.validation.composed.VecValidate.validate.Given as goal
+
+abbrev pub invariant-loop-i : goal.invariant-loop-i
+invariant-loop-i g l =
+    let v = g.T.Validate in
+    let each = reports_in v.kind v.tree v.own (root_tree l.root) in
+    Underway g.S.Sink.next l.fn.path (g.S.Sink.state l.fn.sink) (each_at each 0 l.self.items) (each_at each l.i (drop l.i l.self.items)) l.path (g.S.Sink.state l.sink)

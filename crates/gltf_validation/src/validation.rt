@@ -1,0 +1,55 @@
+//! What is wrong in a document, place by place.
+
+ghost use Rattle.std.specs.Prelude.{◌≡◌, ℕ, Option, None};
+ghost use Rattle.gltf_schema.specs.Tree.{Tree, absent};
+ghost use Rattle.gltf_schema.specs.Kind.{Kind};
+ghost use Rattle.gltf_validation.specs.Faults.{From};
+ghost use Rattle.gltf_root.specs.RootTrees.{root_tree};
+ghost use Rattle.gltf_validation.specs.Walk.{Walked, reports_by, no_reports};
+
+use gltf_base::Steps;
+use gltf_root::root::Root;
+
+mod accessor;
+mod buffer;
+mod composed;
+mod document;
+mod leaves;
+mod maps;
+mod silent;
+mod sink;
+mod sparse;
+mod within;
+
+pub use sink::{Count, Sink, Stop};
+
+/// What can be validated.
+pub trait Validate {
+    /// The kind in the table of what such a value is; `None` for a type that isn't there.
+    ghost kind: { Option Kind } = { None };
+
+    /// The value as the table sees it.
+    ghost tree: { Self → Tree } = { λ _. absent };
+
+    /// The reports of a type that isn't in the table, against a document's tree, from a base.
+    ghost own: { Self → Tree → From } = { no_reports };
+
+    /// The greatest number of steps from a value's place to a member, an item or a report in it.
+    ghost depth: { ℕ } = { 0 };
+
+    /// Hands the sink what is wrong in the value, in order, each step list beginning with the steps
+    /// of `path`. Indexes are looked up in `root`. On every exit `path` is as it was. Nothing is
+    /// allocated.
+    ///
+    /// It stops with `StepsFull` only where the steps of `path` and the depth of the type are more
+    /// than 16 together, and with `Sink` where the sink refuses a report.
+    fn validate<'a, S: Sink>(
+        &'a self,
+        root: &Root,
+        path: &mut Steps<'a>,
+        sink: &mut S,
+    ) -> Result<(), Stop<S::Refusal>>
+        ensures path { path.new ≡ path.old }
+        ensures walked { Walked S.next S.refuses path.old (S.state sink.old)
+            (reports_by kind (tree self.now) (own self.now) (root_tree root.now)) depth result path.new (S.state sink.new) };
+}

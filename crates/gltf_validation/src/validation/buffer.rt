@@ -1,0 +1,75 @@
+//! Buffers and their views.
+
+ghost use Rattle.std.specs.Prelude.{◌≡◌, Some, refl};
+ghost use Rattle.gltf_data.specs.BufferTable.{buffer_kind, view_kind};
+ghost use Rattle.gltf_data.specs.BufferTrees.{buffer_members, view_members, buffer_extensions, view_extensions};
+ghost use Rattle.gltf_schema.specs.Extensions.{kept_extensions};
+ghost use Rattle.gltf_schema.specs.Fields.{closed_object};
+ghost use Rattle.gltf_schema.specs.Kind.{ObjectName};
+ghost use Rattle.gltf_validation.specs.Walk.{no_reports};
+
+use super::Validate;
+use super::silent::Silent;
+use super::sink::{Sink, Stop};
+use super::within::member;
+use gltf_base::Steps;
+use gltf_parts::buffer::{Buffer, View};
+use gltf_parts::extensions::buffer as extensions;
+use gltf_root::root::Root;
+
+impl Validate for Buffer {
+    ghost kind = { Some buffer_kind };
+
+    ghost tree = { λ v. closed_object (buffer_members v) };
+
+    ghost own = { no_reports };
+
+    ghost depth = { 1 };
+
+    fn validate<'a, S: Sink>(
+        &'a self,
+        root: &Root,
+        path: &mut Steps<'a>,
+        sink: &mut S,
+    ) -> Result<(), Stop<S::Refusal>> {
+        member(Ok(()), &self.extensions, "extensions", root, path, sink)
+    }
+}
+
+impl Validate for View {
+    ghost kind = { Some view_kind };
+
+    ghost tree = { λ v. closed_object (view_members v) };
+
+    ghost own = { no_reports };
+
+    ghost depth = { 1 };
+
+    fn validate<'a, S: Sink>(
+        &'a self,
+        root: &Root,
+        path: &mut Steps<'a>,
+        sink: &mut S,
+    ) -> Result<(), Stop<S::Refusal>> {
+        let buffer = member(Ok(()), &self.buffer, "buffer", root, path, sink);
+        let byte_stride = member(buffer, &self.byte_stride, "byteStride", root, path, sink);
+        let target = member(byte_stride, &self.target, "target", root, path, sink);
+        member(target, &self.extensions, "extensions", root, path, sink)
+    }
+}
+
+impl Silent for extensions::Buffer {
+    ghost kind = { Some (kept_extensions ObjectName.buffer) };
+
+    ghost tree = { buffer_extensions };
+
+    ghost is_silent = { λ _ _ _. refl };
+}
+
+impl Silent for extensions::View {
+    ghost kind = { Some (kept_extensions ObjectName.buffer_view) };
+
+    ghost tree = { view_extensions };
+
+    ghost is_silent = { λ _ _ _. refl };
+}

@@ -1,0 +1,89 @@
+//! Kinds without rows that can be wrong by themselves.
+
+ghost use Rattle.std.specs.Prelude.{◌≡◌, Some, None};
+ghost use Rattle.gltf_schema.specs.Tree.{absent};
+ghost use Rattle.gltf_schema.specs.Kind.{IndexInto, Stride as stride_kind};
+ghost use Rattle.gltf_data.specs.BufferTrees.{stride_tree};
+ghost use Rattle.gltf_schema.specs.Fields.{index_tree};
+ghost use Rattle.gltf_validation.specs.Walk.{no_reports, checked_reports};
+
+use super::Validate;
+use super::sink::{Sink, Stop, tell};
+use gltf_base::buffer::{MAX_BYTE_STRIDE, MIN_BYTE_STRIDE};
+use gltf_base::validation::{Checked, Error};
+use gltf_base::{Index, IndexTo, Names, Steps};
+use gltf_parts::buffer::Stride;
+use gltf_root::root::{Root, RootItem};
+
+impl<P: Names> Validate for IndexTo<P>
+where
+    P::Item: RootItem,
+{
+    ghost kind = { Some (IndexInto P.Item.list) };
+
+    ghost tree = { index_tree };
+
+    ghost own = { no_reports };
+
+    ghost depth = { 0 };
+
+    /// Reports `IndexOutOfBounds` where the index is past the end of its list in `root`.
+    fn validate<'a, S: Sink>(
+        &'a self,
+        root: &Root,
+        path: &mut Steps<'a>,
+        sink: &mut S,
+    ) -> Result<(), Stop<S::Refusal>> {
+        match root.get(Index::<P::Item>::new(self.number())) {
+            Some(_) => Ok(()),
+            None => tell(path, Some(Error::IndexOutOfBounds), sink),
+        }
+    }
+}
+
+impl<T> Validate for Checked<T> {
+    ghost kind = { None };
+
+    ghost tree = { λ _. absent };
+
+    ghost own = { checked_reports };
+
+    ghost depth = { 0 };
+
+    /// Reports `Invalid` where the item is none of the choice's.
+    fn validate<'a, S: Sink>(
+        &'a self,
+        _root: &Root,
+        path: &mut Steps<'a>,
+        sink: &mut S,
+    ) -> Result<(), Stop<S::Refusal>> {
+        match self {
+            Checked::Valid(_) => Ok(()),
+            Checked::Invalid => tell(path, Some(Error::Invalid), sink),
+        }
+    }
+}
+
+impl Validate for Stride {
+    ghost kind = { Some stride_kind };
+
+    ghost tree = { stride_tree };
+
+    ghost own = { no_reports };
+
+    ghost depth = { 0 };
+
+    /// Reports `Invalid` where the stride is below 4 or above 252 bytes (glTF 2.0, section 5.11.4).
+    fn validate<'a, S: Sink>(
+        &'a self,
+        _root: &Root,
+        path: &mut Steps<'a>,
+        sink: &mut S,
+    ) -> Result<(), Stop<S::Refusal>> {
+        if MIN_BYTE_STRIDE <= self.0 && self.0 <= MAX_BYTE_STRIDE {
+            Ok(())
+        } else {
+            tell(path, Some(Error::Invalid), sink)
+        }
+    }
+}

@@ -1,0 +1,100 @@
+//! Types in which nothing can be wrong.
+
+ghost use Rattle.std.specs.Prelude.{◌≡◌, ℕ, Option, Some, None, List, [], refl};
+ghost use Rattle.gltf_paths.specs.Steps.{Step};
+ghost use Rattle.gltf_schema.specs.Tree.{Tree, absent, whole, truth};
+ghost use Rattle.gltf_schema.specs.Kind.{Kind, U32, U64, Number, Text, Truth, Any};
+ghost use Rattle.gltf_schema.specs.Fields.{size_tree, real_tree, text_tree, any_tree};
+ghost use Rattle.gltf_validation.specs.Walk.{reports_by, no_reports};
+
+use super::Validate;
+use super::sink::{Sink, Stop};
+use gltf_base::validation::USize64;
+use gltf_base::{Real, Steps};
+use gltf_root::root::Root;
+use serde_json::Value;
+
+/// A type in which nothing can be wrong.
+pub trait Silent {
+    ghost kind: { Option Kind } = { None };
+
+    ghost tree: { Self → Tree } = { λ _. absent };
+
+    ghost is_silent: { (x : Self) (root : Tree) (base : List Step) → reports_by kind (tree x) (no_reports x) root base ≡ [] };
+}
+
+impl<T: Silent> Validate for T {
+    ghost kind = { T.kind };
+
+    ghost tree = { T.tree };
+
+    ghost own = { no_reports };
+
+    ghost depth = { 0 };
+
+    fn validate<'a, S: Sink>(
+        &'a self,
+        _root: &Root,
+        _path: &mut Steps<'a>,
+        _sink: &mut S,
+    ) -> Result<(), Stop<S::Refusal>> {
+        Ok(())
+    }
+}
+
+impl Silent for () {
+    ghost is_silent = { λ _ _ _. refl };
+}
+
+impl Silent for bool {
+    ghost kind = { Some Truth };
+
+    ghost tree = { truth };
+
+    ghost is_silent = { λ _ _ _. refl };
+}
+
+impl Silent for u32 {
+    ghost kind = { Some U32 };
+
+    ghost tree = { whole };
+
+    ghost is_silent = { λ _ _ _. refl };
+}
+
+impl Silent for i32 {
+    ghost is_silent = { λ _ _ _. refl };
+}
+
+impl Silent for Real {
+    ghost kind = { Some Number };
+
+    ghost tree = { real_tree };
+
+    ghost is_silent = { λ _ _ _. refl };
+}
+
+/// A size is never past what the machine can address, where `usize` has 64 bits.
+impl Silent for USize64 {
+    ghost kind = { Some U64 };
+
+    ghost tree = { size_tree };
+
+    ghost is_silent = { λ _ _ _. refl };
+}
+
+impl Silent for String {
+    ghost kind = { Some Text };
+
+    ghost tree = { text_tree };
+
+    ghost is_silent = { λ _ _ _. refl };
+}
+
+impl Silent for Value {
+    ghost kind = { Some Any };
+
+    ghost tree = { any_tree };
+
+    ghost is_silent = { λ _ _ _. refl };
+}

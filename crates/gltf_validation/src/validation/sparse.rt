@@ -1,0 +1,125 @@
+//! Sparse storage.
+
+ghost use Rattle.std.specs.Prelude.{◌≡◌, Some, refl};
+ghost use Rattle.gltf_data.specs.AccessorTable.{sparse_kind, sparse_indices_kind, sparse_values_kind};
+ghost use Rattle.gltf_data.specs.AccessorTrees.{sparse_members, sparse_indices_members, sparse_values_members, sparse_extensions, indices_extensions, values_extensions};
+ghost use Rattle.gltf_schema.specs.Extensions.{dropped_extensions};
+ghost use Rattle.gltf_schema.specs.Fields.{closed_object};
+ghost use Rattle.gltf_schema.specs.Kind.{ObjectName};
+ghost use Rattle.gltf_validation.specs.Walk.{no_reports};
+
+use super::Validate;
+use super::silent::Silent;
+use super::sink::{Sink, Stop};
+use super::within::member;
+use gltf_base::Steps;
+use gltf_parts::accessor::sparse::{Indices, Sparse, Values};
+use gltf_parts::extensions::accessor::sparse as extensions;
+use gltf_root::root::Root;
+
+impl Validate for Sparse {
+    ghost kind = { Some sparse_kind };
+
+    ghost tree = { λ v. closed_object (sparse_members v) };
+
+    ghost own = { no_reports };
+
+    ghost depth = { 2 };
+
+    fn validate<'a, S: Sink>(
+        &'a self,
+        root: &Root,
+        path: &mut Steps<'a>,
+        sink: &mut S,
+    ) -> Result<(), Stop<S::Refusal>> {
+        let indices = member(Ok(()), &self.indices, "indices", root, path, sink);
+        let values = member(indices, &self.values, "values", root, path, sink);
+        member(values, &self.extensions, "extensions", root, path, sink)
+    }
+}
+
+impl Validate for Indices {
+    ghost kind = { Some sparse_indices_kind };
+
+    ghost tree = { λ v. closed_object (sparse_indices_members v) };
+
+    ghost own = { no_reports };
+
+    ghost depth = { 1 };
+
+    fn validate<'a, S: Sink>(
+        &'a self,
+        root: &Root,
+        path: &mut Steps<'a>,
+        sink: &mut S,
+    ) -> Result<(), Stop<S::Refusal>> {
+        let buffer_view = member(Ok(()), &self.buffer_view, "bufferView", root, path, sink);
+        let component_type = member(
+            buffer_view,
+            &self.component_type,
+            "componentType",
+            root,
+            path,
+            sink,
+        );
+        member(
+            component_type,
+            &self.extensions,
+            "extensions",
+            root,
+            path,
+            sink,
+        )
+    }
+}
+
+impl Validate for Values {
+    ghost kind = { Some sparse_values_kind };
+
+    ghost tree = { λ v. closed_object (sparse_values_members v) };
+
+    ghost own = { no_reports };
+
+    ghost depth = { 1 };
+
+    fn validate<'a, S: Sink>(
+        &'a self,
+        root: &Root,
+        path: &mut Steps<'a>,
+        sink: &mut S,
+    ) -> Result<(), Stop<S::Refusal>> {
+        let buffer_view = member(Ok(()), &self.buffer_view, "bufferView", root, path, sink);
+        member(
+            buffer_view,
+            &self.extensions,
+            "extensions",
+            root,
+            path,
+            sink,
+        )
+    }
+}
+
+impl Silent for extensions::Sparse {
+    ghost kind = { Some (dropped_extensions ObjectName.sparse) };
+
+    ghost tree = { sparse_extensions };
+
+    ghost is_silent = { λ _ _ _. refl };
+}
+
+impl Silent for extensions::Indices {
+    ghost kind = { Some (dropped_extensions ObjectName.sparse_indices) };
+
+    ghost tree = { indices_extensions };
+
+    ghost is_silent = { λ _ _ _. refl };
+}
+
+impl Silent for extensions::Values {
+    ghost kind = { Some (dropped_extensions ObjectName.sparse_values) };
+
+    ghost tree = { values_extensions };
+
+    ghost is_silent = { λ _ _ _. refl };
+}

@@ -134,17 +134,34 @@ fn own_semantics(rt: HostRuntime) -> Result<(), Fail> {
     Ok(())
 }
 
+/// Whether one key of an attribute stands before another.
+fn is_before(a: Checked<Semantic>, b: Checked<Semantic>) -> bool {
+    a < b
+}
+
+/// Whether a clone of a key is equal to it.
+fn is_cloned(key: Checked<Semantic>) -> Result<bool, AllocError> {
+    Ok(key.clone()? == key)
+}
+
+/// Whether a key is an application's own, seen by reference.
+fn is_extras(key: Checked<Semantic>) -> bool {
+    matches!(key.as_ref(), Checked::Valid(Semantic::Extras(_)))
+}
+
+/// The key of an application's own attribute.
+fn own_key(alloc: Global, name: &str) -> Result<Checked<Semantic>, AllocError> {
+    Ok(Checked::Valid(Semantic::Extras(String::from_str(alloc, name)?)))
+}
+
 #[test]
 fn checked_items(rt: HostRuntime) -> Result<(), Fail> {
     let alloc = rt.alloc();
-    assert!(rt; Checked::Valid(Semantic::Weights(4294967295)) < Checked::Invalid);
-    assert!(rt;
-        Checked::Valid(Semantic::Extras(String::from_str(alloc, "z")?))
-            < Checked::Valid(Semantic::Positions)
-    );
-    let own = Checked::Valid(Semantic::Extras(String::from_str(alloc, "a")?));
-    assert!(rt; own.clone()? == own);
-    assert!(rt; matches!(own.as_ref(), Checked::Valid(Semantic::Extras(_))));
+    let last = Checked::Valid(Semantic::Weights(4294967295));
+    assert!(rt; is_before(last, Checked::Invalid));
+    assert!(rt; is_before(own_key(alloc, "z")?, Checked::Valid(Semantic::Positions)));
+    assert!(rt; is_cloned(own_key(alloc, "a")?)?);
+    assert!(rt; is_extras(own_key(alloc, "a")?));
     assert_eq!(rt; Checked::Valid(7u32).unwrap(), 7);
     assert_eq!(rt; Checked::<u32>::default(), Checked::Valid(0));
     Ok(())
@@ -175,23 +192,27 @@ fn sizes(rt: HostRuntime) {
     assert_eq!(rt; USize64::from(3usize), USize64(3));
 }
 
+/// The fraction that a JSON text is read as, where it is a number.
+fn fraction(alloc: Global, text: &str) -> Result<Option<f64>, Fail> {
+    match Real::from_value(Value::from_str(alloc, text)?) {
+        Ok(real) => Ok(real.as_value().as_f64()),
+        Err(_) => Ok(None),
+    }
+}
+
+/// Whether a whole number, and a clone of it, hold it.
+fn is_whole(number: i64) -> Result<bool, AllocError> {
+    let real = Real::from_i64(number);
+    let is_cloned = real.clone()?.as_value().as_i64() == Some(number);
+    Ok(is_cloned && real.as_value().as_i64() == Some(number))
+}
+
 #[test]
 fn reals(rt: HostRuntime) -> Result<(), Fail> {
-    let alloc = rt.alloc();
-    match Real::from_value(Value::Null) {
-        Ok(_) => panic!(rt; "null is no number"),
-        Err(value) => assert!(rt; value.is_null()),
-    }
-    match Real::from_value(Value::from_str(alloc, "-0.5")?) {
-        Ok(half) => assert_eq!(rt; half.as_value().as_f64(), Some(-0.5)),
-        Err(_) => panic!(rt; "a fraction is a number"),
-    }
-    let one = Real::from_i64(1);
-    assert_eq!(rt; one.clone()?.as_value().as_i64(), Some(1));
-    assert_eq!(rt;
-        Real::from_i64(i64::MIN).as_value().as_i64(),
-        Some(i64::MIN)
-    );
+    assert!(rt; matches!(Real::from_value(Value::Null), Err(Value::Null)));
+    assert_eq!(rt; fraction(rt.alloc(), "-0.5")?, Some(-0.5));
+    assert!(rt; is_whole(1)?);
+    assert!(rt; is_whole(i64::MIN)?);
     Ok(())
 }
 

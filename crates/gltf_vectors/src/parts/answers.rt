@@ -7,6 +7,7 @@ use gltf_parts::extras::Void;
 use gltf_parts::image::Image;
 use gltf_parts::material::{Material, PbrMetallicRoughness};
 use gltf_parts::texture::{Info, MinFilter, Sampler, Texture, WrappingMode};
+use std::alloc::Global;
 use std::test::Fail;
 
 #[test]
@@ -48,14 +49,22 @@ fn references(rt: HostRuntime) -> Result<(), Fail> {
     Ok(())
 }
 
+/// The metallic factor of the parameters that a JSON text is read as.
+fn metallic_factor(alloc: Global, text: &str) -> Result<Option<f64>, Fail> {
+    match read::<PbrMetallicRoughness>(alloc, text)?.metallic_factor.0 {
+        Some(factor) => Ok(factor.as_value().as_f64()),
+        None => Ok(None),
+    }
+}
+
 #[test]
 fn metallic_roughness(rt: HostRuntime) -> Result<(), Fail> {
     let alloc = rt.alloc();
     assert!(rt; is_refused::<PbrMetallicRoughness>(alloc, r#"{"metallicFactor":null}"#)?);
-    let text = r#"{"metallicFactor":0.5}"#;
-    let factor = read::<PbrMetallicRoughness>(alloc, text)?.metallic_factor;
-    let factor = factor.0.ok_or("no factor")?;
-    assert_eq!(rt; factor.as_value().as_f64(), Some(0.5));
+    assert_eq!(rt;
+        metallic_factor(alloc, r#"{"metallicFactor":0.5}"#)?,
+        Some(0.5)
+    );
     Ok(())
 }
 

@@ -11,18 +11,37 @@ use gltf_base::mesh::Mode;
 use gltf_base::texture::{MagFilter, MinFilter, WrappingMode};
 use gltf_base::validation::Checked;
 
+/// Whether a spelling was read as an item, and is written for it.
+fn is_both_ways<T: PartialEq + Drop, S: PartialEq + Drop>(
+    read: Checked<T>,
+    item: T,
+    written: S,
+    wanted: S,
+) -> bool {
+    read == Checked::Valid(item) && written == wanted
+}
+
 /// Whether an item of a choice has this name, both ways.
 macro_rules! is_named {
     ($choice:ident, $item:ident, $name:expr) => {
-        $choice::from_name($name) == Checked::Valid($choice::$item) && $choice::$item.name() == $name
+        is_both_ways(
+            $choice::from_name($name),
+            $choice::$item,
+            $choice::$item.name(),
+            $name,
+        )
     };
 }
 
 /// Whether an item of a choice has this number, both ways.
 macro_rules! is_numbered {
     ($choice:ident, $item:ident, $number:expr) => {
-        $choice::from_gl_enum($number) == Checked::Valid($choice::$item)
-            && $choice::$item.as_gl_enum() == $number
+        is_both_ways(
+            $choice::from_gl_enum($number),
+            $choice::$item,
+            $choice::$item.as_gl_enum(),
+            $number,
+        )
     };
 }
 

@@ -7,7 +7,6 @@ use gltf_parts::extras::Void;
 use gltf_parts::image::Image;
 use gltf_parts::material::{Material, PbrMetallicRoughness};
 use gltf_parts::texture::{Info, MinFilter, Sampler, Texture, WrappingMode};
-use std::alloc::Global;
 use std::test::Fail;
 
 #[test]
@@ -38,33 +37,33 @@ fn textures(rt: HostRuntime) -> Result<(), Fail> {
     Ok(())
 }
 
+/// Whether the extensions of a reference are one that is not known, `EXT_y`.
+fn has_unknown_alone(info: &Info) -> bool {
+    info.extensions.as_ref().is_some_and(|extensions| {
+        extensions.texture_transform.is_none()
+            && extensions.others.len() == 1
+            && extensions.others.contains_key("EXT_y")
+    })
+}
+
 #[test]
 fn references(rt: HostRuntime) -> Result<(), Fail> {
     let text = r#"{"index":0,"extensions":{"EXT_y":null,"KHR_texture_transform":null}}"#;
-    let extensions = read::<Info>(rt.alloc(), text)?.extensions;
-    let extensions = extensions.ok_or("no extensions")?;
-    assert!(rt; extensions.texture_transform.is_none());
-    assert_eq!(rt; extensions.others.len(), 1);
-    assert!(rt; extensions.others.contains_key("EXT_y"));
+    assert!(rt; has_unknown_alone(&read::<Info>(rt.alloc(), text)?));
     Ok(())
 }
 
-/// The metallic factor of the parameters that a JSON text is read as.
-fn metallic_factor(alloc: Global, text: &str) -> Result<Option<f64>, Fail> {
-    match read::<PbrMetallicRoughness>(alloc, text)?.metallic_factor.0 {
-        Some(factor) => Ok(factor.as_value().as_f64()),
-        None => Ok(None),
-    }
+/// The metallic factor of some parameters.
+fn metallic_factor(parameters: &PbrMetallicRoughness) -> Option<f64> {
+    parameters.metallic_factor.0.as_ref()?.as_value().as_f64()
 }
 
 #[test]
 fn metallic_roughness(rt: HostRuntime) -> Result<(), Fail> {
     let alloc = rt.alloc();
     assert!(rt; is_refused::<PbrMetallicRoughness>(alloc, r#"{"metallicFactor":null}"#)?);
-    assert_eq!(rt;
-        metallic_factor(alloc, r#"{"metallicFactor":0.5}"#)?,
-        Some(0.5)
-    );
+    let half: PbrMetallicRoughness = read(alloc, r#"{"metallicFactor":0.5}"#)?;
+    assert_eq!(rt; metallic_factor(&half), Some(0.5));
     Ok(())
 }
 
@@ -73,8 +72,8 @@ fn materials(rt: HostRuntime) -> Result<(), Fail> {
     let alloc = rt.alloc();
     assert!(rt; is_refused::<Material>(alloc, r#"{"emissiveFactor":[0,0]}"#)?);
     assert!(rt; is_refused::<Material>(alloc, r#"{"pbrMetallicRoughness":null}"#)?);
-    let factor = read::<Material>(alloc, r#"{"emissiveFactor":[0,0,0]}"#)?.emissive_factor;
-    assert!(rt; factor.0.is_some());
+    let black: Material = read(alloc, r#"{"emissiveFactor":[0,0,0]}"#)?;
+    assert!(rt; black.emissive_factor.0.is_some());
     Ok(())
 }
 

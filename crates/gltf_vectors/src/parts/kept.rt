@@ -33,8 +33,7 @@ fn by_extensions_of_textures(rt: HostRuntime) -> Result<(), Fail> {
 
 #[test]
 fn by_extensions_of_materials(rt: HostRuntime) -> Result<(), Fail> {
-    let kept = read::<material::Material>(rt.alloc(), UNKNOWN)?.others;
-    assert!(rt; is_kept(&kept));
+    assert!(rt; is_kept(&read::<material::Material>(rt.alloc(), UNKNOWN)?.others));
     Ok(())
 }
 
@@ -49,7 +48,6 @@ fn by_extensions_of_references(rt: HostRuntime) -> Result<(), Fail> {
 
 #[test]
 fn by_glossiness(rt: HostRuntime) -> Result<(), Fail> {
-    let kept = read::<material::PbrSpecularGlossiness>(rt.alloc(), UNKNOWN)?.others;
-    assert!(rt; is_kept(&kept));
+    assert!(rt; is_kept(&read::<material::PbrSpecularGlossiness>(rt.alloc(), UNKNOWN)?.others));
     Ok(())
 }

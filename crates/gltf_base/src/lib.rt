@@ -2,11 +2,90 @@
 //! names what `gltf_checked`, `gltf_choices` and `gltf_paths` hold, under the modules of the format.
 #![tactic(auto)]
 
-pub mod mesh;
-pub mod validation;
+pub use gltf_paths::{Index, IndexTo, KeyStep, Listed, Names, Path, PushError, Real, Step, Steps};
 
-pub use gltf_checked::choice;
-pub use gltf_choices::{accessor, animation, buffer, camera, extensions, image, material, texture};
-pub use gltf_paths::{
-    Index, IndexTo, KeyStep, Listed, Names, Path, PushError, Real, Step, Steps, index, path, real,
-};
+/// The choices of accessors.
+pub mod accessor {
+    pub use gltf_choices::accessor::{
+        AccessorType, BYTE, ComponentType, FLOAT, GenericComponentType, IndexComponentType, SHORT,
+        Type, UNSIGNED_BYTE, UNSIGNED_INT, UNSIGNED_SHORT, VALID_ACCESSOR_TYPES,
+        VALID_COMPONENT_TYPES, VALID_INDEX_TYPES,
+    };
+}
+
+/// The choices of animations.
+pub mod animation {
+    pub use gltf_choices::animation::{
+        Interpolation, Property, VALID_INTERPOLATIONS, VALID_PROPERTIES,
+    };
+}
+
+/// The choices of buffers and their views.
+pub mod buffer {
+    pub use gltf_choices::buffer::{
+        ARRAY_BUFFER, ELEMENT_ARRAY_BUFFER, MAX_BYTE_STRIDE, MIN_BYTE_STRIDE, Target, VALID_TARGETS,
+    };
+}
+
+/// The choices of cameras.
+pub mod camera {
+    pub use gltf_choices::camera::{CameraType, Type, VALID_CAMERA_TYPES};
+}
+
+/// What a choice is.
+pub mod choice {
+    pub use gltf_checked::choice::{Choice, Form, Spelling, item_of};
+}
+
+/// The choices of extensions.
+pub mod extensions {
+    /// Those of scenes.
+    pub mod scene {
+        /// Those of lights (`KHR_lights_punctual`).
+        pub mod khr_lights_punctual {
+            pub use gltf_choices::extensions::scene::khr_lights_punctual::{
+                LightType, Type, VALID_TYPES,
+            };
+        }
+    }
+}
+
+/// The media types of images.
+pub mod image {
+    pub use gltf_choices::image::VALID_MIME_TYPES;
+}
+
+/// The choices of materials.
+pub mod material {
+    pub use gltf_choices::material::{AlphaMode, VALID_ALPHA_MODES};
+}
+
+/// The choices of meshes, and what their attributes mean.
+pub mod mesh {
+    pub use gltf_checked::mesh::Semantic;
+    pub use gltf_choices::mesh::{
+        LINE_LOOP, LINE_STRIP, LINES, Mode, POINTS, TRIANGLE_FAN, TRIANGLE_STRIP, TRIANGLES,
+        VALID_MODES, VALID_MORPH_TARGETS,
+    };
+}
+
+/// Where a thing stands in a document, as text and as steps.
+pub mod path {
+    pub use gltf_paths::path::{KeyStep, Path, Step, Steps};
+}
+
+/// The choices of textures and their samplers.
+pub mod texture {
+    pub use gltf_choices::texture::{
+        CLAMP_TO_EDGE, LINEAR, LINEAR_MIPMAP_LINEAR, LINEAR_MIPMAP_NEAREST, MIRRORED_REPEAT,
+        MagFilter, MinFilter, NEAREST, NEAREST_MIPMAP_LINEAR, NEAREST_MIPMAP_NEAREST, REPEAT,
+        VALID_MAG_FILTERS, VALID_MIN_FILTERS, VALID_WRAPPING_MODES, WrappingMode,
+    };
+}
+
+/// What is wrong at a place of a document, items of a choice that may be none of its values, and
+/// numbers of bytes or items.
+pub mod validation {
+    pub use gltf_checked::validation::Checked;
+    pub use gltf_paths::validation::{Error, USize64};
+}

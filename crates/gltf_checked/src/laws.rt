@@ -1,6 +1,9 @@
-//! Laws of the crate's types. Each function does nothing; its contract is the law.
+//! Laws of the crate's types, and of every type that is ordered and hashed. Each function does
+//! nothing; its contract is the law.
 
-ghost use Rattle.std.specs.Prelude.{◌≡◌, false, true, [], ◌∷◌, codes};
+ghost use Rattle.std.specs.Prelude.{◌≡◌, false, true, [], ◌∷◌, codes, IsTrue};
+ghost use Rattle.std.specs.Cmp.{IsTotalOrder};
+ghost use Rattle.std.specs.Ordering.{is_eq};
 ghost use Rattle.std.specs.declared.cmp.Ordering.TheVariants.{Less, Equal, Greater};
 ghost use Rattle.gltf_checked.specs.Keys.{key_cmp, key_eq, extras, tex_coords, joints, colors, unknown};
 ghost use Rattle.gltf_checked.specs.Names.{key_named};
@@ -11,6 +14,14 @@ ghost use Rattle.gltf_checked.specs.declared.validation.Checked.TheVariants.{Val
 
 use crate::mesh::Semantic;
 use crate::validation::Checked;
+use std::hash::Hash;
+
+/// An order is total, is zero just where values are equal, and equal values hash alike.
+pub fn orders_agree_with_equality<T: Ord + Hash>()
+    ensures total { IsTotalOrder T.cmp }
+    ensures equality { (x y : T) → T.eq x y ≡ is_eq (T.cmp x y) }
+    ensures hash { (x y : T) → IsTrue (T.eq x y) → T.hash_input x ≡ T.hash_input y }
+{}
 
 /// Items are equal as they are, and `Invalid` equals itself alone.
 pub fn items_are_equal_as_they_are<T: PartialEq>()

@@ -3,12 +3,100 @@
 //! modules of the format.
 #![tactic(auto)]
 
-pub mod accessor;
-pub mod buffer;
-pub mod extensions;
-pub mod image;
-pub mod material;
-pub mod texture;
-
-pub use gltf_data::extras;
 pub use gltf_schema::{Blank, Error, Object, Reading, Schema, Unlisted};
+
+/// Accessors: how the data of a view is read as elements.
+pub mod accessor {
+    pub use gltf_base::accessor::{
+        AccessorType, BYTE, ComponentType, FLOAT, GenericComponentType, IndexComponentType, SHORT,
+        Type, UNSIGNED_BYTE, UNSIGNED_INT, UNSIGNED_SHORT, VALID_ACCESSOR_TYPES,
+        VALID_COMPONENT_TYPES, VALID_INDEX_TYPES,
+    };
+    pub use gltf_data::accessor::Accessor;
+
+    /// The sparse storage of accessors.
+    pub mod sparse {
+        pub use gltf_data::accessor::sparse::{Indices, Sparse, Values};
+    }
+}
+
+/// Buffers and their views: the bytes behind a document.
+pub mod buffer {
+    pub use gltf_base::buffer::{
+        ARRAY_BUFFER, ELEMENT_ARRAY_BUFFER, MAX_BYTE_STRIDE, MIN_BYTE_STRIDE, Target, VALID_TARGETS,
+    };
+    pub use gltf_data::buffer::{Buffer, Stride, View};
+}
+
+/// Extension objects: what stands behind the member `extensions` of an object.
+pub mod extensions {
+    /// Those of accessors.
+    pub mod accessor {
+        pub use gltf_data::extensions::accessor::Accessor;
+
+        /// Those of their sparse storage.
+        pub mod sparse {
+            pub use gltf_data::extensions::accessor::sparse::{Indices, Sparse, Values};
+        }
+    }
+
+    /// Those of buffers and their views.
+    pub mod buffer {
+        pub use gltf_data::extensions::buffer::{Buffer, View};
+    }
+
+    /// Those of images.
+    pub mod image {
+        pub use gltf_data::extensions::image::Image;
+    }
+
+    /// Those of materials and of their references to textures.
+    pub mod material {
+        pub use gltf_shading::extensions::material::{
+            AttenuationColor, AttenuationDistance, EmissiveStrength, EmissiveStrengthFactor,
+            IndexOfRefraction, Ior, Material, NormalTexture, OcclusionTexture, PbrDiffuseFactor,
+            PbrMetallicRoughness, PbrSpecularFactor, PbrSpecularGlossiness, Specular,
+            SpecularColorFactor, SpecularFactor, ThicknessFactor, Transmission, TransmissionFactor,
+            Unlit, Volume,
+        };
+    }
+
+    /// Those of textures, their samplers and the references to them.
+    pub mod texture {
+        pub use gltf_textures::extensions::texture::{
+            Info, Sampler, Texture, TextureTransform, TextureTransformOffset,
+            TextureTransformRotation, TextureTransformScale,
+        };
+    }
+}
+
+/// What an application adds to an object.
+pub mod extras {
+    pub use gltf_data::extras::{Extras, Void};
+}
+
+/// Images.
+pub mod image {
+    pub use gltf_base::image::VALID_MIME_TYPES;
+    pub use gltf_data::image::{Image, MimeType};
+}
+
+/// Materials, and their references to textures.
+pub mod material {
+    pub use gltf_base::material::{AlphaMode, VALID_ALPHA_MODES};
+    pub use gltf_materials::material::{
+        AlphaCutoff, EmissiveFactor, Material, NormalTexture, OcclusionTexture, PbrBaseColorFactor,
+        PbrMetallicRoughness,
+    };
+    pub use gltf_shading::material::StrengthFactor;
+}
+
+/// Textures, their samplers, and the references of materials to them.
+pub mod texture {
+    pub use gltf_base::texture::{
+        CLAMP_TO_EDGE, LINEAR, LINEAR_MIPMAP_LINEAR, LINEAR_MIPMAP_NEAREST, MIRRORED_REPEAT,
+        MagFilter, MinFilter, NEAREST, NEAREST_MIPMAP_LINEAR, NEAREST_MIPMAP_NEAREST, REPEAT,
+        VALID_MAG_FILTERS, VALID_MIN_FILTERS, VALID_WRAPPING_MODES, WrappingMode,
+    };
+    pub use gltf_textures::texture::{Info, Sampler, Texture};
+}

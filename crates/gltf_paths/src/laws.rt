@@ -1,8 +1,7 @@
 //! Laws of the crate's types. Each function does nothing; its contract is the law.
 
-ghost use Rattle.std.specs.Prelude.{◌≡◌, ◌==◌, [], ◌∷◌, codes, Some, IsTrue};
-ghost use Rattle.std.specs.Cmp.{IsTotalOrder};
-ghost use Rattle.std.specs.Ordering.{nat_cmp, is_eq};
+ghost use Rattle.std.specs.Prelude.{◌≡◌, ◌==◌, [], ◌∷◌, codes, Some};
+ghost use Rattle.std.specs.Ordering.{nat_cmp};
 ghost use Rattle.gltf_paths.specs.Errors.{error_rank};
 ghost use Rattle.gltf_paths.specs.Indexes.{index_number};
 ghost use Rattle.gltf_checked.specs.Keys.{key_text, unknown};
@@ -15,13 +14,6 @@ ghost use Rattle.gltf_paths.specs.declared.validation.USize64.{USize64 as ASize}
 use crate::index::IndexTo;
 use crate::validation::{Error, USize64};
 use std::hash::Hash;
-
-/// An order is total, is zero just where values are equal, and equal values hash alike.
-pub fn orders_agree_with_equality<T: Ord + Hash>()
-    ensures total { IsTotalOrder T.cmp }
-    ensures equality { (x y : T) → T.eq x y ≡ is_eq (T.cmp x y) }
-    ensures hash { (x y : T) → IsTrue (T.eq x y) → T.hash_input x ≡ T.hash_input y }
-{}
 
 /// Indexes are compared and hashed as their numbers.
 pub fn indexes_are_compared_as_numbers<P>()

@@ -14,7 +14,7 @@ use serde_json::{Map, Value};
 use std::alloc::Global;
 
 mod device;
-pub mod get;
+mod get;
 mod parse;
 mod watched;
 

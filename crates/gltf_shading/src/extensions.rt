@@ -1,3 +1,4 @@
-//! Extension objects: what stands behind the member `extensions` of an object.
+//! Extension objects of materials and of their references to textures: what stands behind their member
+//! `extensions`.
 
 pub mod material;

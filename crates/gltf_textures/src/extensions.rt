@@ -1,3 +1,4 @@
-//! Extension objects: what stands behind the member `extensions` of an object.
+//! Extension objects of textures, their samplers and the references to them: what stands behind their
+//! member `extensions`.
 
 pub mod texture;

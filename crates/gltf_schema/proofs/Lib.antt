@@ -4,3 +4,4 @@ pub mod Choosing
 pub mod RowByRow
 pub mod ArrayOfNumbers
 pub mod ReadPlain
+pub mod Entries

@@ -71,7 +71,7 @@ absent_plain (Numbers n) = refl
 absent_plain Text = refl
 absent_plain Truth = refl
 absent_plain Any = refl
-absent_plain Attributes = refl
+absent_plain (Attributes named) = refl
 
 -- ---- a null that is read is kept nowhere
 
@@ -110,7 +110,7 @@ not_null Text d t some h = not_null_from tree.text (λ x. refl) (as_str d) t h
 not_null Truth d t some h = not_null_from tree.truth (λ x. refl) (as_bool d) t h
 not_null Any d t some h = let e : tree.any d ≡ t = cc in rw (← e) (some_not_null d some)
 not_null (Choice form listed) d t some h = not_null_from (choice_among listed) (λ s. choice_not_null_at _ s) (spelling_in form d) t h
-not_null Attributes d t some h =
+not_null (Attributes named) d t some h =
     let ms = bound (as_object d) _ t h in
     not_null_from tree.attributes (λ x. refl) (read_entries [] ms.0) t ms.2
 not_null (ListOf kind) d t some h =
@@ -181,7 +181,7 @@ mutual
   read_plain Text d t sound h = refl
   read_plain Truth d t sound h = refl
   read_plain Any d t sound h = refl
-  read_plain Attributes d t sound h = refl
+  read_plain (Attributes named) d t sound h = refl
   read_plain (Choice form listed) d t sound h = let s = mapped (choice_among listed) (spelling_in form d) t h in rw (← s.2) (choice_plain form listed s.0)
   read_plain (ListOf kind) d t sound h =
       let ds = bound (as_array d) _ t h in

@@ -1,14 +1,16 @@
 -- Rows read one after another, by a state that goes on or stays failed.
-use Rattle.std.proofs.Common.{◌≡◌, ℕ, List, Option, Some, Bool, true, false, Result, Ok, Err, refl, sym, ap, subst}
-use Rattle.serde_json.specs.Data.{Members, no_members}
+use Rattle.std.proofs.Common.{◌≡◌, ℕ, List, Option, Some, None, option_map, Bool, true, false, Result, Ok, Err, refl, sym, ap, ◌∙◌, subst}
+use Rattle.serde_json.specs.Data.{Data, Members, no_members}
+use Rattle.serde_json.specs.Find.{get_member}
 use Rattle.gltf_schema.specs.declared.error.Error.{Error}
 use Rattle.gltf_schema.specs.declared.error.Error.TheVariants as errors
 use Rattle.gltf_schema.specs.Outcome.{Reads, Refuses}
 use Rattle.gltf_schema.specs.Maybe.{◌>>=◌}
-use Rattle.gltf_schema.specs.Tree.{Tree, Trees, end, with_tree}
+use Rattle.gltf_schema.specs.Tree.{Tree, whole, index, Trees, end, with_tree}
 use Rattle.gltf_paths.specs.Lists.{images}
-use Rattle.gltf_schema.specs.Kind.{Mark, Kind, IndexInto, SourceImage, Rows, no_rows, row}
-use Rattle.gltf_schema.specs.Taken.{take_member, take_rows, take_all, left}
+use Rattle.gltf_schema.specs.Kind.{Mark, required, Kind, IndexInto, SourceImage, ChannelSampler, U32, Rows, no_rows, row}
+use Rattle.gltf_schema.specs.Read.{read, read_member, small_number}
+use Rattle.gltf_schema.specs.Taken.{without, take_member, take_rows, take_all, left}
 use Rattle.gltf_schema.specs.Readings.{MemberFrom, RowsFrom, OthersFrom, FinishFrom, ReadsMember, ReadsRows, TakesOthers, Finishes}
 use Rattle.gltf_schema.proofs.TakingOut.{refused}
 
@@ -117,3 +119,32 @@ source_from (Err e) after n mark t h = h
 pub source_read : {before after : Result Members Error} {n : List ℕ} {mark : Mark} {t : Tree}
     → ReadsMember before n mark (IndexInto images) t after → ReadsMember before n mark SourceImage t after
 source_read {before} {after} {n} {mark} {t} h = record { is = source_from before after n mark t h.is }
+
+-- a row's number as an index
+abbrev with_index : Tree × Members → Tree × Members
+with_index (whole n, left) = (index n, left)
+with_index r = r
+
+index_taken : (r : Option ℕ) (left : Members) → option_map (λ t. (t, left)) (option_map index r) ≡ option_map with_index (option_map (λ t. (t, left)) (option_map whole r))
+index_taken None left = refl
+index_taken (Some n) left = refl
+
+sampler_in : (m : Option Data) (left : Members)
+    → option_map (λ t. (t, left)) (read_member required (read ChannelSampler) m) ≡ option_map with_index (option_map (λ t. (t, left)) (read_member required (read U32) m))
+sampler_in None left = refl
+sampler_in (Some d) left = index_taken (small_number d) left
+
+sampler_taken : (n : List ℕ) (ms : Members) → take_member n required ChannelSampler ms ≡ option_map with_index (take_member n required U32 ms)
+unfolding take_member
+sampler_taken n ms = sampler_in (get_member n ms) (without n ms)
+
+sampler_from : (before after : Result Members Error) (n : List ℕ) (number : ℕ)
+    → MemberFrom before n required U32 (whole number) after → MemberFrom before n required ChannelSampler (index number) after
+sampler_from (Ok ms) (Ok left) n number h = sampler_taken n ms ∙ ap (option_map with_index) h
+sampler_from (Ok ms) (Err e) n number h = rw (sampler_taken n ms) (refused e with_index (take_member n required U32 ms) h)
+sampler_from (Err e) after n number h = h
+
+-- the sampler of a channel is read as the number that its index is
+pub sampler_read : {before after : Result Members Error} {n : List ℕ} {number : ℕ}
+    → ReadsMember before n required U32 (whole number) after → ReadsMember before n required ChannelSampler (index number) after
+sampler_read {before} {after} {n} {number} h = record { is = sampler_from before after n number h.is }

@@ -1,15 +1,20 @@
 -- The trees of an object's fields.
-use Rattle.std.specs.Prelude.{List, map, String, string_bytes}
+use Rattle.std.specs.Prelude.{ℕ, List, map, String, string_bytes}
 use Rattle.std.specs.declared.alloc.Global.{Global}
+use Rattle.std.specs.BTreeMap.{BTreeMap}
 use Rattle.serde_json.specs.Data.{no_members}
 use Rattle.serde_json.specs.View.{view}
 use Rattle.serde_json.specs.declared.value.Value.{Value}
+use Rattle.gltf_checked.specs.Keys.{Key}
+use Rattle.gltf_checked.specs.Semantics.{checked_key}
+use Rattle.gltf_checked.specs.declared.mesh.Semantic.{Semantic}
+use Rattle.gltf_checked.specs.declared.validation.Checked.{Checked}
 use Rattle.gltf_paths.specs.Indexes.{index_number}
 use Rattle.gltf_paths.specs.Reals.{real_number}
 use Rattle.gltf_paths.specs.declared.index.IndexTo.{IndexTo}
 use Rattle.gltf_paths.specs.declared.real.Real.{Real}
 use Rattle.gltf_paths.specs.declared.validation.USize64.{USize64}
-use Rattle.gltf_schema.specs.Tree.{Tree, Trees, trees, whole, number, numbers, text, any, index, list, object}
+use Rattle.gltf_schema.specs.Tree.{Tree, Trees, trees, whole, number, numbers, text, any, index, list, attributes, object}
 
 abbrev pub index_tree : {P : Type 0} → IndexTo P → Tree
 index_tree i = index (index_number i)
@@ -31,6 +36,13 @@ any_tree v = any (view v)
 
 abbrev pub list_tree : {X : Type 0} → (X → Tree) → List X → Tree
 list_tree tree xs = list (trees (map tree xs))
+
+-- an attribute, by what its key means
+abbrev pub entry_of : {P : Type 0} → Checked Semantic × IndexTo P → Key × ℕ
+entry_of e = (checked_key e.0, index_number e.1)
+
+abbrev pub attributes_tree : {P : Type 0} → BTreeMap (Checked Semantic) (IndexTo P) → Tree
+attributes_tree m = attributes (map entry_of m.entries)
 
 -- an object that keeps no other members
 abbrev pub closed_object : Trees → Tree

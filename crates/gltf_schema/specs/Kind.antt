@@ -91,8 +91,8 @@ mutual
     Any : Kind
     -- one of the spellings that are listed, else invalid
     Choice : Form → List Spelling → Kind
-    -- a map of semantics to indexes into the accessors
-    Attributes : Kind
+    -- a map of semantics to indexes into a list
+    Attributes : ListName → Kind
     ListOf : Kind → Kind
     -- its name, its rows, and whether members that no row names are kept
     Object : ObjectName → Rows → Bool → Kind

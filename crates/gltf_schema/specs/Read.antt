@@ -82,7 +82,7 @@ abbrev mutual
   read Truth d = option_map truth (as_bool d)
   read Any d = Some (any d)
   read (Choice form listed) d = option_map (choice_among listed) (spelling_in form d)
-  read Attributes d = as_object d >>= λ ms. option_map attributes (read_entries [] ms)
+  read (Attributes named) d = as_object d >>= λ ms. option_map attributes (read_entries [] ms)
   read (ListOf kind) d = as_array d >>= λ ds. option_map list (read_items (read kind) ds)
   read (Object named rows keeps) d = as_object d >>= λ ms. option_map (λ ts. object ts (kept keeps rows ms)) (read_rows rows ms)
 

@@ -3,6 +3,7 @@
 use gltf_base::IndexTo;
 use gltf_base::validation::{Checked, USize64};
 use std::alloc::Global;
+use std::collections::BTreeMap;
 
 /// A type with a value that stands where reading failed, and that is dropped with the object.
 pub trait Blank: Drop {
@@ -49,5 +50,11 @@ impl<T: Drop> Blank for Checked<T> {
 impl<T: Drop> Blank for Vec<T> {
     fn blank(alloc: Global) -> Vec<T> {
         Vec::new(alloc)
+    }
+}
+
+impl<K: Ord + Drop, V: Drop> Blank for BTreeMap<K, V> {
+    fn blank(alloc: Global) -> BTreeMap<K, V> {
+        BTreeMap::new(alloc)
     }
 }

@@ -1,6 +1,7 @@
 //! The kinds of the glTF 2.0 table, and how a value of each is read from JSON.
 #![tactic(auto)]
 
+mod attributes;
 mod blank;
 pub mod error;
 mod leaf;

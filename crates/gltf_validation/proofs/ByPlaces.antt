@@ -51,18 +51,18 @@ key_told (keys.joints set) base = refl
 key_told (keys.weights set) base = refl
 key_told keys.unknown base = refl
 
-entries_by_places : (es : List (Key × ℕ)) (root animation : Tree) (base : List Step)
-    → flat_map (faults root) (entry_places es animation base) ≡ entries_faults (count_in ListName.accessors root) es base
-entries_by_places [] root animation base = refl
-entries_by_places (e ∷ es) root animation base =
+entries_by_places : (named : ListName) (es : List (Key × ℕ)) (root animation : Tree) (base : List Step)
+    → flat_map (faults root) (entry_places named es animation base) ≡ entries_faults (count_in named root) es base
+entries_by_places named [] root animation base = refl
+entries_by_places named (e ∷ es) root animation base =
     let at = base ++ key (key_text e.0) ∷ [] in
     let first = place_of key_kind (key_tree e.0) animation at in
-    let second = place_of (IndexInto ListName.accessors) (tree.index e.1) animation at in
-    over-append (faults root) (first ++ second) (entry_places es animation base)
+    let second = place_of (IndexInto named) (tree.index e.1) animation at in
+    over-append (faults root) (first ++ second) (entry_places named es animation base)
     ∙ joined
     (over-append (faults root) first second
-    ∙ joined (leaf key_kind (key_tree e.0) root animation at refl ∙ key_told e.0 at) (leaf (IndexInto ListName.accessors) (tree.index e.1) root animation at refl))
-    (entries_by_places es root animation base)
+    ∙ joined (leaf key_kind (key_tree e.0) root animation at refl ∙ key_told e.0 at) (leaf (IndexInto named) (tree.index e.1) root animation at refl))
+    (entries_by_places named es root animation base)
 
 items_by_places : (root : Tree) (f : Tree → List Step → List Place) (g : Tree → From) → ((t : Tree) (base : List Step) → flat_map (faults root) (f t base) ≡ g t base)
     → (i : ℕ) (ts : Trees) (base : List Step) → flat_map (faults root) (item_places f i ts base) ≡ items_reports g i ts base
@@ -101,7 +101,7 @@ mutual
   by_places Truth t root animation base = leaf Truth t root animation base refl
   by_places Any t root animation base = leaf Any t root animation base refl
   by_places (Choice form listed) t root animation base = leaf (Choice form listed) t root animation base refl
-  by_places Attributes t root animation base = entries_by_places (entries_in t) root animation base
+  by_places (Attributes named) t root animation base = entries_by_places named (entries_in t) root animation base
   by_places (ListOf kind) t root animation base =
       items_by_places root (λ x. places kind x animation) (λ x. reports kind x root animation) (λ x at. by_places kind x root animation at) 0 (items_in t) base
   by_places (Object named rows keeps) t root animation base =

@@ -25,7 +25,7 @@ absent-silent Text root animation base = refl
 absent-silent Truth root animation base = refl
 absent-silent Any root animation base = refl
 absent-silent (Choice form listed) root animation base = refl
-absent-silent Attributes root animation base = refl
+absent-silent (Attributes named) root animation base = refl
 absent-silent (ListOf kind) root animation base = refl
 absent-silent (Object named rows keeps) root animation base = refl
 

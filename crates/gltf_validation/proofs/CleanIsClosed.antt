@@ -123,7 +123,7 @@ mutual
   clean_is_closed Truth t root animation base h = tt
   clean_is_closed Any t root animation base h = tt
   clean_is_closed (Choice form listed) t root animation base h = choice_listed t base h
-  clean_is_closed Attributes t root animation base h = entries_closed (count_in ListName.accessors root) (entries_in t) base h
+  clean_is_closed (Attributes named) t root animation base h = entries_closed (count_in named root) (entries_in t) base h
   clean_is_closed (ListOf kind) t root animation base h =
       items_closed (λ x. reports kind x root animation) (λ x. IsClosed kind x root animation) (λ x at e. clean_is_closed kind x root animation at e) 0 (items_in t) base h
   clean_is_closed (Object named rows keeps) t root animation base h =

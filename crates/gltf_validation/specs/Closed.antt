@@ -36,7 +36,7 @@ abbrev mutual
   IsClosed SourceImage t root animation = NamesItem (count_in ListName.images root) t
   IsClosed ChannelSampler t root animation = NamesItem (sampler_count animation) t
   IsClosed (Choice form listed) t root animation = IsListed t
-  IsClosed Attributes t root animation = EntriesClosed (count_in ListName.accessors root) (entries_in t)
+  IsClosed (Attributes named) t root animation = EntriesClosed (count_in named root) (entries_in t)
   IsClosed (ListOf kind) t root animation = EachTree (λ x. IsClosed kind x root animation) (items_in t)
   IsClosed (Object named rows keeps) t root animation = MembersClosed (members_in t) rows root (animation_below named t animation)
   IsClosed _ t root animation = Unit {0}

@@ -39,12 +39,12 @@ key_tree unknown = invalid
 key_tree k = chosen (by_name (key_text k))
 
 -- each attribute has a place for its key and one for its index
-abbrev pub entry_places : List (Key × ℕ) → Tree → List Step → List Place
-entry_places [] animation base = []
-entry_places (e ∷ es) animation base =
+abbrev pub entry_places : ListName → List (Key × ℕ) → Tree → List Step → List Place
+entry_places named [] animation base = []
+entry_places named (e ∷ es) animation base =
     place_of key_kind (key_tree e.0) animation (base ++ key (key_text e.0) ∷ [])
-    ++ place_of (IndexInto ListName.accessors) (index e.1) animation (base ++ key (key_text e.0) ∷ [])
-    ++ entry_places es animation base
+    ++ place_of (IndexInto named) (index e.1) animation (base ++ key (key_text e.0) ∷ [])
+    ++ entry_places named es animation base
 
 abbrev pub item_places : (Tree → List Step → List Place) → ℕ → Trees → List Step → List Place
 item_places f i end base = []
@@ -53,7 +53,7 @@ item_places f i (with_tree t ts) base = f t (base ++ item i ∷ []) ++ item_plac
 abbrev mutual
   -- the places in a tree of a kind, below an animation or none, from a base
   pub places : Kind → Tree → Tree → List Step → List Place
-  places Attributes t animation base = entry_places (entries_in t) animation base
+  places (Attributes named) t animation base = entry_places named (entries_in t) animation base
   places (ListOf kind) t animation base = item_places (λ x. places kind x animation) 0 (items_in t) base
   places (Object named rows keeps) t animation base =
       member_places (members_in t) rows (animation_below named t animation) base ++ object_place (Object named rows keeps) t animation base

@@ -27,7 +27,7 @@ abbrev mutual
   reports ChannelSampler t root animation base = index_faults (sampler_count animation) t base
   reports Stride t root animation base = stride_faults t base
   reports (Choice form listed) t root animation base = choice_faults t base
-  reports Attributes t root animation base = entries_faults (count_in ListName.accessors root) (entries_in t) base
+  reports (Attributes named) t root animation base = entries_faults (count_in named root) (entries_in t) base
   reports (ListOf kind) t root animation base = items_reports (λ x. reports kind x root animation) 0 (items_in t) base
   reports (Object named rows keeps) t root animation base =
       member_reports (members_in t) rows root (animation_below named t animation) base ++ object_faults t named root base

@@ -1,0 +1,51 @@
+-- Entries of attributes, read in turn.
+use Rattle.std.proofs.Common.{◌≡◌, ℕ, List, [], ◌∷◌, map, Option, Some, None, option_map, refl, sym, ap, ◌∙◌, subst, Ordering, Less, Equal, Greater}
+use Rattle.std.specs.BTreeMap.{insert_entry}
+use Rattle.std.specs.Ordering.{match_ordering}
+use Rattle.serde_json.specs.Data.{Data, Members, member}
+use Rattle.gltf_checked.specs.Keys.{Key, key_cmp}
+use Rattle.gltf_checked.specs.Names.{key_named}
+use Rattle.gltf_schema.specs.declared.error.Error.{Error}
+use Rattle.gltf_schema.specs.Tree.{Tree, index}
+use Rattle.gltf_schema.specs.Read.{read_entries, small_number}
+use Rattle.gltf_schema.specs.Outcome.{Refuses}
+use Rattle.gltf_schema.proofs.TakingOut.{refused}
+use Rattle.gltf_schema.proofs.RowByRow.{refused_then}
+
+-- entries by what their keys and values mean
+abbrev pub meant : {K V L W : Type 0} → (K → L) → (V → W) → List (K × V) → List (L × W)
+meant key value = map (λ e. (key e.0, value e.1))
+
+meant_at : {K V L W : Type 0} (o : Ordering) (key : K → L) (value : V → W) (before at after : List (K × V))
+    → meant key value (match_ordering o before at after) ≡ match_ordering o (meant key value before) (meant key value at) (meant key value after)
+meant_at Less key value before at after = refl
+meant_at Equal key value before at after = refl
+meant_at Greater key value before at after = refl
+
+-- an entry goes where the entry that it means does, where keys are ordered as what they mean
+pub inserted : {K V L W : Type 0} (cmp : K → K → Ordering) (cmp' : L → L → Ordering) (key : K → L) (value : V → W) → ((a b : K) → cmp a b ≡ cmp' (key a) (key b))
+    → (es : List (K × V)) (k : K) (v : V) → meant key value (insert_entry cmp es k v) ≡ insert_entry cmp' (meant key value es) (key k) (value v)
+inserted cmp cmp' key value same [] k v = refl
+inserted cmp cmp' key value same (e ∷ es) k v =
+    meant_at (cmp k e.0) key value _ _ _
+    ∙ rw (same k e.0, inserted cmp cmp' key value same es k v) refl
+
+abbrev number_in : Tree → ℕ
+number_in (index n) = n
+number_in _ = 0
+
+-- an index's tree has the number that was read
+number_back : (read : Option ℕ) → option_map number_in (option_map index read) ≡ read
+number_back None = refl
+number_back (Some n) = refl
+
+-- one member, and those after it
+pub entry_read : (es : List (Key × ℕ)) (name : List ℕ) (d : Data) (ms : Members) (n : ℕ) → option_map index (small_number d) ≡ Some (index n)
+    → read_entries (insert_entry key_cmp es (key_named name) n) ms ≡ read_entries es (member name d ms)
+entry_read es name d ms n h =
+    let number : small_number d ≡ Some n = sym (number_back (small_number d)) ∙ ap (option_map number_in) h in
+    rw number refl
+
+-- a value that is no index is no attribute
+pub entry_refused : (e : Error) (es : List (Key × ℕ)) (name : List ℕ) (d : Data) (ms : Members) → Refuses e (option_map index (small_number d)) → Refuses e (read_entries es (member name d ms))
+entry_refused e es name d ms h = refused_then e _ (small_number d) (subst (Refuses e) (number_back (small_number d)) (refused e number_in _ h))

@@ -145,6 +145,6 @@ sampler_from (Ok ms) (Err e) n number h = rw (sampler_taken n ms) (refused e wit
 sampler_from (Err e) after n number h = h
 
 -- the sampler of a channel is read as the number that its index is
-pub sampler_read : {before after : Result Members Error} {n : List ℕ} {number : ℕ}
-    → ReadsMember before n required U32 (whole number) after → ReadsMember before n required ChannelSampler (index number) after
-sampler_read {before} {after} {n} {number} h = record { is = sampler_from before after n number h.is }
+pub sampler_read : {before after : Result Members Error} {n : List ℕ} {i number : ℕ} → i ≡ number
+    → ReadsMember before n required U32 (whole number) after → ReadsMember before n required ChannelSampler (index i) after
+sampler_read {before} {after} {n} {i} {number} e h = rw e (record { is = sampler_from before after n number h.is })

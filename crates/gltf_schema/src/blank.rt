@@ -1,6 +1,6 @@
 //! Values that stand where nothing was read.
 
-use gltf_base::IndexTo;
+use gltf_base::{IndexTo, Real};
 use gltf_base::validation::{Checked, USize64};
 use std::alloc::Global;
 use std::collections::BTreeMap;
@@ -26,6 +26,12 @@ impl Blank for bool {
 impl Blank for USize64 {
     fn blank(_alloc: Global) -> USize64 {
         USize64(0)
+    }
+}
+
+impl Blank for Real {
+    fn blank(_alloc: Global) -> Real {
+        Real::from_i64(0)
     }
 }
 

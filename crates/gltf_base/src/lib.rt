@@ -37,8 +37,10 @@ pub mod choice {
     pub use gltf_checked::choice::{Choice, Form, Spelling, item_of};
 }
 
-/// The choices of extensions.
+/// The choices of extensions, and which extensions a document may require.
 pub mod extensions {
+    pub use gltf_choices::extensions::{ENABLED_EXTENSIONS, SUPPORTED_EXTENSIONS};
+
     /// Those of scenes.
     pub mod scene {
         /// Those of lights (`KHR_lights_punctual`).

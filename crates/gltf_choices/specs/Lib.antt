@@ -2,3 +2,4 @@ pub mod Choices
 pub mod Elements
 pub mod SceneChoices
 pub mod TextureChoices
+pub mod ExtensionNames

@@ -1,3 +1,26 @@
-//! The choices of extensions.
+//! The choices of extensions, and which extensions a document may require.
+
+ghost use Rattle.std.specs.Prelude.{◌≡◌, map};
+ghost use Rattle.gltf_choices.specs.ExtensionNames.{enabled_extensions};
 
 pub mod scene;
+
+/// The names of the extensions that a document may require: those that are read and checked.
+pub const ENABLED_EXTENSIONS: &[&str] = &[
+    "KHR_lights_punctual",
+    "KHR_materials_pbrSpecularGlossiness",
+    "KHR_materials_unlit",
+    "KHR_texture_transform",
+    "KHR_materials_transmission",
+    "KHR_materials_ior",
+    "KHR_materials_emissive_strength",
+];
+
+/// The names of the extensions that could be enabled; all of them are.
+pub const SUPPORTED_EXTENSIONS: &[&str] = ENABLED_EXTENSIONS;
+
+/// The constants of this module are the names in their order.
+pub fn constants_are_listed()
+    ensures enabled { map (λ name. name.now) ENABLED_EXTENSIONS.now ≡ enabled_extensions }
+    ensures supported { map (λ name. name.now) SUPPORTED_EXTENSIONS.now ≡ enabled_extensions }
+{}

@@ -1,0 +1,11 @@
+-- Each row is read in the table's order.
+use Rattle.gltf_schema.proofs.RowByRow.{all_read, read_none, read_row}
+use Rattle.gltf_meshes.specs.MeshTable.{variant_mappings_rows}
+use Rattle.gltf_meshes.specs.MeshTrees.{variant_mappings_members}
+use Rattle.gltf_meshes.proofs.extensions.mesh.KhrMaterialsVariantsObject.decode_members.Goals as goal
+
+pub returns : goal.returns
+unfolding variant_mappings_rows variant_mappings_members
+returns c =
+    all_read variant_mappings_members c.from_members-reading.ensures
+    (read_row c.required-mappings.ensures read_none) c.finish.ensures

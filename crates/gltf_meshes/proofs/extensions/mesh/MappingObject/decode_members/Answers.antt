@@ -1,0 +1,12 @@
+-- Each row is read in the table's order.
+use Rattle.gltf_schema.proofs.RowByRow.{all_read, read_none, read_row}
+use Rattle.gltf_meshes.specs.MeshTable.{variant_mapping_rows}
+use Rattle.gltf_meshes.specs.MeshTrees.{variant_mapping_members}
+use Rattle.gltf_meshes.proofs.extensions.mesh.MappingObject.decode_members.Goals as goal
+
+pub returns : goal.returns
+unfolding variant_mapping_rows variant_mapping_members
+returns c =
+    all_read variant_mapping_members c.from_members-reading.ensures
+    (read_row c.required-material.ensures
+    (read_row c.required-variants.ensures read_none)) c.finish.ensures

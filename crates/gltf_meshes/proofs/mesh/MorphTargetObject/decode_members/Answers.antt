@@ -1,0 +1,13 @@
+-- Each row is read in the table's order.
+use Rattle.gltf_schema.proofs.RowByRow.{all_read, read_none, read_row}
+use Rattle.gltf_meshes.specs.MeshTable.{morph_target_rows}
+use Rattle.gltf_meshes.specs.MeshTrees.{morph_target_members}
+use Rattle.gltf_meshes.proofs.mesh.MorphTargetObject.decode_members.Goals as goal
+
+pub returns : goal.returns
+unfolding morph_target_rows morph_target_members
+returns c =
+    all_read morph_target_members c.from_members-reading.ensures
+    (read_row c.optional-positions.ensures.left_out
+    (read_row c.optional-normals.ensures.left_out
+    (read_row c.optional-tangents.ensures.left_out read_none))) c.finish.ensures

@@ -1,0 +1,2 @@
+pub mod MeshTable
+pub mod MeshTrees

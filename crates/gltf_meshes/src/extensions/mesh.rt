@@ -1,0 +1,175 @@
+//! The extension objects of meshes and their primitives.
+
+ghost use Rattle.std.specs.Prelude.{◌≡◌, true, false};
+ghost use Rattle.serde_json.specs.Data.{no_members};
+ghost use Rattle.serde_json.specs.View.{members_view};
+ghost use Rattle.gltf_schema.specs.Kind.{ObjectName, extensions_of};
+ghost use Rattle.gltf_schema.specs.Tree.{end, list, whole, with_tree};
+ghost use Rattle.gltf_schema.specs.Defaults.{defaults};
+ghost use Rattle.gltf_meshes.specs.MeshTable.{primitive_extension_rows, primitive_extension_sound, variant_mappings_rows, variant_mappings_sound, variant_mapping_rows, variant_mapping_sound};
+ghost use Rattle.gltf_meshes.specs.MeshTrees.{primitive_extension_members, variant_mappings_members, variant_mapping_members};
+
+use gltf_schema::{Error, Object, Reading, Unlisted};
+use serde_json::{Map, Value};
+use std::alloc::Global;
+
+/// The extensions of a mesh.
+#[derive(Clone, Debug, Drop)]
+pub struct Mesh {
+    /// The extensions that are not known.
+    pub others: Map<String, Value>,
+}
+
+impl Unlisted for Mesh {
+    ghost extends = { ObjectName.mesh };
+
+    ghost is_keeping = { true };
+
+    ghost kept = { λ e. members_view e.others.entries };
+
+    fn from_others(others: Map<String, Value>) -> Mesh {
+        Mesh { others }
+    }
+}
+
+impl Mesh {
+    /// No extension.
+    pub fn new(alloc: Global) -> Mesh
+        ensures { members_view result.others.entries ≡ no_members }
+    {
+        Mesh {
+            others: Map::new(alloc),
+        }
+    }
+}
+
+/// The extensions of a primitive.
+#[derive(Clone, Debug, Drop)]
+pub struct Primitive {
+    /// `KHR_materials_variants`: which material each variant gives the primitive.
+    pub khr_materials_variants: Option<KhrMaterialsVariants>,
+    /// The extensions that are not known.
+    pub others: Map<String, Value>,
+}
+
+impl Object for Primitive {
+    ghost named = { extensions_of ObjectName.primitive };
+
+    ghost rows = { primitive_extension_rows };
+
+    ghost keeps = { true };
+
+    ghost members = { primitive_extension_members };
+
+    ghost unknown = { λ e. members_view e.others.entries };
+
+    ghost sound = { primitive_extension_sound };
+
+    fn decode_members(alloc: Global, found: Map<String, Value>) -> Result<Primitive, Error> {
+        let mut reading = Reading::from_members(alloc, found);
+        let khr_materials_variants = reading.optional("KHR_materials_variants");
+        let others = reading.others();
+        reading.finish(Primitive {
+            khr_materials_variants,
+            others,
+        })
+    }
+}
+
+impl Primitive {
+    /// No extension.
+    #[tactic(auto, unfolding(crate::specs::MeshTable::primitive_extension_rows, crate::specs::MeshTrees::primitive_extension_members))]
+    pub fn new(alloc: Global) -> Primitive
+        ensures known { primitive_extension_members result ≡ defaults primitive_extension_rows }
+        ensures unknown { members_view result.others.entries ≡ no_members }
+    {
+        Primitive {
+            khr_materials_variants: None,
+            others: Map::new(alloc),
+        }
+    }
+}
+
+/// Which material each variant gives a primitive (`KHR_materials_variants`).
+#[derive(Clone, Debug, Drop)]
+pub struct KhrMaterialsVariants {
+    pub mappings: Vec<Mapping>,
+}
+
+impl Object for KhrMaterialsVariants {
+    ghost named = { ObjectName.variant_mappings };
+
+    ghost rows = { variant_mappings_rows };
+
+    ghost keeps = { false };
+
+    ghost members = { variant_mappings_members };
+
+    ghost unknown = { λ _. no_members };
+
+    ghost sound = { variant_mappings_sound };
+
+    fn decode_members(
+        alloc: Global,
+        found: Map<String, Value>,
+    ) -> Result<KhrMaterialsVariants, Error> {
+        let mut reading = Reading::from_members(alloc, found);
+        let mappings = reading.required("mappings");
+        reading.finish(KhrMaterialsVariants { mappings })
+    }
+}
+
+impl KhrMaterialsVariants {
+    /// No mapping.
+    #[tactic(auto, unfolding(crate::specs::MeshTrees::variant_mappings_members))]
+    pub fn new(alloc: Global) -> KhrMaterialsVariants
+        ensures { variant_mappings_members result ≡ with_tree (list end) end }
+    {
+        KhrMaterialsVariants {
+            mappings: Vec::new(alloc),
+        }
+    }
+}
+
+/// The material that a primitive has under some variants.
+#[derive(Clone, Debug, Drop)]
+pub struct Mapping {
+    /// The number of the material.
+    pub material: u32,
+    /// The numbers of the variants.
+    pub variants: Vec<u32>,
+}
+
+impl Object for Mapping {
+    ghost named = { ObjectName.variant_mapping };
+
+    ghost rows = { variant_mapping_rows };
+
+    ghost keeps = { false };
+
+    ghost members = { variant_mapping_members };
+
+    ghost unknown = { λ _. no_members };
+
+    ghost sound = { variant_mapping_sound };
+
+    fn decode_members(alloc: Global, found: Map<String, Value>) -> Result<Mapping, Error> {
+        let mut reading = Reading::from_members(alloc, found);
+        let material = reading.required("material");
+        let variants = reading.required("variants");
+        reading.finish(Mapping { material, variants })
+    }
+}
+
+impl Mapping {
+    /// The first material, under no variant.
+    #[tactic(auto, unfolding(crate::specs::MeshTrees::variant_mapping_members))]
+    pub fn new(alloc: Global) -> Mapping
+        ensures { variant_mapping_members result ≡ with_tree (whole 0) (with_tree (list end) end) }
+    {
+        Mapping {
+            material: 0,
+            variants: Vec::new(alloc),
+        }
+    }
+}

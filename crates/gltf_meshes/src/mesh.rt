@@ -1,0 +1,153 @@
+//! Meshes, their primitives and morph targets (glTF 2.0, sections 5.23 and 5.24).
+
+ghost use Rattle.std.specs.Prelude.{◌≡◌, false};
+ghost use Rattle.serde_json.specs.Data.{no_members};
+ghost use Rattle.gltf_paths.specs.Lists.{meshes};
+ghost use Rattle.gltf_schema.specs.Kind.{ObjectName};
+ghost use Rattle.gltf_meshes.specs.MeshTable.{mesh_rows, mesh_sound, primitive_rows, primitive_sound, morph_target_rows, morph_target_sound};
+ghost use Rattle.gltf_meshes.specs.MeshTrees.{mesh_members, primitive_members, morph_target_members};
+
+use crate::extensions;
+use gltf_base::mesh::{Mode, Semantic};
+use gltf_base::validation::Checked;
+use gltf_base::{Index, Listed, Real};
+use gltf_data::accessor::Accessor;
+use gltf_data::extras::Extras;
+use gltf_materials::material::Material;
+use gltf_schema::{Error, Object, Reading};
+use serde_json::{Map, Value};
+use std::alloc::Global;
+use std::collections::BTreeMap;
+
+/// Geometry that nodes place in a scene.
+#[derive(Clone, Debug, Drop)]
+pub struct Mesh {
+    pub extensions: Option<extensions::mesh::Mesh>,
+    pub extras: Extras,
+    pub name: Option<String>,
+    /// The parts of the mesh; each is drawn by itself.
+    pub primitives: Vec<Primitive>,
+    /// How much of each morph target is added.
+    pub weights: Option<Vec<Real>>,
+}
+
+impl Listed for Mesh {
+    ghost list = { meshes };
+}
+
+impl Object for Mesh {
+    ghost named = { ObjectName.mesh };
+
+    ghost rows = { mesh_rows };
+
+    ghost keeps = { false };
+
+    ghost members = { mesh_members };
+
+    ghost unknown = { λ _. no_members };
+
+    ghost sound = { mesh_sound };
+
+    fn decode_members(alloc: Global, found: Map<String, Value>) -> Result<Mesh, Error> {
+        let mut reading = Reading::from_members(alloc, found);
+        let extensions = reading.optional("extensions");
+        let extras = reading.optional("extras");
+        let name = reading.optional("name");
+        let primitives = reading.required("primitives");
+        let weights = reading.optional("weights");
+        reading.finish(Mesh {
+            extensions,
+            extras,
+            name,
+            primitives,
+            weights,
+        })
+    }
+}
+
+/// A part of a mesh: what is drawn at once, with one material.
+#[derive(Clone, Debug, Drop)]
+pub struct Primitive {
+    /// The data of each vertex, by what it means.
+    pub attributes: BTreeMap<Checked<Semantic>, Index<Accessor>>,
+    pub extensions: Option<extensions::mesh::Primitive>,
+    pub extras: Extras,
+    /// The numbers of the vertices in the order in which they are drawn; without it all are, as they lie.
+    pub indices: Option<Index<Accessor>>,
+    pub material: Option<Index<Material>>,
+    /// What the vertices are drawn as.
+    pub mode: Checked<Mode>,
+    /// What can be added to the attributes, by the mesh's weights.
+    pub targets: Option<Vec<MorphTarget>>,
+}
+
+impl Object for Primitive {
+    ghost named = { ObjectName.primitive };
+
+    ghost rows = { primitive_rows };
+
+    ghost keeps = { false };
+
+    ghost members = { primitive_members };
+
+    ghost unknown = { λ _. no_members };
+
+    ghost sound = { primitive_sound };
+
+    fn decode_members(alloc: Global, found: Map<String, Value>) -> Result<Primitive, Error> {
+        let mut reading = Reading::from_members(alloc, found);
+        let attributes = reading.required("attributes");
+        let extensions = reading.optional("extensions");
+        let extras = reading.optional("extras");
+        let indices = reading.optional("indices");
+        let material = reading.optional("material");
+        let mode = reading.or_default("mode", Checked::Valid(Mode::Triangles));
+        let targets = reading.optional("targets");
+        reading.finish(Primitive {
+            attributes,
+            extensions,
+            extras,
+            indices,
+            material,
+            mode,
+            targets,
+        })
+    }
+}
+
+/// What a morph target adds to each vertex.
+#[derive(Clone, Debug, Drop)]
+pub struct MorphTarget {
+    /// What is added to `POSITION`.
+    pub positions: Option<Index<Accessor>>,
+    /// What is added to `NORMAL`.
+    pub normals: Option<Index<Accessor>>,
+    /// What is added to `TANGENT`.
+    pub tangents: Option<Index<Accessor>>,
+}
+
+impl Object for MorphTarget {
+    ghost named = { ObjectName.morph_target };
+
+    ghost rows = { morph_target_rows };
+
+    ghost keeps = { false };
+
+    ghost members = { morph_target_members };
+
+    ghost unknown = { λ _. no_members };
+
+    ghost sound = { morph_target_sound };
+
+    fn decode_members(alloc: Global, found: Map<String, Value>) -> Result<MorphTarget, Error> {
+        let mut reading = Reading::from_members(alloc, found);
+        let positions = reading.optional("POSITION");
+        let normals = reading.optional("NORMAL");
+        let tangents = reading.optional("TANGENT");
+        reading.finish(MorphTarget {
+            positions,
+            normals,
+            tangents,
+        })
+    }
+}

@@ -2,7 +2,7 @@
 //! what the crates below it hold, under the modules of the format.
 #![tactic(auto)]
 
-pub use gltf_base::{Index, Path, Real, animation, camera, mesh, path};
+pub use gltf_base::{Index, Path, Real, path};
 pub use gltf_parts::accessor::Accessor;
 pub use gltf_parts::buffer::Buffer;
 pub use gltf_parts::extras::Extras;
@@ -10,19 +10,27 @@ pub use gltf_parts::image::Image;
 pub use gltf_parts::material::Material;
 pub use gltf_parts::texture::Texture;
 pub use gltf_parts::{Error, Schema, accessor, buffer, extras, image, material, texture};
-pub use gltf_root::asset::Asset;
 pub use gltf_root::root::Root;
+pub use gltf_scene::animation::Animation;
+pub use gltf_scene::asset::Asset;
+pub use gltf_scene::camera::Camera;
+pub use gltf_scene::mesh::Mesh;
+pub use gltf_scene::scene::{Node, Scene};
+pub use gltf_scene::skin::Skin;
+pub use gltf_scene::{animation, asset, camera, mesh, scene, skin};
 pub use serde_json::Value;
-
-/// The document's own description.
-pub mod asset {
-    pub use gltf_root::asset::Asset;
-}
 
 /// Extension objects: what stands behind the member `extensions` of an object.
 pub mod extensions {
-    pub use gltf_base::extensions::scene;
     pub use gltf_parts::extensions::{accessor, buffer, image, material, texture};
+    pub use gltf_scene::extensions::{
+        ENABLED_EXTENSIONS, SUPPORTED_EXTENSIONS, animation, asset, camera, mesh, scene, skin,
+    };
+
+    /// Those of a whole document.
+    pub mod root {
+        pub use gltf_root::extensions::root::{KhrLightsPunctual, KhrMaterialsVariants, Root};
+    }
 }
 
 /// What holds of validation, as contracts of functions that do nothing.

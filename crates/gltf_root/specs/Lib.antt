@@ -1,7 +1,7 @@
-pub mod AssetTable
-pub mod AssetTrees
 pub mod RootTable
 pub mod RootTrees
+pub mod RootExtensionTable
+pub mod RootExtensionTrees
 pub mod Lists
 pub mod Items
 pub mod Device

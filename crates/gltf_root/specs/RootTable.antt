@@ -5,7 +5,7 @@ use Rattle.gltf_schema.specs.Kind.{required, unless, not_yet, Kind, Any, ListOf,
 use Rattle.gltf_data.specs.AccessorTable.{accessor_kind, accessor_sound}
 use Rattle.gltf_data.specs.BufferTable.{buffer_kind, buffer_sound, view_kind, view_sound}
 use Rattle.gltf_schema.specs.Plain.{are_sound}
-use Rattle.gltf_root.specs.AssetTable.{asset_kind, asset_sound}
+use Rattle.gltf_nodes.specs.AssetTable.{asset_kind, asset_sound}
 
 unfoldable pub root_rows : Rows
 root_rows =

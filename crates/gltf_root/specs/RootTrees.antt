@@ -4,7 +4,7 @@ use Rattle.gltf_schema.specs.Tree.{Tree, Trees, trees, absent}
 use Rattle.gltf_schema.specs.Fields.{list_tree, closed_object}
 use Rattle.gltf_data.specs.AccessorTrees.{accessor_members}
 use Rattle.gltf_data.specs.BufferTrees.{buffer_members, view_members}
-use Rattle.gltf_root.specs.AssetTrees.{asset_members}
+use Rattle.gltf_nodes.specs.AssetTrees.{asset_members}
 use Rattle.gltf_root.specs.declared.root.Root.{Root}
 
 unfoldable pub root_members : Root → Trees

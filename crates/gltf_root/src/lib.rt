@@ -1,5 +1,5 @@
 //! Whole glTF 2.0 documents: their lists, and how they are read from bytes and devices.
 #![tactic(auto)]
 
-pub mod asset;
+pub mod extensions;
 pub mod root;

@@ -6,10 +6,10 @@ ghost use Rattle.gltf_schema.specs.Kind.{ObjectName};
 ghost use Rattle.gltf_root.specs.RootTable.{root_rows, root_sound};
 ghost use Rattle.gltf_root.specs.RootTrees.{root_members};
 
-use crate::asset::Asset;
 use gltf_parts::accessor::Accessor;
 use gltf_parts::buffer::{Buffer, View};
 use gltf_parts::{Error, Object, Reading};
+use gltf_scene::asset::Asset;
 use serde_json::{Map, Value};
 use std::alloc::Global;
 

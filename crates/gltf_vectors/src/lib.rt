@@ -9,6 +9,6 @@ mod base;
 #[cfg(test)]
 mod lines;
 #[cfg(test)]
-mod parts;
+mod objects;
 #[cfg(test)]
 mod validation;

@@ -3,7 +3,10 @@
 
 mod answers;
 mod kept;
+mod marks;
 mod rows;
+mod scene_answers;
+mod scene_rows;
 
 use gltf_parts::{Error, Schema};
 use serde_json::Value;

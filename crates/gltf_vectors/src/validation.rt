@@ -74,12 +74,7 @@ fn root(alloc: Global, type_: Checked<Type>) -> Result<Root, AllocError> {
     accessors.push(accessor(type_))?;
     Ok(Root {
         accessors,
-        asset: Asset {
-            copyright: None,
-            generator: None,
-            min_version: None,
-            version: String::from_str(alloc, "2.0")?,
-        },
+        asset: Asset::new(alloc)?,
         buffers: Vec::new(alloc),
         buffer_views: Vec::new(alloc),
     })

@@ -1,19 +1,23 @@
 //! Whole documents.
 
-ghost use Rattle.std.specs.Prelude.{◌≡◌, Some};
+ghost use Rattle.std.specs.Prelude.{◌≡◌, Some, refl};
+ghost use Rattle.gltf_schema.specs.Extensions.{dropped_extensions};
 ghost use Rattle.gltf_schema.specs.Fields.{closed_object};
-ghost use Rattle.gltf_root.specs.AssetTable.{asset_kind};
-ghost use Rattle.gltf_root.specs.AssetTrees.{asset_members};
+ghost use Rattle.gltf_schema.specs.Kind.{ObjectName};
+ghost use Rattle.gltf_nodes.specs.AssetTable.{asset_kind};
+ghost use Rattle.gltf_nodes.specs.AssetTrees.{asset_members, asset_extensions};
 ghost use Rattle.gltf_root.specs.RootTable.{root_kind};
 ghost use Rattle.gltf_root.specs.RootTrees.{root_tree};
 ghost use Rattle.gltf_validation.specs.Walk.{no_reports};
 
 use super::Validate;
+use super::silent::Silent;
 use super::sink::{Sink, Stop};
 use super::within::member;
 use gltf_base::Steps;
-use gltf_root::asset::Asset;
 use gltf_root::root::Root;
+use gltf_scene::asset::Asset;
+use gltf_scene::extensions::asset as extensions;
 
 impl Validate for Asset {
     ghost kind = { Some asset_kind };
@@ -25,15 +29,22 @@ impl Validate for Asset {
     ghost depth = { 1 };
 
     /// Reports nothing.
-    #[tactic(auto, unfolding(gltf_root::specs::AssetTable::asset_rows, gltf_root::specs::AssetTrees::asset_members))]
     fn validate<'a, S: Sink>(
         &'a self,
-        _root: &Root,
-        _path: &mut Steps<'a>,
-        _sink: &mut S,
+        root: &Root,
+        path: &mut Steps<'a>,
+        sink: &mut S,
     ) -> Result<(), Stop<S::Refusal>> {
-        Ok(())
+        member(Ok(()), &self.extensions, "extensions", root, path, sink)
     }
+}
+
+impl Silent for extensions::Asset {
+    ghost kind = { Some (dropped_extensions ObjectName.asset) };
+
+    ghost tree = { asset_extensions };
+
+    ghost is_silent = { λ _ _ _. refl };
 }
 
 impl Validate for Root {

@@ -18,14 +18,20 @@ const NOT_GLTF: &str = "refused: not a glTF document\n";
 
 const NO_VIEW: &str = "accessors[0].bufferView: Missing data\n";
 
-const CASES: [Case; 21] = [
+const CASES: [Case; 23] = [
     ("{}", 3, NOT_GLTF),
     ("[]", 3, NOT_GLTF),
     ("", 2, NOT_JSON),
     (r#"{"asset":{"version":"2.0"}}"#, 0, CLEAN),
     (r#"{"asset":{"version":"2.0"}"#, 2, NOT_JSON),
     (r#"{"asset":{"version":"2.0"},"nodes":[]}"#, 3, NOT_GLTF),
-    (r#"{"asset":{"version":"2.0","extras":1}}"#, 3, NOT_GLTF),
+    (r#"{"asset":{"version":"2.0","extras":1}}"#, 0, CLEAN),
+    (
+        r#"{"asset":{"version":"2.0","extensions":{"EXT_x":1}}}"#,
+        0,
+        CLEAN,
+    ),
+    (r#"{"asset":{"version":"2.0","extensions":1}}"#, 3, NOT_GLTF),
     (
         r#"{"asset":{"version":"2.0"},"accessors":[{"count":1,"componentType":5126,"type":"VEC3"}]}"#,
         1,

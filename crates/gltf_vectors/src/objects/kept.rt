@@ -1,7 +1,9 @@
 //! Members that no row names: kept by some extension objects, and dropped elsewhere.
 
 use super::read;
+use gltf_json::extensions::root;
 use gltf_parts::extensions::{accessor, buffer, image, material, texture};
+use gltf_scene::extensions::{animation, camera, mesh, scene, skin};
 use serde_json::{Map, Value};
 use std::test::Fail;
 
@@ -49,5 +51,39 @@ fn by_extensions_of_references(rt: HostRuntime) -> Result<(), Fail> {
 #[test]
 fn by_glossiness(rt: HostRuntime) -> Result<(), Fail> {
     assert!(rt; is_kept(&read::<material::PbrSpecularGlossiness>(rt.alloc(), UNKNOWN)?.others));
+    Ok(())
+}
+
+#[test]
+fn by_extensions_of_cameras(rt: HostRuntime) -> Result<(), Fail> {
+    let alloc = rt.alloc();
+    assert!(rt; is_kept(&read::<camera::Camera>(alloc, UNKNOWN)?.others));
+    assert!(rt; is_kept(&read::<camera::Orthographic>(alloc, UNKNOWN)?.others));
+    assert!(rt; is_kept(&read::<camera::Perspective>(alloc, UNKNOWN)?.others));
+    Ok(())
+}
+
+#[test]
+fn by_extensions_of_meshes(rt: HostRuntime) -> Result<(), Fail> {
+    let alloc = rt.alloc();
+    assert!(rt; is_kept(&read::<mesh::Mesh>(alloc, UNKNOWN)?.others));
+    assert!(rt; is_kept(&read::<mesh::Primitive>(alloc, UNKNOWN)?.others));
+    Ok(())
+}
+
+#[test]
+fn by_extensions_of_scenes(rt: HostRuntime) -> Result<(), Fail> {
+    let alloc = rt.alloc();
+    assert!(rt; is_kept(&read::<scene::Node>(alloc, UNKNOWN)?.others));
+    assert!(rt; is_kept(&read::<scene::Scene>(alloc, UNKNOWN)?.others));
+    assert!(rt; is_kept(&read::<skin::Skin>(alloc, UNKNOWN)?.others));
+    Ok(())
+}
+
+#[test]
+fn by_extensions_of_documents(rt: HostRuntime) -> Result<(), Fail> {
+    let alloc = rt.alloc();
+    assert!(rt; is_kept(&read::<animation::Animation>(alloc, UNKNOWN)?.others));
+    assert!(rt; is_kept(&read::<root::Root>(alloc, UNKNOWN)?.others));
     Ok(())
 }

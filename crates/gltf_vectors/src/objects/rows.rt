@@ -1,79 +1,19 @@
-//! Each row's member left out and null, in an object that is otherwise as small as it can be.
+//! The rows of accessors, buffers, images, textures and materials.
 
+use super::marks::Mark::{Defaulted, Optional, Required};
+use super::marks::obeys;
 use gltf_parts::accessor::{Accessor, sparse};
 use gltf_parts::buffer::{Buffer, View};
+use gltf_parts::extensions;
 use gltf_parts::image::Image;
 use gltf_parts::material::{Material, NormalTexture, OcclusionTexture, PbrMetallicRoughness};
 use gltf_parts::texture::{Info, Sampler, Texture};
-use gltf_parts::{Error, Schema, extensions};
-use serde_json::{Map, Value};
-use std::alloc::Global;
 use std::test::Fail;
-
-/// What is expected where a row's member is left out, and where it is null.
-#[derive(Clone, Copy)]
-enum Mark {
-    /// Refused in both cases.
-    Required,
-    /// Read in both.
-    Optional,
-    /// Read where it is left out, and refused as null.
-    Defaulted,
-}
-
-use Mark::{Defaulted, Optional, Required};
-
-/// Whether an object of these members is read.
-fn is_read<T: Schema>(alloc: Global, members: Map<String, Value>) -> Result<bool, Fail> {
-    match T::decode(alloc, Value::Object(members)) {
-        Ok(_) => Ok(true),
-        Err(Error::Schema) => Ok(false),
-        Err(other) => Err(other)?,
-    }
-}
-
-/// The members of an object that is given as a text.
-fn members_of(alloc: Global, text: &str) -> Result<Map<String, Value>, Fail> {
-    match Value::from_str(alloc, text)? {
-        Value::Object(members) => Ok(members),
-        _ => Err("no object")?,
-    }
-}
-
-/// The first row whose member is not treated by its mark; `"{}"` where the least object is refused.
-fn wrong_row<T: Schema>(
-    alloc: Global,
-    least: &str,
-    rows: &[(&'static str, Mark)],
-) -> Result<Option<&'static str>, Fail> {
-    if !is_read::<T>(alloc, members_of(alloc, least)?)? {
-        return Ok(Some("{}"));
-    }
-    for (name, mark) in rows {
-        let mut left_out = members_of(alloc, least)?;
-        left_out.remove(*name);
-        let mut as_null = members_of(alloc, least)?;
-        as_null.insert(String::from_str(alloc, name)?, Value::Null)?;
-        let answers = (
-            is_read::<T>(alloc, left_out)?,
-            is_read::<T>(alloc, as_null)?,
-        );
-        let expected = match mark {
-            Required => (false, false),
-            Optional => (true, true),
-            Defaulted => (true, false),
-        };
-        if answers != expected {
-            return Ok(Some(*name));
-        }
-    }
-    Ok(None)
-}
 
 #[test]
 fn of_accessors(rt: HostRuntime) -> Result<(), Fail> {
     let alloc = rt.alloc();
-    let accessor = wrong_row::<Accessor>(
+    obeys::<Accessor>(
         alloc,
         r#"{"count":1,"componentType":5126,"type":"VEC3"}"#,
         &[
@@ -91,14 +31,13 @@ fn of_accessors(rt: HostRuntime) -> Result<(), Fail> {
             ("extras", Optional),
         ],
     )?;
-    assert_eq!(rt; accessor, None);
     Ok(())
 }
 
 #[test]
 fn of_sparse_storage(rt: HostRuntime) -> Result<(), Fail> {
     let alloc = rt.alloc();
-    let storage = wrong_row::<sparse::Sparse>(
+    obeys::<sparse::Sparse>(
         alloc,
         r#"{"count":1,"indices":{"bufferView":0,"componentType":5123},"values":{"bufferView":0}}"#,
         &[
@@ -109,8 +48,7 @@ fn of_sparse_storage(rt: HostRuntime) -> Result<(), Fail> {
             ("extras", Optional),
         ],
     )?;
-    assert_eq!(rt; storage, None);
-    let indices = wrong_row::<sparse::Indices>(
+    obeys::<sparse::Indices>(
         alloc,
         r#"{"bufferView":0,"componentType":5123}"#,
         &[
@@ -121,8 +59,7 @@ fn of_sparse_storage(rt: HostRuntime) -> Result<(), Fail> {
             ("extras", Optional),
         ],
     )?;
-    assert_eq!(rt; indices, None);
-    let values = wrong_row::<sparse::Values>(
+    obeys::<sparse::Values>(
         alloc,
         r#"{"bufferView":0}"#,
         &[
@@ -132,14 +69,13 @@ fn of_sparse_storage(rt: HostRuntime) -> Result<(), Fail> {
             ("extras", Optional),
         ],
     )?;
-    assert_eq!(rt; values, None);
     Ok(())
 }
 
 #[test]
 fn of_buffers_and_images(rt: HostRuntime) -> Result<(), Fail> {
     let alloc = rt.alloc();
-    let buffer = wrong_row::<Buffer>(
+    obeys::<Buffer>(
         alloc,
         "{}",
         &[
@@ -150,8 +86,7 @@ fn of_buffers_and_images(rt: HostRuntime) -> Result<(), Fail> {
             ("extras", Optional),
         ],
     )?;
-    assert_eq!(rt; buffer, None);
-    let view = wrong_row::<View>(
+    obeys::<View>(
         alloc,
         r#"{"buffer":0,"byteLength":1}"#,
         &[
@@ -165,8 +100,7 @@ fn of_buffers_and_images(rt: HostRuntime) -> Result<(), Fail> {
             ("extras", Optional),
         ],
     )?;
-    assert_eq!(rt; view, None);
-    let image = wrong_row::<Image>(
+    obeys::<Image>(
         alloc,
         "{}",
         &[
@@ -178,14 +112,13 @@ fn of_buffers_and_images(rt: HostRuntime) -> Result<(), Fail> {
             ("extras", Optional),
         ],
     )?;
-    assert_eq!(rt; image, None);
     Ok(())
 }
 
 #[test]
 fn of_textures(rt: HostRuntime) -> Result<(), Fail> {
     let alloc = rt.alloc();
-    let sampler = wrong_row::<Sampler>(
+    obeys::<Sampler>(
         alloc,
         "{}",
         &[
@@ -198,8 +131,7 @@ fn of_textures(rt: HostRuntime) -> Result<(), Fail> {
             ("extras", Optional),
         ],
     )?;
-    assert_eq!(rt; sampler, None);
-    let texture = wrong_row::<Texture>(
+    obeys::<Texture>(
         alloc,
         "{}",
         &[
@@ -210,14 +142,13 @@ fn of_textures(rt: HostRuntime) -> Result<(), Fail> {
             ("extras", Optional),
         ],
     )?;
-    assert_eq!(rt; texture, None);
     Ok(())
 }
 
 #[test]
 fn of_references_to_textures(rt: HostRuntime) -> Result<(), Fail> {
     let alloc = rt.alloc();
-    let info = wrong_row::<Info>(
+    obeys::<Info>(
         alloc,
         r#"{"index":0}"#,
         &[
@@ -227,8 +158,7 @@ fn of_references_to_textures(rt: HostRuntime) -> Result<(), Fail> {
             ("extras", Optional),
         ],
     )?;
-    assert_eq!(rt; info, None);
-    let normal = wrong_row::<NormalTexture>(
+    obeys::<NormalTexture>(
         alloc,
         r#"{"index":0}"#,
         &[
@@ -239,8 +169,7 @@ fn of_references_to_textures(rt: HostRuntime) -> Result<(), Fail> {
             ("extras", Optional),
         ],
     )?;
-    assert_eq!(rt; normal, None);
-    let occlusion = wrong_row::<OcclusionTexture>(
+    obeys::<OcclusionTexture>(
         alloc,
         r#"{"index":0}"#,
         &[
@@ -251,14 +180,13 @@ fn of_references_to_textures(rt: HostRuntime) -> Result<(), Fail> {
             ("extras", Optional),
         ],
     )?;
-    assert_eq!(rt; occlusion, None);
     Ok(())
 }
 
 #[test]
 fn of_materials(rt: HostRuntime) -> Result<(), Fail> {
     let alloc = rt.alloc();
-    let material = wrong_row::<Material>(
+    obeys::<Material>(
         alloc,
         "{}",
         &[
@@ -275,8 +203,7 @@ fn of_materials(rt: HostRuntime) -> Result<(), Fail> {
             ("extras", Optional),
         ],
     )?;
-    assert_eq!(rt; material, None);
-    let metallic = wrong_row::<PbrMetallicRoughness>(
+    obeys::<PbrMetallicRoughness>(
         alloc,
         "{}",
         &[
@@ -289,20 +216,14 @@ fn of_materials(rt: HostRuntime) -> Result<(), Fail> {
             ("extras", Optional),
         ],
     )?;
-    assert_eq!(rt; metallic, None);
     Ok(())
 }
 
 #[test]
 fn of_extensions_of_objects(rt: HostRuntime) -> Result<(), Fail> {
     let alloc = rt.alloc();
-    let info = wrong_row::<extensions::texture::Info>(
-        alloc,
-        "{}",
-        &[("KHR_texture_transform", Optional)],
-    )?;
-    assert_eq!(rt; info, None);
-    let material = wrong_row::<extensions::material::Material>(
+    obeys::<extensions::texture::Info>(alloc, "{}", &[("KHR_texture_transform", Optional)])?;
+    obeys::<extensions::material::Material>(
         alloc,
         "{}",
         &[
@@ -315,14 +236,13 @@ fn of_extensions_of_objects(rt: HostRuntime) -> Result<(), Fail> {
             ("KHR_materials_emissive_strength", Optional),
         ],
     )?;
-    assert_eq!(rt; material, None);
     Ok(())
 }
 
 #[test]
 fn of_texture_extensions(rt: HostRuntime) -> Result<(), Fail> {
     let alloc = rt.alloc();
-    let transform = wrong_row::<extensions::texture::TextureTransform>(
+    obeys::<extensions::texture::TextureTransform>(
         alloc,
         "{}",
         &[
@@ -333,8 +253,7 @@ fn of_texture_extensions(rt: HostRuntime) -> Result<(), Fail> {
             ("extras", Optional),
         ],
     )?;
-    assert_eq!(rt; transform, None);
-    let glossiness = wrong_row::<extensions::material::PbrSpecularGlossiness>(
+    obeys::<extensions::material::PbrSpecularGlossiness>(
         alloc,
         "{}",
         &[
@@ -346,14 +265,13 @@ fn of_texture_extensions(rt: HostRuntime) -> Result<(), Fail> {
             ("extras", Optional),
         ],
     )?;
-    assert_eq!(rt; glossiness, None);
     Ok(())
 }
 
 #[test]
 fn of_light_and_bodies(rt: HostRuntime) -> Result<(), Fail> {
     let alloc = rt.alloc();
-    let transmission = wrong_row::<extensions::material::Transmission>(
+    obeys::<extensions::material::Transmission>(
         alloc,
         "{}",
         &[
@@ -362,8 +280,7 @@ fn of_light_and_bodies(rt: HostRuntime) -> Result<(), Fail> {
             ("extras", Optional),
         ],
     )?;
-    assert_eq!(rt; transmission, None);
-    let volume = wrong_row::<extensions::material::Volume>(
+    obeys::<extensions::material::Volume>(
         alloc,
         "{}",
         &[
@@ -374,8 +291,7 @@ fn of_light_and_bodies(rt: HostRuntime) -> Result<(), Fail> {
             ("extras", Optional),
         ],
     )?;
-    assert_eq!(rt; volume, None);
-    let specular = wrong_row::<extensions::material::Specular>(
+    obeys::<extensions::material::Specular>(
         alloc,
         "{}",
         &[
@@ -386,40 +302,21 @@ fn of_light_and_bodies(rt: HostRuntime) -> Result<(), Fail> {
             ("extras", Optional),
         ],
     )?;
-    assert_eq!(rt; specular, None);
     Ok(())
 }
 
 #[test]
 fn of_small_extensions(rt: HostRuntime) -> Result<(), Fail> {
     let alloc = rt.alloc();
-    let ior = wrong_row::<extensions::material::Ior>(
-        alloc,
-        "{}",
-        &[("ior", Defaulted), ("extras", Optional)],
-    )?;
-    assert_eq!(rt; ior, None);
-    let strength = wrong_row::<extensions::material::EmissiveStrength>(
+    obeys::<extensions::material::Ior>(alloc, "{}", &[("ior", Defaulted), ("extras", Optional)])?;
+    obeys::<extensions::material::EmissiveStrength>(
         alloc,
         "{}",
         &[("emissiveStrength", Defaulted)],
     )?;
-    assert_eq!(rt; strength, None);
-    assert_eq!(rt;
-        wrong_row::<extensions::material::Unlit>(alloc, "{}", &[])?,
-        None
-    );
-    assert_eq!(rt;
-        wrong_row::<extensions::accessor::sparse::Sparse>(alloc, "{}", &[])?,
-        None
-    );
-    assert_eq!(rt;
-        wrong_row::<extensions::accessor::sparse::Indices>(alloc, "{}", &[])?,
-        None
-    );
-    assert_eq!(rt;
-        wrong_row::<extensions::accessor::sparse::Values>(alloc, "{}", &[])?,
-        None
-    );
+    obeys::<extensions::material::Unlit>(alloc, "{}", &[])?;
+    obeys::<extensions::accessor::sparse::Sparse>(alloc, "{}", &[])?;
+    obeys::<extensions::accessor::sparse::Indices>(alloc, "{}", &[])?;
+    obeys::<extensions::accessor::sparse::Values>(alloc, "{}", &[])?;
     Ok(())
 }

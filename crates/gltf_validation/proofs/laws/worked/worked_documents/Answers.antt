@@ -2,7 +2,7 @@
 use Rattle.std.proofs.Common.{refl}
 use Rattle.gltf_data.specs.AccessorTable.{accessor_rows}
 use Rattle.gltf_data.specs.BufferTable.{buffer_rows, view_rows}
-use Rattle.gltf_root.specs.AssetTable.{asset_rows}
+use Rattle.gltf_nodes.specs.AssetTable.{asset_rows}
 use Rattle.gltf_root.specs.RootTable.{root_rows}
 use Rattle.gltf_validation.proofs.laws.worked.worked_documents.Goals as goal
 

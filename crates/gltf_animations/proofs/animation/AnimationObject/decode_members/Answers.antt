@@ -1,0 +1,15 @@
+-- Each row is read in the table's order.
+use Rattle.gltf_schema.proofs.RowByRow.{all_read, read_none, read_row}
+use Rattle.gltf_animations.specs.AnimationTable.{animation_rows}
+use Rattle.gltf_animations.specs.AnimationTrees.{animation_members}
+use Rattle.gltf_animations.proofs.animation.AnimationObject.decode_members.Goals as goal
+
+pub returns : goal.returns
+unfolding animation_rows animation_members
+returns c =
+    all_read animation_members c.from_members-reading.ensures
+    (read_row c.list-samplers.ensures
+    (read_row c.list-channels.ensures
+    (read_row c.optional-name.ensures.left_out
+    (read_row c.optional-extensions.ensures.left_out
+    (read_row c.optional-extras.ensures.left_out read_none))))) c.finish.ensures

@@ -1,0 +1,14 @@
+-- Each row is read in the table's order.
+use Rattle.gltf_schema.proofs.RowByRow.{all_read, read_none, read_row, sampler_read}
+use Rattle.gltf_animations.specs.AnimationTable.{animation_channel_rows}
+use Rattle.gltf_animations.specs.AnimationTrees.{animation_channel_members}
+use Rattle.gltf_animations.proofs.animation.ChannelObject.decode_members.Goals as goal
+
+pub returns : goal.returns
+unfolding animation_channel_rows animation_channel_members
+returns c =
+    all_read animation_channel_members c.from_members-reading.ensures
+    (read_row (sampler_read c.new.ensures c.required-sampler.ensures)
+    (read_row c.required-target.ensures
+    (read_row c.optional-extensions.ensures.left_out
+    (read_row c.optional-extras.ensures.left_out read_none)))) c.finish.ensures

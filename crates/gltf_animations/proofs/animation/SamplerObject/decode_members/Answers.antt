@@ -1,0 +1,15 @@
+-- Each row is read in the table's order.
+use Rattle.gltf_schema.proofs.RowByRow.{all_read, read_none, read_row}
+use Rattle.gltf_animations.specs.AnimationTable.{animation_sampler_rows}
+use Rattle.gltf_animations.specs.AnimationTrees.{animation_sampler_members}
+use Rattle.gltf_animations.proofs.animation.SamplerObject.decode_members.Goals as goal
+
+pub returns : goal.returns
+unfolding animation_sampler_rows animation_sampler_members
+returns c =
+    all_read animation_sampler_members c.from_members-reading.ensures
+    (read_row c.required-input.ensures
+    (read_row c.or_default-interpolation.ensures.always
+    (read_row c.required-output.ensures
+    (read_row c.optional-extensions.ensures.left_out
+    (read_row c.optional-extras.ensures.left_out read_none))))) c.finish.ensures

@@ -1,0 +1,14 @@
+-- Each row is read in the table's order.
+use Rattle.gltf_schema.proofs.RowByRow.{all_read, read_none, read_row}
+use Rattle.gltf_animations.specs.AnimationTable.{animation_target_rows}
+use Rattle.gltf_animations.specs.AnimationTrees.{animation_target_members}
+use Rattle.gltf_animations.proofs.animation.TargetObject.decode_members.Goals as goal
+
+pub returns : goal.returns
+unfolding animation_target_rows animation_target_members
+returns c =
+    all_read animation_target_members c.from_members-reading.ensures
+    (read_row c.required-node.ensures
+    (read_row c.required-path.ensures
+    (read_row c.optional-extensions.ensures.left_out
+    (read_row c.optional-extras.ensures.left_out read_none)))) c.finish.ensures

@@ -1,0 +1,2 @@
+pub mod AnimationTable
+pub mod AnimationTrees

@@ -1,0 +1,198 @@
+//! Animations (glTF 2.0, sections 5.5 to 5.8).
+
+ghost use Rattle.std.specs.Prelude.{false};
+ghost use Rattle.serde_json.specs.Data.{no_members};
+ghost use Rattle.gltf_paths.specs.Lists.{animations};
+ghost use Rattle.gltf_schema.specs.Kind.{ObjectName};
+ghost use Rattle.gltf_animations.specs.AnimationTable.{animation_rows, animation_sound, animation_channel_rows, animation_channel_sound, animation_target_rows, animation_target_sound, animation_sampler_rows, animation_sampler_sound};
+ghost use Rattle.gltf_animations.specs.AnimationTrees.{animation_members, animation_channel_members, animation_target_members, animation_sampler_members};
+
+use crate::extensions;
+use gltf_base::animation::{Interpolation, Property};
+use gltf_base::validation::Checked;
+use gltf_base::{Index, Listed};
+use gltf_data::accessor::Accessor;
+use gltf_data::extras::Extras;
+use gltf_nodes::scene::Node;
+use gltf_schema::{Blank, Error, Object, Reading};
+use serde_json::{Map, Value};
+use std::alloc::Global;
+
+/// What moves nodes over time.
+#[derive(Clone, Debug, Drop)]
+pub struct Animation {
+    /// How values are found between times; the channels name them by their numbers.
+    pub samplers: Vec<Sampler>,
+    /// What is moved, and by which of the samplers.
+    pub channels: Vec<Channel>,
+    pub name: Option<String>,
+    pub extensions: Option<extensions::animation::Animation>,
+    pub extras: Extras,
+}
+
+impl Listed for Animation {
+    ghost list = { animations };
+}
+
+impl Object for Animation {
+    ghost named = { ObjectName.animation };
+
+    ghost rows = { animation_rows };
+
+    ghost keeps = { false };
+
+    ghost members = { animation_members };
+
+    ghost unknown = { λ _. no_members };
+
+    ghost sound = { animation_sound };
+
+    fn decode_members(alloc: Global, found: Map<String, Value>) -> Result<Animation, Error> {
+        let mut reading = Reading::from_members(alloc, found);
+        let samplers = reading.list("samplers");
+        let channels = reading.list("channels");
+        let name = reading.optional("name");
+        let extensions = reading.optional("extensions");
+        let extras = reading.optional("extras");
+        reading.finish(Animation {
+            samplers,
+            channels,
+            name,
+            extensions,
+            extras,
+        })
+    }
+}
+
+/// A property of a node, and the sampler that it follows.
+#[derive(Clone, Debug, Drop)]
+pub struct Channel {
+    /// The sampler, one of the same animation's.
+    pub sampler: Index<Sampler>,
+    pub target: Target,
+    pub extensions: Option<extensions::animation::Channel>,
+    pub extras: Extras,
+}
+
+impl Object for Channel {
+    ghost named = { ObjectName.animation_channel };
+
+    ghost rows = { animation_channel_rows };
+
+    ghost keeps = { false };
+
+    ghost members = { animation_channel_members };
+
+    ghost unknown = { λ _. no_members };
+
+    ghost sound = { animation_channel_sound };
+
+    fn decode_members(alloc: Global, found: Map<String, Value>) -> Result<Channel, Error> {
+        let mut reading = Reading::from_members(alloc, found);
+        let sampler: u32 = reading.required("sampler");
+        let target = reading.required("target");
+        let extensions = reading.optional("extensions");
+        let extras = reading.optional("extras");
+        reading.finish(Channel {
+            sampler: Index::new(sampler),
+            target,
+            extensions,
+            extras,
+        })
+    }
+}
+
+/// A property of a node.
+#[derive(Clone, Debug, Drop)]
+pub struct Target {
+    pub node: Index<Node>,
+    /// The property.
+    pub path: Checked<Property>,
+    pub extensions: Option<extensions::animation::Target>,
+    pub extras: Extras,
+}
+
+impl Object for Target {
+    ghost named = { ObjectName.animation_target };
+
+    ghost rows = { animation_target_rows };
+
+    ghost keeps = { false };
+
+    ghost members = { animation_target_members };
+
+    ghost unknown = { λ _. no_members };
+
+    ghost sound = { animation_target_sound };
+
+    fn decode_members(alloc: Global, found: Map<String, Value>) -> Result<Target, Error> {
+        let mut reading = Reading::from_members(alloc, found);
+        let node = reading.required("node");
+        let path = reading.required("path");
+        let extensions = reading.optional("extensions");
+        let extras = reading.optional("extras");
+        reading.finish(Target {
+            node,
+            path,
+            extensions,
+            extras,
+        })
+    }
+}
+
+impl Blank for Target {
+    fn blank(_alloc: Global) -> Target {
+        Target {
+            node: Index::new(0),
+            path: Checked::Invalid,
+            extensions: None,
+            extras: None,
+        }
+    }
+}
+
+/// How values are found between the times at which they are given.
+#[derive(Clone, Debug, Drop)]
+pub struct Sampler {
+    /// The times, in seconds.
+    pub input: Index<Accessor>,
+    /// What lies between two of them.
+    pub interpolation: Checked<Interpolation>,
+    /// The values at these times.
+    pub output: Index<Accessor>,
+    pub extensions: Option<extensions::animation::Sampler>,
+    pub extras: Extras,
+}
+
+impl Object for Sampler {
+    ghost named = { ObjectName.animation_sampler };
+
+    ghost rows = { animation_sampler_rows };
+
+    ghost keeps = { false };
+
+    ghost members = { animation_sampler_members };
+
+    ghost unknown = { λ _. no_members };
+
+    ghost sound = { animation_sampler_sound };
+
+    fn decode_members(alloc: Global, found: Map<String, Value>) -> Result<Sampler, Error> {
+        let mut reading = Reading::from_members(alloc, found);
+        let input = reading.required("input");
+        let interpolation = reading.or_default(
+            "interpolation",
+            Checked::Valid(Interpolation::Linear),
+        );
+        let output = reading.required("output");
+        let extensions = reading.optional("extensions");
+        let extras = reading.optional("extras");
+        reading.finish(Sampler {
+            input,
+            interpolation,
+            output,
+            extensions,
+            extras,
+        })
+    }
+}

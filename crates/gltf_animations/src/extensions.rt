@@ -1,0 +1,3 @@
+//! Extension objects of animations: what stands behind their member `extensions`.
+
+pub mod animation;

@@ -1,0 +1,16 @@
+-- Each row is read in the table's order.
+use Rattle.gltf_schema.proofs.RowByRow.{all_read, read_none, read_row}
+use Rattle.gltf_nodes.specs.CameraTable.{camera_rows}
+use Rattle.gltf_nodes.specs.CameraTrees.{camera_members}
+use Rattle.gltf_nodes.proofs.camera.CameraObject.decode_members.Goals as goal
+
+pub returns : goal.returns
+unfolding camera_rows camera_members
+returns c =
+    all_read camera_members c.from_members-reading.ensures
+    (read_row c.optional-name.ensures.left_out
+    (read_row c.optional-orthographic.ensures.left_out
+    (read_row c.optional-perspective.ensures.left_out
+    (read_row c.required-type_.ensures
+    (read_row c.optional-extensions.ensures.left_out
+    (read_row c.optional-extras.ensures.left_out read_none)))))) c.finish.ensures

@@ -1,0 +1,16 @@
+-- Each row is read in the table's order.
+use Rattle.gltf_schema.proofs.RowByRow.{all_read, read_none, read_row}
+use Rattle.gltf_nodes.specs.CameraTable.{orthographic_rows}
+use Rattle.gltf_nodes.specs.CameraTrees.{orthographic_members}
+use Rattle.gltf_nodes.proofs.camera.OrthographicObject.decode_members.Goals as goal
+
+pub returns : goal.returns
+unfolding orthographic_rows orthographic_members
+returns c =
+    all_read orthographic_members c.from_members-reading.ensures
+    (read_row c.required-xmag.ensures
+    (read_row c.required-ymag.ensures
+    (read_row c.required-zfar.ensures
+    (read_row c.required-znear.ensures
+    (read_row c.optional-extensions.ensures.left_out
+    (read_row c.optional-extras.ensures.left_out read_none)))))) c.finish.ensures

@@ -1,0 +1,16 @@
+-- Each row is read in the table's order.
+use Rattle.gltf_schema.proofs.RowByRow.{all_read, read_none, read_row}
+use Rattle.gltf_nodes.specs.CameraTable.{perspective_rows}
+use Rattle.gltf_nodes.specs.CameraTrees.{perspective_members}
+use Rattle.gltf_nodes.proofs.camera.PerspectiveObject.decode_members.Goals as goal
+
+pub returns : goal.returns
+unfolding perspective_rows perspective_members
+returns c =
+    all_read perspective_members c.from_members-reading.ensures
+    (read_row c.optional-aspect_ratio.ensures.left_out
+    (read_row c.required-yfov.ensures
+    (read_row c.optional-zfar.ensures.left_out
+    (read_row c.required-znear.ensures
+    (read_row c.optional-extensions.ensures.left_out
+    (read_row c.optional-extras.ensures.left_out read_none)))))) c.finish.ensures

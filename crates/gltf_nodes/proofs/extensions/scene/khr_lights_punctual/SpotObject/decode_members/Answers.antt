@@ -1,0 +1,12 @@
+-- Each row is read in the table's order.
+use Rattle.gltf_schema.proofs.RowByRow.{all_read, read_none, read_row}
+use Rattle.gltf_nodes.specs.LightTable.{spot_rows}
+use Rattle.gltf_nodes.specs.LightTrees.{spot_members}
+use Rattle.gltf_nodes.proofs.extensions.scene.khr_lights_punctual.SpotObject.decode_members.Goals as goal
+
+pub returns : goal.returns
+unfolding spot_rows spot_members
+returns c =
+    all_read spot_members c.from_members-reading.ensures
+    (read_row c.sometimes-inner_cone_angle.ensures
+    (read_row c.sometimes-outer_cone_angle.ensures read_none)) c.finish.ensures

@@ -1,0 +1,11 @@
+-- Each row is read in the table's order.
+use Rattle.gltf_schema.proofs.RowByRow.{all_read, read_none, read_row}
+use Rattle.gltf_nodes.specs.LightTable.{variant_rows}
+use Rattle.gltf_nodes.specs.LightTrees.{variant_members}
+use Rattle.gltf_nodes.proofs.extensions.scene.khr_materials_variants.VariantObject.decode_members.Goals as goal
+
+pub returns : goal.returns
+unfolding variant_rows variant_members
+returns c =
+    all_read variant_members c.from_members-reading.ensures
+    (read_row c.required-name.ensures read_none) c.finish.ensures

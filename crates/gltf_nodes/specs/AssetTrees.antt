@@ -1,0 +1,24 @@
+-- The members of a document's own description, in the rows' order.
+use Rattle.std.specs.Prelude.{ℕ, List, [], ◌∷◌}
+use Rattle.serde_json.specs.Data.{no_members}
+use Rattle.gltf_schema.specs.Tree.{Tree, Trees, trees, tree_or_absent, absent, text, object}
+use Rattle.gltf_schema.specs.Fields.{text_tree, any_tree}
+use Rattle.gltf_nodes.specs.declared.asset.Asset.{Asset}
+use Rattle.gltf_nodes.specs.declared.extensions.asset.Asset.{Asset as AssetExtensions}
+
+abbrev pub asset_extensions : AssetExtensions → Tree
+asset_extensions e = object (trees []) no_members
+
+unfoldable pub asset_members : Asset → Trees
+asset_members v = trees (
+    tree_or_absent text_tree v.copyright
+    ∷ tree_or_absent text_tree v.generator
+    ∷ tree_or_absent text_tree v.min_version
+    ∷ text_tree v.version
+    ∷ tree_or_absent asset_extensions v.extensions
+    ∷ tree_or_absent any_tree v.extras
+    ∷ [])
+
+-- a version and nothing else
+abbrev pub asset_of_version : List ℕ → Trees
+asset_of_version version = trees (absent ∷ absent ∷ absent ∷ text version ∷ absent ∷ absent ∷ [])

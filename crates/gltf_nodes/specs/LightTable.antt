@@ -1,0 +1,69 @@
+-- The rows of lights, by KHR_lights_punctual, and of variants, by KHR_materials_variants.
+use Rattle.std.specs.Prelude.{◌≡◌, true, false, codes, refl}
+use Rattle.gltf_paths.specs.Lists.{lights}
+use Rattle.gltf_choices.specs.SceneChoices.{light_type_spelling, light_types}
+use Rattle.gltf_checked.specs.declared.choice.Form.TheVariants as form
+use Rattle.gltf_schema.specs.Kind.{required, optional, sometimes, Kind, IndexInto, Number, Numbers, Text, Any, Object, ObjectName, Rows, no_rows, ◌◂◌}
+use Rattle.gltf_schema.specs.Leaves.{choice_of}
+use Rattle.gltf_schema.specs.Plain.{are_sound}
+
+abbrev pub light_type_kind : Kind
+light_type_kind = choice_of form.Name light_type_spelling light_types
+
+unfoldable pub light_of_node_rows : Rows
+light_of_node_rows =
+    (codes "light", required, IndexInto lights)
+    ◂ no_rows
+
+abbrev pub light_of_node_kind : Kind
+light_of_node_kind = Object ObjectName.light_of_node light_of_node_rows false
+
+unfoldable pub spot_rows : Rows
+spot_rows =
+    (codes "innerConeAngle", sometimes, Number)
+    ◂ (codes "outerConeAngle", sometimes, Number)
+    ◂ no_rows
+
+abbrev pub spot_kind : Kind
+spot_kind = Object ObjectName.spot spot_rows false
+
+unfoldable pub light_rows : Rows
+light_rows =
+    (codes "color", sometimes, Numbers 3)
+    ◂ (codes "extensions", optional, Any)
+    ◂ (codes "extras", optional, Any)
+    ◂ (codes "intensity", sometimes, Number)
+    ◂ (codes "name", optional, Text)
+    ◂ (codes "range", optional, Number)
+    ◂ (codes "spot", optional, spot_kind)
+    ◂ (codes "type", required, light_type_kind)
+    ◂ no_rows
+
+abbrev pub light_kind : Kind
+light_kind = Object ObjectName.light light_rows false
+
+unfoldable pub variant_rows : Rows
+variant_rows =
+    (codes "name", required, Text)
+    ◂ no_rows
+
+abbrev pub variant_kind : Kind
+variant_kind = Object ObjectName.variant variant_rows false
+
+-- ---- the rows are sound
+
+pub light_of_node_sound : are_sound light_of_node_rows ≡ true
+unfolding light_of_node_rows
+light_of_node_sound = refl
+
+pub spot_sound : are_sound spot_rows ≡ true
+unfolding spot_rows
+spot_sound = refl
+
+pub light_sound : are_sound light_rows ≡ true
+unfolding light_rows
+light_sound = rw spot_sound refl
+
+pub variant_sound : are_sound variant_rows ≡ true
+unfolding variant_rows
+variant_sound = refl

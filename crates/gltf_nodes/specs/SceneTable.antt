@@ -1,0 +1,77 @@
+-- The rows of nodes, scenes and skins (glTF 2.0, sections 5.25, 5.27 and 5.28).
+use Rattle.std.specs.Prelude.{◌≡◌, true, false, codes, refl}
+use Rattle.gltf_paths.specs.Lists.{accessors, cameras, meshes, nodes, skins}
+use Rattle.gltf_schema.specs.Tree.{list, end}
+use Rattle.gltf_schema.specs.Kind.{optional, unless, Kind, IndexInto, Number, Numbers, Text, Any, ListOf, Object, ObjectName, extensions_of, Rows, no_rows, ◌◂◌}
+use Rattle.gltf_schema.specs.Extensions.{kept_extensions}
+use Rattle.gltf_nodes.specs.LightTable.{light_of_node_kind, light_of_node_sound}
+use Rattle.gltf_schema.specs.Plain.{are_sound}
+
+unfoldable pub node_extension_rows : Rows
+node_extension_rows =
+    (codes "KHR_lights_punctual", optional, light_of_node_kind)
+    ◂ no_rows
+
+abbrev pub node_extensions_kind : Kind
+node_extensions_kind = Object (extensions_of ObjectName.node) node_extension_rows true
+
+unfoldable pub node_rows : Rows
+node_rows =
+    (codes "camera", optional, IndexInto cameras)
+    ◂ (codes "children", optional, ListOf (IndexInto nodes))
+    ◂ (codes "extensions", optional, node_extensions_kind)
+    ◂ (codes "extras", optional, Any)
+    ◂ (codes "matrix", optional, Numbers 16)
+    ◂ (codes "mesh", optional, IndexInto meshes)
+    ◂ (codes "name", optional, Text)
+    ◂ (codes "rotation", optional, Numbers 4)
+    ◂ (codes "scale", optional, Numbers 3)
+    ◂ (codes "translation", optional, Numbers 3)
+    ◂ (codes "skin", optional, IndexInto skins)
+    ◂ (codes "weights", optional, ListOf Number)
+    ◂ no_rows
+
+abbrev pub node_kind : Kind
+node_kind = Object ObjectName.node node_rows false
+
+unfoldable pub scene_rows : Rows
+scene_rows =
+    (codes "extensions", optional, kept_extensions ObjectName.scene)
+    ◂ (codes "extras", optional, Any)
+    ◂ (codes "name", optional, Text)
+    ◂ (codes "nodes", unless (list end), ListOf (IndexInto nodes))
+    ◂ no_rows
+
+abbrev pub scene_kind : Kind
+scene_kind = Object ObjectName.scene scene_rows false
+
+unfoldable pub skin_rows : Rows
+skin_rows =
+    (codes "extensions", optional, kept_extensions ObjectName.skin)
+    ◂ (codes "extras", optional, Any)
+    ◂ (codes "inverseBindMatrices", optional, IndexInto accessors)
+    ◂ (codes "joints", unless (list end), ListOf (IndexInto nodes))
+    ◂ (codes "name", optional, Text)
+    ◂ (codes "skeleton", optional, IndexInto nodes)
+    ◂ no_rows
+
+abbrev pub skin_kind : Kind
+skin_kind = Object ObjectName.skin skin_rows false
+
+-- ---- the rows are sound
+
+pub node_extension_sound : are_sound node_extension_rows ≡ true
+unfolding node_extension_rows
+node_extension_sound = rw light_of_node_sound refl
+
+pub node_sound : are_sound node_rows ≡ true
+unfolding node_rows
+node_sound = rw node_extension_sound refl
+
+pub scene_sound : are_sound scene_rows ≡ true
+unfolding scene_rows
+scene_sound = refl
+
+pub skin_sound : are_sound skin_rows ≡ true
+unfolding skin_rows
+skin_sound = refl

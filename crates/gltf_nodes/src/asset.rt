@@ -1,0 +1,91 @@
+//! What a document says of itself (glTF 2.0, section 5.9).
+
+ghost use Rattle.std.specs.Prelude.{◌≡◌, false, IfOk, codes, None, string_bytes};
+ghost use Rattle.serde_json.specs.Data.{no_members};
+ghost use Rattle.gltf_schema.specs.Kind.{ObjectName};
+ghost use Rattle.gltf_nodes.specs.AssetTable.{asset_rows, asset_sound};
+ghost use Rattle.gltf_nodes.specs.AssetTrees.{asset_members, asset_of_version};
+
+use crate::extensions;
+use gltf_data::extras::Extras;
+use gltf_schema::{Blank, Error, Object, Reading};
+use serde_json::{Map, Value};
+use std::alloc::{AllocError, Global};
+
+/// What a document says of itself.
+#[derive(Clone, Debug, Drop)]
+pub struct Asset {
+    /// A note for credit to the author.
+    pub copyright: Option<String>,
+    /// The tool that wrote the document.
+    pub generator: Option<String>,
+    /// The least version of glTF that a reader has to know.
+    pub min_version: Option<String>,
+    /// The version of glTF that the document is written for.
+    pub version: String,
+    pub extensions: Option<extensions::asset::Asset>,
+    pub extras: Extras,
+}
+
+impl Asset {
+    /// Version `2.0`, and nothing else. `Err` only where memory was refused for that text.
+    #[tactic(auto, unfolding(crate::specs::AssetTrees::asset_members))]
+    pub fn new(alloc: Global) -> Result<Asset, AllocError>
+        ensures { IfOk result (λ a. asset_members a ≡ asset_of_version (codes "2.0")) }
+    {
+        Ok(Asset::of_version(String::from_str(alloc, "2.0")?))
+    }
+
+    /// A version alone.
+    #[tactic(auto, unfolding(crate::specs::AssetTrees::asset_members))]
+    fn of_version(version: String) -> Asset
+        ensures { asset_members result ≡ asset_of_version (string_bytes version) }
+    {
+        Asset {
+            copyright: None,
+            generator: None,
+            min_version: None,
+            version,
+            extensions: None,
+            extras: None,
+        }
+    }
+}
+
+impl Object for Asset {
+    ghost named = { ObjectName.asset };
+
+    ghost rows = { asset_rows };
+
+    ghost keeps = { false };
+
+    ghost members = { asset_members };
+
+    ghost unknown = { λ _. no_members };
+
+    ghost sound = { asset_sound };
+
+    fn decode_members(alloc: Global, found: Map<String, Value>) -> Result<Asset, Error> {
+        let mut reading = Reading::from_members(alloc, found);
+        let copyright = reading.optional("copyright");
+        let generator = reading.optional("generator");
+        let min_version = reading.optional("minVersion");
+        let version = reading.required("version");
+        let extensions = reading.optional("extensions");
+        let extras = reading.optional("extras");
+        reading.finish(Asset {
+            copyright,
+            generator,
+            min_version,
+            version,
+            extensions,
+            extras,
+        })
+    }
+}
+
+impl Blank for Asset {
+    fn blank(alloc: Global) -> Asset {
+        Asset::of_version(String::new(alloc))
+    }
+}

@@ -1,0 +1,161 @@
+//! Cameras (glTF 2.0, sections 5.12 to 5.14).
+
+ghost use Rattle.std.specs.Prelude.{false};
+ghost use Rattle.serde_json.specs.Data.{no_members};
+ghost use Rattle.gltf_paths.specs.Lists.{cameras};
+ghost use Rattle.gltf_schema.specs.Kind.{ObjectName};
+ghost use Rattle.gltf_nodes.specs.CameraTable.{camera_rows, camera_sound, orthographic_rows, orthographic_sound, perspective_rows, perspective_sound};
+ghost use Rattle.gltf_nodes.specs.CameraTrees.{camera_members, orthographic_members, perspective_members};
+
+use crate::extensions;
+use gltf_base::camera::CameraType;
+use gltf_base::validation::Checked;
+use gltf_base::{Listed, Real};
+use gltf_data::extras::Extras;
+use gltf_schema::{Error, Object, Reading};
+use serde_json::{Map, Value};
+use std::alloc::Global;
+
+/// How a scene is seen from a node.
+#[derive(Clone, Debug, Drop)]
+pub struct Camera {
+    pub name: Option<String>,
+    /// The projection of a camera of type `Orthographic`.
+    pub orthographic: Option<Orthographic>,
+    /// The projection of a camera of type `Perspective`.
+    pub perspective: Option<Perspective>,
+    /// How the camera projects.
+    pub type_: Checked<CameraType>,
+    pub extensions: Option<extensions::camera::Camera>,
+    pub extras: Extras,
+}
+
+impl Listed for Camera {
+    ghost list = { cameras };
+}
+
+impl Object for Camera {
+    ghost named = { ObjectName.camera };
+
+    ghost rows = { camera_rows };
+
+    ghost keeps = { false };
+
+    ghost members = { camera_members };
+
+    ghost unknown = { λ _. no_members };
+
+    ghost sound = { camera_sound };
+
+    fn decode_members(alloc: Global, found: Map<String, Value>) -> Result<Camera, Error> {
+        let mut reading = Reading::from_members(alloc, found);
+        let name = reading.optional("name");
+        let orthographic = reading.optional("orthographic");
+        let perspective = reading.optional("perspective");
+        let type_ = reading.required("type");
+        let extensions = reading.optional("extensions");
+        let extras = reading.optional("extras");
+        reading.finish(Camera {
+            name,
+            orthographic,
+            perspective,
+            type_,
+            extensions,
+            extras,
+        })
+    }
+}
+
+/// A projection without perspective.
+#[derive(Clone, Debug, Drop)]
+pub struct Orthographic {
+    /// Half of the width that is seen.
+    pub xmag: Real,
+    /// Half of the height that is seen.
+    pub ymag: Real,
+    /// How far away the last is that is seen.
+    pub zfar: Real,
+    /// How far away the first is that is seen.
+    pub znear: Real,
+    pub extensions: Option<extensions::camera::Orthographic>,
+    pub extras: Extras,
+}
+
+impl Object for Orthographic {
+    ghost named = { ObjectName.orthographic };
+
+    ghost rows = { orthographic_rows };
+
+    ghost keeps = { false };
+
+    ghost members = { orthographic_members };
+
+    ghost unknown = { λ _. no_members };
+
+    ghost sound = { orthographic_sound };
+
+    fn decode_members(alloc: Global, found: Map<String, Value>) -> Result<Orthographic, Error> {
+        let mut reading = Reading::from_members(alloc, found);
+        let xmag = reading.required("xmag");
+        let ymag = reading.required("ymag");
+        let zfar = reading.required("zfar");
+        let znear = reading.required("znear");
+        let extensions = reading.optional("extensions");
+        let extras = reading.optional("extras");
+        reading.finish(Orthographic {
+            xmag,
+            ymag,
+            zfar,
+            znear,
+            extensions,
+            extras,
+        })
+    }
+}
+
+/// A projection with perspective.
+#[derive(Clone, Debug, Drop)]
+pub struct Perspective {
+    /// The width that is seen, by its height; without it that of the viewport.
+    pub aspect_ratio: Option<Real>,
+    /// The angle that is seen from top to bottom, in radians.
+    pub yfov: Real,
+    /// How far away the last is that is seen; without it there is no end.
+    pub zfar: Option<Real>,
+    /// How far away the first is that is seen.
+    pub znear: Real,
+    pub extensions: Option<extensions::camera::Perspective>,
+    pub extras: Extras,
+}
+
+impl Object for Perspective {
+    ghost named = { ObjectName.perspective };
+
+    ghost rows = { perspective_rows };
+
+    ghost keeps = { false };
+
+    ghost members = { perspective_members };
+
+    ghost unknown = { λ _. no_members };
+
+    ghost sound = { perspective_sound };
+
+    fn decode_members(alloc: Global, found: Map<String, Value>) -> Result<Perspective, Error> {
+        let mut reading = Reading::from_members(alloc, found);
+        let aspect_ratio = reading.optional("aspectRatio");
+        let yfov = reading.required("yfov");
+        let zfar = reading.optional("zfar");
+        let znear = reading.required("znear");
+        let extensions = reading.optional("extensions");
+        let extras = reading.optional("extras");
+        reading.finish(Perspective {
+            aspect_ratio,
+            yfov,
+            zfar,
+            znear,
+            extensions,
+            extras,
+        })
+    }
+}

@@ -1,0 +1,93 @@
+//! The extension objects of nodes and scenes.
+
+ghost use Rattle.std.specs.Prelude.{◌≡◌, true};
+ghost use Rattle.serde_json.specs.Data.{no_members};
+ghost use Rattle.serde_json.specs.View.{members_view};
+ghost use Rattle.gltf_schema.specs.Kind.{ObjectName, extensions_of};
+ghost use Rattle.gltf_schema.specs.Defaults.{defaults};
+ghost use Rattle.gltf_nodes.specs.SceneTable.{node_extension_rows, node_extension_sound};
+ghost use Rattle.gltf_nodes.specs.SceneTrees.{node_extension_members};
+
+use gltf_schema::{Error, Object, Reading, Unlisted};
+use serde_json::{Map, Value};
+use std::alloc::Global;
+
+pub mod khr_lights_punctual;
+pub mod khr_materials_variants;
+
+/// The extensions of a node.
+#[derive(Clone, Debug, Drop)]
+pub struct Node {
+    /// `KHR_lights_punctual`: the light that stands at the node.
+    pub khr_lights_punctual: Option<khr_lights_punctual::KhrLightsPunctual>,
+    /// The extensions that are not known.
+    pub others: Map<String, Value>,
+}
+
+impl Object for Node {
+    ghost named = { extensions_of ObjectName.node };
+
+    ghost rows = { node_extension_rows };
+
+    ghost keeps = { true };
+
+    ghost members = { node_extension_members };
+
+    ghost unknown = { λ e. members_view e.others.entries };
+
+    ghost sound = { node_extension_sound };
+
+    fn decode_members(alloc: Global, found: Map<String, Value>) -> Result<Node, Error> {
+        let mut reading = Reading::from_members(alloc, found);
+        let khr_lights_punctual = reading.optional("KHR_lights_punctual");
+        let others = reading.others();
+        reading.finish(Node {
+            khr_lights_punctual,
+            others,
+        })
+    }
+}
+
+impl Node {
+    /// No extension.
+    #[tactic(auto, unfolding(crate::specs::SceneTable::node_extension_rows, crate::specs::SceneTrees::node_extension_members))]
+    pub fn new(alloc: Global) -> Node
+        ensures known { node_extension_members result ≡ defaults node_extension_rows }
+        ensures unknown { members_view result.others.entries ≡ no_members }
+    {
+        Node {
+            khr_lights_punctual: None,
+            others: Map::new(alloc),
+        }
+    }
+}
+
+/// The extensions of a scene.
+#[derive(Clone, Debug, Drop)]
+pub struct Scene {
+    /// The extensions that are not known.
+    pub others: Map<String, Value>,
+}
+
+impl Unlisted for Scene {
+    ghost extends = { ObjectName.scene };
+
+    ghost is_keeping = { true };
+
+    ghost kept = { λ e. members_view e.others.entries };
+
+    fn from_others(others: Map<String, Value>) -> Scene {
+        Scene { others }
+    }
+}
+
+impl Scene {
+    /// No extension.
+    pub fn new(alloc: Global) -> Scene
+        ensures { members_view result.others.entries ≡ no_members }
+    {
+        Scene {
+            others: Map::new(alloc),
+        }
+    }
+}

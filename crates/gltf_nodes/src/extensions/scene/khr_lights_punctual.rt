@@ -1,0 +1,151 @@
+//! Lights at points of a scene (the extension `KHR_lights_punctual`).
+
+ghost use Rattle.std.specs.Prelude.{◌≡◌, false};
+ghost use Rattle.serde_json.specs.Data.{no_members};
+ghost use Rattle.gltf_paths.specs.Lists.{lights};
+ghost use Rattle.gltf_schema.specs.Kind.{ObjectName};
+ghost use Rattle.gltf_schema.specs.Defaults.{defaults};
+ghost use Rattle.gltf_nodes.specs.LightTable.{light_of_node_rows, light_of_node_sound, light_rows, light_sound, spot_rows, spot_sound};
+ghost use Rattle.gltf_nodes.specs.LightTrees.{light_of_node_members, light_members, spot_members};
+
+use gltf_base::extensions::scene::khr_lights_punctual::LightType;
+use gltf_base::validation::Checked;
+use gltf_base::{Index, Listed, Real};
+use gltf_data::extras::Extras;
+use gltf_schema::{Error, Object, Reading};
+use serde_json::{Map, Value};
+use std::alloc::Global;
+
+/// The light that stands at a node, and shines along its -z axis.
+#[derive(Clone, Debug, Drop)]
+pub struct KhrLightsPunctual {
+    pub light: Index<Light>,
+}
+
+impl Object for KhrLightsPunctual {
+    ghost named = { ObjectName.light_of_node };
+
+    ghost rows = { light_of_node_rows };
+
+    ghost keeps = { false };
+
+    ghost members = { light_of_node_members };
+
+    ghost unknown = { λ _. no_members };
+
+    ghost sound = { light_of_node_sound };
+
+    fn decode_members(
+        alloc: Global,
+        found: Map<String, Value>,
+    ) -> Result<KhrLightsPunctual, Error> {
+        let mut reading = Reading::from_members(alloc, found);
+        let light = reading.required("light");
+        reading.finish(KhrLightsPunctual { light })
+    }
+}
+
+/// A light.
+#[derive(Clone, Debug, Drop)]
+pub struct Light {
+    /// Its color: red, green, blue; `None` stands for ones.
+    pub color: Option<[Real; 3]>,
+    /// The extensions, as they are.
+    pub extensions: Option<Value>,
+    pub extras: Extras,
+    /// How bright it is, in candela or, where it is directional, in lux; `None` stands for 1.
+    pub intensity: Option<Real>,
+    pub name: Option<String>,
+    /// How far it reaches; without it there is no end.
+    pub range: Option<Real>,
+    /// The cone of a light of type `Spot`.
+    pub spot: Option<Spot>,
+    /// From where and where to it shines.
+    pub type_: Checked<LightType>,
+}
+
+impl Listed for Light {
+    ghost list = { lights };
+}
+
+impl Object for Light {
+    ghost named = { ObjectName.light };
+
+    ghost rows = { light_rows };
+
+    ghost keeps = { false };
+
+    ghost members = { light_members };
+
+    ghost unknown = { λ _. no_members };
+
+    ghost sound = { light_sound };
+
+    fn decode_members(alloc: Global, found: Map<String, Value>) -> Result<Light, Error> {
+        let mut reading = Reading::from_members(alloc, found);
+        let color = reading.sometimes("color");
+        let extensions = reading.optional("extensions");
+        let extras = reading.optional("extras");
+        let intensity = reading.sometimes("intensity");
+        let name = reading.optional("name");
+        let range = reading.optional("range");
+        let spot = reading.optional("spot");
+        let type_ = reading.required("type");
+        reading.finish(Light {
+            color,
+            extensions,
+            extras,
+            intensity,
+            name,
+            range,
+            spot,
+            type_,
+        })
+    }
+}
+
+/// The cone in which a light shines.
+#[derive(Clone, Debug, Drop)]
+pub struct Spot {
+    /// The angle from the axis to where the light begins to fall off, in radians; `None` stands for 0.
+    pub inner_cone_angle: Option<Real>,
+    /// The angle from the axis to where the light ends, in radians; `None` stands for a quarter of pi.
+    pub outer_cone_angle: Option<Real>,
+}
+
+impl Object for Spot {
+    ghost named = { ObjectName.spot };
+
+    ghost rows = { spot_rows };
+
+    ghost keeps = { false };
+
+    ghost members = { spot_members };
+
+    ghost unknown = { λ _. no_members };
+
+    ghost sound = { spot_sound };
+
+    fn decode_members(alloc: Global, found: Map<String, Value>) -> Result<Spot, Error> {
+        let mut reading = Reading::from_members(alloc, found);
+        let inner_cone_angle = reading.sometimes("innerConeAngle");
+        let outer_cone_angle = reading.sometimes("outerConeAngle");
+        reading.finish(Spot {
+            inner_cone_angle,
+            outer_cone_angle,
+        })
+    }
+}
+
+impl Spot {
+    /// A cone that says nothing.
+    #[tactic(auto, unfolding(crate::specs::LightTable::spot_rows, crate::specs::LightTrees::spot_members))]
+    pub fn new() -> Spot
+        ensures { spot_members result ≡ defaults spot_rows }
+    {
+        Spot {
+            inner_cone_angle: None,
+            outer_cone_angle: None,
+        }
+    }
+}

@@ -1,0 +1,43 @@
+//! Variants of a document's materials (the extension `KHR_materials_variants`).
+
+ghost use Rattle.std.specs.Prelude.{false};
+ghost use Rattle.serde_json.specs.Data.{no_members};
+ghost use Rattle.gltf_paths.specs.Lists.{variants};
+ghost use Rattle.gltf_schema.specs.Kind.{ObjectName};
+ghost use Rattle.gltf_nodes.specs.LightTable.{variant_rows, variant_sound};
+ghost use Rattle.gltf_nodes.specs.LightTrees.{variant_members};
+
+use gltf_base::Listed;
+use gltf_schema::{Error, Object, Reading};
+use serde_json::{Map, Value};
+use std::alloc::Global;
+
+/// A variant: a choice of materials for the whole document.
+#[derive(Clone, Debug, Drop)]
+pub struct Variant {
+    pub name: String,
+}
+
+impl Listed for Variant {
+    ghost list = { variants };
+}
+
+impl Object for Variant {
+    ghost named = { ObjectName.variant };
+
+    ghost rows = { variant_rows };
+
+    ghost keeps = { false };
+
+    ghost members = { variant_members };
+
+    ghost unknown = { λ _. no_members };
+
+    ghost sound = { variant_sound };
+
+    fn decode_members(alloc: Global, found: Map<String, Value>) -> Result<Variant, Error> {
+        let mut reading = Reading::from_members(alloc, found);
+        let name = reading.required("name");
+        reading.finish(Variant { name })
+    }
+}

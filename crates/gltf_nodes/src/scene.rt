@@ -1,0 +1,187 @@
+//! Scenes and their nodes (glTF 2.0, sections 5.25 and 5.27).
+
+ghost use Rattle.std.specs.Prelude.{◌≡◌, false, refl};
+ghost use Rattle.serde_json.specs.Data.{no_members};
+ghost use Rattle.gltf_paths.specs.Lists.{nodes, scenes};
+ghost use Rattle.gltf_schema.specs.Kind.{ObjectName, Numbers};
+ghost use Rattle.gltf_schema.specs.Defaults.{defaults};
+ghost use Rattle.gltf_nodes.specs.SceneTable.{node_rows, node_sound, scene_rows, scene_sound};
+ghost use Rattle.gltf_nodes.specs.SceneTrees.{node_members, scene_members, unit_quaternion_tree, no_rotation};
+
+use crate::camera::Camera;
+use crate::extensions;
+use crate::skin::Skin;
+use gltf_base::{Index, Listed, Real};
+use gltf_data::extras::Extras;
+use gltf_meshes::mesh::Mesh;
+use gltf_schema::{Error, Object, Reading, Schema};
+use serde_json::{Map, Value};
+use std::alloc::Global;
+
+/// A place in the hierarchy of a scene, and what stands there.
+// What takes longest to drop stands last (docs/DECISIONS.md).
+#[derive(Clone, Debug, Drop)]
+pub struct Node {
+    pub camera: Option<Index<Camera>>,
+    /// The nodes that move with this one.
+    pub children: Option<Vec<Index<Node>>>,
+    pub mesh: Option<Index<Mesh>>,
+    pub name: Option<String>,
+    /// The skin that the mesh follows.
+    pub skin: Option<Index<Skin>>,
+    /// How much of each morph target of the mesh is added; without it the mesh says it.
+    pub weights: Option<Vec<Real>>,
+    pub extras: Extras,
+    pub extensions: Option<extensions::scene::Node>,
+    /// How the node stands in its parent, as a matrix by columns.
+    pub matrix: Option<[Real; 16]>,
+    /// How the node is turned in its parent.
+    pub rotation: Option<UnitQuaternion>,
+    /// How the node is scaled in its parent, along the axes.
+    pub scale: Option<[Real; 3]>,
+    /// How far the node is moved in its parent, along the axes.
+    pub translation: Option<[Real; 3]>,
+}
+
+impl Node {
+    /// A node that says nothing.
+    #[tactic(auto, unfolding(crate::specs::SceneTable::node_rows, crate::specs::SceneTrees::node_members))]
+    pub fn new() -> Node
+        ensures { node_members result ≡ defaults node_rows }
+    {
+        Node {
+            camera: None,
+            children: None,
+            mesh: None,
+            name: None,
+            skin: None,
+            weights: None,
+            extras: None,
+            extensions: None,
+            matrix: None,
+            rotation: None,
+            scale: None,
+            translation: None,
+        }
+    }
+}
+
+impl Listed for Node {
+    ghost list = { nodes };
+}
+
+impl Object for Node {
+    ghost named = { ObjectName.node };
+
+    ghost rows = { node_rows };
+
+    ghost keeps = { false };
+
+    ghost members = { node_members };
+
+    ghost unknown = { λ _. no_members };
+
+    ghost sound = { node_sound };
+
+    fn decode_members(alloc: Global, found: Map<String, Value>) -> Result<Node, Error> {
+        let mut reading = Reading::from_members(alloc, found);
+        let camera = reading.optional("camera");
+        let children = reading.optional("children");
+        let extensions = reading.optional("extensions");
+        let extras = reading.optional("extras");
+        let matrix = reading.optional("matrix");
+        let mesh = reading.optional("mesh");
+        let name = reading.optional("name");
+        let rotation = reading.optional("rotation");
+        let scale = reading.optional("scale");
+        let translation = reading.optional("translation");
+        let skin = reading.optional("skin");
+        let weights = reading.optional("weights");
+        reading.finish(Node {
+            camera,
+            children,
+            extensions,
+            extras,
+            matrix,
+            mesh,
+            name,
+            rotation,
+            scale,
+            translation,
+            skin,
+            weights,
+        })
+    }
+}
+
+/// The nodes that are shown together.
+#[derive(Clone, Debug, Drop)]
+pub struct Scene {
+    pub extensions: Option<extensions::scene::Scene>,
+    pub extras: Extras,
+    pub name: Option<String>,
+    /// The roots of the scene's hierarchies.
+    pub nodes: Vec<Index<Node>>,
+}
+
+impl Listed for Scene {
+    ghost list = { scenes };
+}
+
+impl Object for Scene {
+    ghost named = { ObjectName.scene };
+
+    ghost rows = { scene_rows };
+
+    ghost keeps = { false };
+
+    ghost members = { scene_members };
+
+    ghost unknown = { λ _. no_members };
+
+    ghost sound = { scene_sound };
+
+    fn decode_members(alloc: Global, found: Map<String, Value>) -> Result<Scene, Error> {
+        let mut reading = Reading::from_members(alloc, found);
+        let extensions = reading.optional("extensions");
+        let extras = reading.optional("extras");
+        let name = reading.optional("name");
+        let nodes = reading.list("nodes");
+        reading.finish(Scene {
+            extensions,
+            extras,
+            name,
+            nodes,
+        })
+    }
+}
+
+/// A rotation as a quaternion of length 1: x, y, z, w.
+#[derive(Clone, Debug, Drop)]
+pub struct UnitQuaternion(pub [Real; 4]);
+
+impl Default for UnitQuaternion {
+    ghost is_default = { λ q. unit_quaternion_tree q ≡ no_rotation };
+
+    /// The rotation that turns nothing.
+    fn default() -> UnitQuaternion {
+        UnitQuaternion([
+            Real::from_i64(0),
+            Real::from_i64(0),
+            Real::from_i64(0),
+            Real::from_i64(1),
+        ])
+    }
+}
+
+impl Schema for UnitQuaternion {
+    ghost kind = { Numbers 4 };
+
+    ghost tree = { unit_quaternion_tree };
+
+    ghost present = { λ _. refl };
+
+    fn decode(alloc: Global, value: Value) -> Result<UnitQuaternion, Error> {
+        Ok(UnitQuaternion(Schema::decode(alloc, value)?))
+    }
+}

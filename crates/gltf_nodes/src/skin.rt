@@ -1,0 +1,67 @@
+//! Skins: meshes that follow a skeleton (glTF 2.0, section 5.28).
+
+ghost use Rattle.std.specs.Prelude.{false};
+ghost use Rattle.serde_json.specs.Data.{no_members};
+ghost use Rattle.gltf_paths.specs.Lists.{skins};
+ghost use Rattle.gltf_schema.specs.Kind.{ObjectName};
+ghost use Rattle.gltf_nodes.specs.SceneTable.{skin_rows, skin_sound};
+ghost use Rattle.gltf_nodes.specs.SceneTrees.{skin_members};
+
+use crate::extensions;
+use crate::scene::Node;
+use gltf_base::{Index, Listed};
+use gltf_data::accessor::Accessor;
+use gltf_data::extras::Extras;
+use gltf_schema::{Error, Object, Reading};
+use serde_json::{Map, Value};
+use std::alloc::Global;
+
+/// The joints that the vertices of a mesh follow.
+#[derive(Clone, Debug, Drop)]
+pub struct Skin {
+    pub extensions: Option<extensions::skin::Skin>,
+    pub extras: Extras,
+    /// The matrices that bring vertices into the space of each joint; without it they are there.
+    pub inverse_bind_matrices: Option<Index<Accessor>>,
+    /// The nodes that vertices follow, in the order in which vertices name them.
+    pub joints: Vec<Index<Node>>,
+    pub name: Option<String>,
+    /// The node that is the root of the skeleton.
+    pub skeleton: Option<Index<Node>>,
+}
+
+impl Listed for Skin {
+    ghost list = { skins };
+}
+
+impl Object for Skin {
+    ghost named = { ObjectName.skin };
+
+    ghost rows = { skin_rows };
+
+    ghost keeps = { false };
+
+    ghost members = { skin_members };
+
+    ghost unknown = { λ _. no_members };
+
+    ghost sound = { skin_sound };
+
+    fn decode_members(alloc: Global, found: Map<String, Value>) -> Result<Skin, Error> {
+        let mut reading = Reading::from_members(alloc, found);
+        let extensions = reading.optional("extensions");
+        let extras = reading.optional("extras");
+        let inverse_bind_matrices = reading.optional("inverseBindMatrices");
+        let joints = reading.list("joints");
+        let name = reading.optional("name");
+        let skeleton = reading.optional("skeleton");
+        reading.finish(Skin {
+            extensions,
+            extras,
+            inverse_bind_matrices,
+            joints,
+            name,
+            skeleton,
+        })
+    }
+}

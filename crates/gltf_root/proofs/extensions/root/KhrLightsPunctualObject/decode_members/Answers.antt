@@ -1,0 +1,11 @@
+-- Each row is read in the table's order.
+use Rattle.gltf_schema.proofs.RowByRow.{all_read, read_none, read_row}
+use Rattle.gltf_root.specs.RootExtensionTable.{lights_rows}
+use Rattle.gltf_root.specs.RootExtensionTrees.{lights_members}
+use Rattle.gltf_root.proofs.extensions.root.KhrLightsPunctualObject.decode_members.Goals as goal
+
+pub returns : goal.returns
+unfolding lights_rows lights_members
+returns c =
+    all_read lights_members c.from_members-reading.ensures
+    (read_row c.required-lights.ensures read_none) c.finish.ensures

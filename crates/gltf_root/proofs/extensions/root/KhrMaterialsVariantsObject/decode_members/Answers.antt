@@ -1,0 +1,11 @@
+-- Each row is read in the table's order.
+use Rattle.gltf_schema.proofs.RowByRow.{all_read, read_none, read_row}
+use Rattle.gltf_root.specs.RootExtensionTable.{variants_rows}
+use Rattle.gltf_root.specs.RootExtensionTrees.{variants_members}
+use Rattle.gltf_root.proofs.extensions.root.KhrMaterialsVariantsObject.decode_members.Goals as goal
+
+pub returns : goal.returns
+unfolding variants_rows variants_members
+returns c =
+    all_read variants_members c.from_members-reading.ensures
+    (read_row c.required-variants.ensures read_none) c.finish.ensures

@@ -1,0 +1,13 @@
+-- Each row is read in the table's order.
+use Rattle.serde_json.specs.View.{members_view}
+use Rattle.gltf_schema.proofs.RowByRow.{all_kept, read_none, read_row}
+use Rattle.gltf_root.specs.RootExtensionTable.{root_extension_rows}
+use Rattle.gltf_root.specs.RootExtensionTrees.{root_extension_members}
+use Rattle.gltf_root.proofs.extensions.root.RootObject.decode_members.Goals as goal
+
+pub returns : goal.returns
+unfolding root_extension_rows root_extension_members
+returns c =
+    all_kept root_extension_members (λ e. members_view e.others.entries) c.from_members-reading.ensures
+    (read_row c.optional-khr_lights_punctual.ensures.left_out
+    (read_row c.optional-khr_materials_variants.ensures.left_out read_none)) c.others-others.ensures c.finish.ensures

@@ -1,0 +1,24 @@
+-- The members of the extensions of a whole document, in the rows' order.
+use Rattle.std.specs.Prelude.{[], ◌∷◌}
+use Rattle.gltf_schema.specs.Tree.{Trees, trees, tree_or_absent}
+use Rattle.gltf_schema.specs.Fields.{list_tree, closed_object}
+use Rattle.gltf_nodes.specs.LightTrees.{light_members, variant_members}
+use Rattle.gltf_root.specs.declared.extensions.root.Root.{Root}
+use Rattle.gltf_root.specs.declared.extensions.root.KhrLightsPunctual.{KhrLightsPunctual}
+use Rattle.gltf_root.specs.declared.extensions.root.KhrMaterialsVariants.{KhrMaterialsVariants}
+
+unfoldable pub lights_members : KhrLightsPunctual → Trees
+lights_members v = trees (
+    list_tree (λ x. closed_object (light_members x)) v.lights.items
+    ∷ [])
+
+unfoldable pub variants_members : KhrMaterialsVariants → Trees
+variants_members v = trees (
+    list_tree (λ x. closed_object (variant_members x)) v.variants.items
+    ∷ [])
+
+unfoldable pub root_extension_members : Root → Trees
+root_extension_members v = trees (
+    tree_or_absent (λ x. closed_object (lights_members x)) v.khr_lights_punctual
+    ∷ tree_or_absent (λ x. closed_object (variants_members x)) v.khr_materials_variants
+    ∷ [])

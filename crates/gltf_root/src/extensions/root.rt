@@ -1,0 +1,150 @@
+//! The extension objects of a whole document.
+
+ghost use Rattle.std.specs.Prelude.{◌≡◌, true, false};
+ghost use Rattle.serde_json.specs.Data.{no_members};
+ghost use Rattle.serde_json.specs.View.{members_view};
+ghost use Rattle.gltf_schema.specs.Kind.{ObjectName, extensions_of};
+ghost use Rattle.gltf_schema.specs.Tree.{end, list, with_tree};
+ghost use Rattle.gltf_schema.specs.Defaults.{defaults};
+ghost use Rattle.gltf_root.specs.RootExtensionTable.{root_extension_rows, root_extension_sound, lights_rows, lights_sound, variants_rows, variants_sound};
+ghost use Rattle.gltf_root.specs.RootExtensionTrees.{root_extension_members, lights_members, variants_members};
+
+use gltf_parts::{Error, Object, Reading};
+use gltf_scene::extensions::scene::khr_lights_punctual::Light;
+use gltf_scene::extensions::scene::khr_materials_variants::Variant;
+use serde_json::{Map, Value};
+use std::alloc::Global;
+
+/// The extensions of a whole document.
+#[derive(Clone, Debug, Drop)]
+pub struct Root {
+    /// `KHR_lights_punctual`: the lights that nodes name.
+    pub khr_lights_punctual: Option<KhrLightsPunctual>,
+    /// `KHR_materials_variants`: the variants that primitives name.
+    pub khr_materials_variants: Option<KhrMaterialsVariants>,
+    /// The extensions that are not known.
+    pub others: Map<String, Value>,
+}
+
+impl Object for Root {
+    ghost named = { extensions_of ObjectName.root };
+
+    ghost rows = { root_extension_rows };
+
+    ghost keeps = { true };
+
+    ghost members = { root_extension_members };
+
+    ghost unknown = { λ e. members_view e.others.entries };
+
+    ghost sound = { root_extension_sound };
+
+    fn decode_members(alloc: Global, found: Map<String, Value>) -> Result<Root, Error> {
+        let mut reading = Reading::from_members(alloc, found);
+        let khr_lights_punctual = reading.optional("KHR_lights_punctual");
+        let khr_materials_variants = reading.optional("KHR_materials_variants");
+        let others = reading.others();
+        reading.finish(Root {
+            khr_lights_punctual,
+            khr_materials_variants,
+            others,
+        })
+    }
+}
+
+impl Root {
+    /// No extension.
+    #[tactic(auto, unfolding(crate::specs::RootExtensionTable::root_extension_rows, crate::specs::RootExtensionTrees::root_extension_members))]
+    pub fn new(alloc: Global) -> Root
+        ensures known { root_extension_members result ≡ defaults root_extension_rows }
+        ensures unknown { members_view result.others.entries ≡ no_members }
+    {
+        Root {
+            khr_lights_punctual: None,
+            khr_materials_variants: None,
+            others: Map::new(alloc),
+        }
+    }
+}
+
+/// The lights of a document (`KHR_lights_punctual`).
+#[derive(Clone, Debug, Drop)]
+pub struct KhrLightsPunctual {
+    pub lights: Vec<Light>,
+}
+
+impl Object for KhrLightsPunctual {
+    ghost named = { ObjectName.lights };
+
+    ghost rows = { lights_rows };
+
+    ghost keeps = { false };
+
+    ghost members = { lights_members };
+
+    ghost unknown = { λ _. no_members };
+
+    ghost sound = { lights_sound };
+
+    fn decode_members(
+        alloc: Global,
+        found: Map<String, Value>,
+    ) -> Result<KhrLightsPunctual, Error> {
+        let mut reading = Reading::from_members(alloc, found);
+        let lights = reading.required("lights");
+        reading.finish(KhrLightsPunctual { lights })
+    }
+}
+
+impl KhrLightsPunctual {
+    /// None of them.
+    #[tactic(auto, unfolding(crate::specs::RootExtensionTrees::lights_members))]
+    pub fn new(alloc: Global) -> KhrLightsPunctual
+        ensures { lights_members result ≡ with_tree (list end) end }
+    {
+        KhrLightsPunctual {
+            lights: Vec::new(alloc),
+        }
+    }
+}
+
+/// The variants of a document (`KHR_materials_variants`).
+#[derive(Clone, Debug, Drop)]
+pub struct KhrMaterialsVariants {
+    pub variants: Vec<Variant>,
+}
+
+impl Object for KhrMaterialsVariants {
+    ghost named = { ObjectName.variants };
+
+    ghost rows = { variants_rows };
+
+    ghost keeps = { false };
+
+    ghost members = { variants_members };
+
+    ghost unknown = { λ _. no_members };
+
+    ghost sound = { variants_sound };
+
+    fn decode_members(
+        alloc: Global,
+        found: Map<String, Value>,
+    ) -> Result<KhrMaterialsVariants, Error> {
+        let mut reading = Reading::from_members(alloc, found);
+        let variants = reading.required("variants");
+        reading.finish(KhrMaterialsVariants { variants })
+    }
+}
+
+impl KhrMaterialsVariants {
+    /// None of them.
+    #[tactic(auto, unfolding(crate::specs::RootExtensionTrees::variants_members))]
+    pub fn new(alloc: Global) -> KhrMaterialsVariants
+        ensures { variants_members result ≡ with_tree (list end) end }
+    {
+        KhrMaterialsVariants {
+            variants: Vec::new(alloc),
+        }
+    }
+}

@@ -1,0 +1,92 @@
+//! The glTF 2.0 objects of meshes, nodes, scenes and animations, and a document's own description.
+//! This crate names what `gltf_meshes`, `gltf_nodes` and `gltf_animations` hold, under the modules of
+//! the format.
+#![tactic(auto)]
+
+/// What moves nodes over time.
+pub mod animation {
+    pub use gltf_animations::animation::{Animation, Channel, Sampler, Target};
+    pub use gltf_base::animation::{
+        Interpolation, Property, VALID_INTERPOLATIONS, VALID_PROPERTIES,
+    };
+}
+
+/// What a document says of itself.
+pub mod asset {
+    pub use gltf_nodes::asset::Asset;
+}
+
+/// How a scene is seen.
+pub mod camera {
+    pub use gltf_base::camera::{CameraType, Type, VALID_CAMERA_TYPES};
+    pub use gltf_nodes::camera::{Camera, Orthographic, Perspective};
+}
+
+/// Extension objects: what stands behind the member `extensions` of an object.
+pub mod extensions {
+    pub use gltf_base::extensions::{ENABLED_EXTENSIONS, SUPPORTED_EXTENSIONS};
+
+    /// Those of animations.
+    pub mod animation {
+        pub use gltf_animations::extensions::animation::{Animation, Channel, Sampler, Target};
+    }
+
+    /// That of a document's own description.
+    pub mod asset {
+        pub use gltf_nodes::extensions::asset::Asset;
+    }
+
+    /// Those of cameras and their projections.
+    pub mod camera {
+        pub use gltf_nodes::extensions::camera::{Camera, Orthographic, Perspective};
+    }
+
+    /// Those of meshes and their primitives.
+    pub mod mesh {
+        pub use gltf_meshes::extensions::mesh::{KhrMaterialsVariants, Mapping, Mesh, Primitive};
+    }
+
+    /// Those of nodes and scenes.
+    pub mod scene {
+        pub use gltf_nodes::extensions::scene::{Node, Scene};
+
+        /// Lights at points of a scene.
+        pub mod khr_lights_punctual {
+            pub use gltf_base::extensions::scene::khr_lights_punctual::{
+                LightType, Type, VALID_TYPES,
+            };
+            pub use gltf_nodes::extensions::scene::khr_lights_punctual::{
+                KhrLightsPunctual, Light, Spot,
+            };
+        }
+
+        /// Variants of a document's materials.
+        pub mod khr_materials_variants {
+            pub use gltf_nodes::extensions::scene::khr_materials_variants::Variant;
+        }
+    }
+
+    /// Those of skins.
+    pub mod skin {
+        pub use gltf_nodes::extensions::skin::Skin;
+    }
+}
+
+/// Geometry, and what its attributes mean.
+pub mod mesh {
+    pub use gltf_base::mesh::{
+        LINE_LOOP, LINE_STRIP, LINES, Mode, POINTS, Semantic, TRIANGLE_FAN, TRIANGLE_STRIP,
+        TRIANGLES, VALID_MODES, VALID_MORPH_TARGETS,
+    };
+    pub use gltf_meshes::mesh::{Mesh, MorphTarget, Primitive};
+}
+
+/// Scenes and their nodes.
+pub mod scene {
+    pub use gltf_nodes::scene::{Node, Scene, UnitQuaternion};
+}
+
+/// Meshes that follow a skeleton.
+pub mod skin {
+    pub use gltf_nodes::skin::Skin;
+}

@@ -5,7 +5,8 @@ ghost use Rattle.gltf_choices.specs.ExtensionNames.{enabled_extensions};
 
 pub mod scene;
 
-/// The names of the extensions that a document may require: those that are read and checked.
+/// The names of the extensions that a document may require. Volumes, specular reflections and variants
+/// of materials are read, and yet are none of them, as in the ported crate.
 pub const ENABLED_EXTENSIONS: &[&str] = &[
     "KHR_lights_punctual",
     "KHR_materials_pbrSpecularGlossiness",
@@ -16,7 +17,7 @@ pub const ENABLED_EXTENSIONS: &[&str] = &[
     "KHR_materials_emissive_strength",
 ];
 
-/// The names of the extensions that could be enabled; all of them are.
+/// The names of the extensions that can be enabled; all of them are.
 pub const SUPPORTED_EXTENSIONS: &[&str] = ENABLED_EXTENSIONS;
 
 /// The constants of this module are the names in their order.

@@ -1,7 +1,7 @@
 //! Values that stand where nothing was read.
 
-use gltf_base::{IndexTo, Real};
 use gltf_base::validation::{Checked, USize64};
+use gltf_base::{IndexTo, Real};
 use std::alloc::Global;
 use std::collections::BTreeMap;
 

@@ -1,11 +1,10 @@
 -- The members of animations, in the rows' order.
 use Rattle.std.specs.Prelude.{[], ◌∷◌}
-use Rattle.serde_json.specs.Data.{no_members}
 use Rattle.serde_json.specs.View.{members_view}
 use Rattle.gltf_choices.specs.SceneChoices.{interpolation_spelling, property_spelling}
-use Rattle.gltf_schema.specs.Tree.{Tree, Trees, trees, tree_or_absent, object}
+use Rattle.gltf_schema.specs.Tree.{Tree, Trees, trees, tree_or_absent}
 use Rattle.gltf_schema.specs.Leaves.{checked_tree}
-use Rattle.gltf_schema.specs.Fields.{index_tree, text_tree, any_tree, list_tree, closed_object}
+use Rattle.gltf_schema.specs.Fields.{index_tree, text_tree, any_tree, list_tree, closed_object, unlisted_object}
 use Rattle.gltf_animations.specs.declared.animation.Animation.{Animation}
 use Rattle.gltf_animations.specs.declared.animation.Channel.{Channel}
 use Rattle.gltf_animations.specs.declared.animation.Target.{Target}
@@ -16,16 +15,16 @@ use Rattle.gltf_animations.specs.declared.extensions.animation.Target.{Target as
 use Rattle.gltf_animations.specs.declared.extensions.animation.Sampler.{Sampler as SamplerExtensions}
 
 abbrev pub animation_extensions : AnimationExtensions → Tree
-animation_extensions e = object (trees []) (members_view e.others.entries)
+animation_extensions e = unlisted_object (members_view e.others.entries)
 
 abbrev pub channel_extensions : ChannelExtensions → Tree
-channel_extensions e = object (trees []) no_members
+channel_extensions e = closed_object (trees [])
 
 abbrev pub target_extensions : TargetExtensions → Tree
-target_extensions e = object (trees []) no_members
+target_extensions e = closed_object (trees [])
 
 abbrev pub sampler_extensions : SamplerExtensions → Tree
-sampler_extensions e = object (trees []) no_members
+sampler_extensions e = closed_object (trees [])
 
 unfoldable pub animation_sampler_members : Sampler → Trees
 animation_sampler_members v = trees (

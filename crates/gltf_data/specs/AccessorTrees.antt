@@ -1,11 +1,10 @@
 -- The members of accessors, in the rows' order.
 use Rattle.std.specs.Prelude.{[], ◌∷◌}
-use Rattle.serde_json.specs.Data.{no_members}
 use Rattle.serde_json.specs.View.{members_view}
 use Rattle.gltf_choices.specs.Choices.{generic_component_type_spelling, index_component_type_spelling, accessor_type_spelling}
-use Rattle.gltf_schema.specs.Tree.{Tree, Trees, trees, tree_or_absent, truth, object}
+use Rattle.gltf_schema.specs.Tree.{Tree, Trees, trees, tree_or_absent, truth}
 use Rattle.gltf_schema.specs.Leaves.{checked_tree}
-use Rattle.gltf_schema.specs.Fields.{index_tree, size_tree, text_tree, any_tree, closed_object}
+use Rattle.gltf_schema.specs.Fields.{index_tree, size_tree, text_tree, any_tree, closed_object, unlisted_object}
 use Rattle.gltf_data.specs.declared.accessor.Accessor.{Accessor}
 use Rattle.gltf_data.specs.declared.accessor.sparse.Sparse.{Sparse}
 use Rattle.gltf_data.specs.declared.accessor.sparse.Indices.{Indices}
@@ -16,16 +15,16 @@ use Rattle.gltf_data.specs.declared.extensions.accessor.sparse.Indices.{Indices 
 use Rattle.gltf_data.specs.declared.extensions.accessor.sparse.Values.{Values as ValuesExtensions}
 
 abbrev pub accessor_extensions : AccessorExtensions → Tree
-accessor_extensions e = object (trees []) (members_view e.others.entries)
+accessor_extensions e = unlisted_object (members_view e.others.entries)
 
 abbrev pub sparse_extensions : SparseExtensions → Tree
-sparse_extensions e = object (trees []) no_members
+sparse_extensions e = closed_object (trees [])
 
 abbrev pub indices_extensions : IndicesExtensions → Tree
-indices_extensions e = object (trees []) no_members
+indices_extensions e = closed_object (trees [])
 
 abbrev pub values_extensions : ValuesExtensions → Tree
-values_extensions e = object (trees []) no_members
+values_extensions e = closed_object (trees [])
 
 unfoldable pub sparse_indices_members : Indices → Trees
 sparse_indices_members v = trees (

@@ -2,9 +2,9 @@
 use Rattle.std.specs.Prelude.{[], ◌∷◌}
 use Rattle.serde_json.specs.View.{members_view}
 use Rattle.gltf_choices.specs.Choices.{target_spelling}
-use Rattle.gltf_schema.specs.Tree.{Tree, Trees, trees, tree_or_absent, whole, object}
+use Rattle.gltf_schema.specs.Tree.{Tree, Trees, trees, tree_or_absent, whole}
 use Rattle.gltf_schema.specs.Leaves.{checked_tree}
-use Rattle.gltf_schema.specs.Fields.{index_tree, size_tree, text_tree, any_tree}
+use Rattle.gltf_schema.specs.Fields.{index_tree, size_tree, text_tree, any_tree, unlisted_object}
 use Rattle.gltf_data.specs.declared.buffer.Stride.{Stride}
 use Rattle.gltf_data.specs.declared.buffer.Buffer.{Buffer}
 use Rattle.gltf_data.specs.declared.buffer.View.{View}
@@ -15,10 +15,10 @@ abbrev pub stride_tree : Stride → Tree
 stride_tree s = whole s.0
 
 abbrev pub buffer_extensions : BufferExtensions → Tree
-buffer_extensions e = object (trees []) (members_view e.others.entries)
+buffer_extensions e = unlisted_object (members_view e.others.entries)
 
 abbrev pub view_extensions : ViewExtensions → Tree
-view_extensions e = object (trees []) (members_view e.others.entries)
+view_extensions e = unlisted_object (members_view e.others.entries)
 
 unfoldable pub buffer_members : Buffer → Trees
 buffer_members v = trees (

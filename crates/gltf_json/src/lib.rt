@@ -35,7 +35,7 @@ pub mod extensions {
 
 /// What holds of validation, as contracts of functions that do nothing.
 pub mod laws {
-    pub use gltf_validation::laws::{clean_documents_are_closed, reports_are_the_faults_of_places};
+    pub use gltf_faults::laws::{clean_documents_are_closed, reports_are_the_faults_of_places};
 }
 
 /// Whole documents, and the lists in them.
@@ -47,5 +47,6 @@ pub mod root {
 /// What is wrong in a document, place by place.
 pub mod validation {
     pub use gltf_base::validation::{Checked, Error, USize64};
-    pub use gltf_validation::validation::{Count, Sink, Stop, Validate};
+    pub use gltf_sinks::{Collect, Count, Sink, Stop};
+    pub use gltf_validation::validation::Validate;
 }

@@ -5,9 +5,9 @@ use Rattle.arrayvec.specs.ArrayVec.{ArrayVec}
 use Rattle.gltf_paths.specs.Steps.{Step, steps_of, step_of}
 use Rattle.gltf_paths.specs.declared.path.Step.{Step as Borrowed}
 use Rattle.gltf_paths.specs.declared.validation.Error.{Error}
-use Rattle.gltf_validation.specs.Faults.{Report, From}
-use Rattle.gltf_validation.specs.Walk.{run, Walked}
-use Rattle.gltf_validation.specs.declared.validation.sink.Stop.TheVariants.{StepsFull}
+use Rattle.gltf_sinks.specs.Report.{Report, From}
+use Rattle.gltf_sinks.specs.Handed.{run, Walked}
+use Rattle.gltf_sinks.specs.declared.sink.Stop.TheVariants.{StepsFull}
 use Rattle.gltf_lines.specs.Output.{report_line, report_lines, with_report}
 
 -- a sink of lines appends the lines of all reports

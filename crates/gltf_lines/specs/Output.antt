@@ -6,8 +6,8 @@ use Rattle.gltf_paths.specs.Text.{path_text}
 use Rattle.gltf_paths.specs.declared.validation.Error.{Error}
 use Rattle.gltf_schema.specs.Tree.{Tree}
 use Rattle.gltf_root.specs.Answer.{Answer, no_json, no_document, document, answer}
-use Rattle.gltf_validation.specs.Faults.{Report, report}
-use Rattle.gltf_validation.specs.Reports.{reports_of}
+use Rattle.gltf_sinks.specs.Report.{Report, report}
+use Rattle.gltf_faults.specs.Reports.{reports_of}
 use Rattle.gltf_root.specs.RootTable.{root_kind}
 
 -- a text, and an exit status

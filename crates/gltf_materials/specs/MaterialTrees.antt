@@ -4,7 +4,7 @@ use Rattle.serde_json.specs.View.{members_view}
 use Rattle.gltf_choices.specs.SceneChoices.{alpha_mode_spelling}
 use Rattle.gltf_schema.specs.Tree.{Tree, Trees, trees, tree_or_absent, whole, truth, object}
 use Rattle.gltf_schema.specs.Leaves.{checked_tree}
-use Rattle.gltf_schema.specs.Fields.{index_tree, text_tree, real_tree, reals_tree, any_tree, closed_object}
+use Rattle.gltf_schema.specs.Fields.{index_tree, text_tree, real_tree, reals_tree, any_tree, closed_object, unlisted_object}
 use Rattle.gltf_textures.specs.TextureTrees.{info_members}
 use Rattle.gltf_shading.specs.MaterialExtensionTrees.{material_extension_members}
 use Rattle.gltf_materials.specs.declared.material.AlphaCutoff.{AlphaCutoff}
@@ -21,13 +21,13 @@ abbrev pub alpha_cutoff_tree : AlphaCutoff → Tree
 alpha_cutoff_tree c = real_tree c.0
 
 abbrev pub pbr_metallic_roughness_extensions : PbrMetallicRoughnessExtensions → Tree
-pbr_metallic_roughness_extensions e = object (trees []) (members_view e.others.entries)
+pbr_metallic_roughness_extensions e = unlisted_object (members_view e.others.entries)
 
 abbrev pub normal_texture_extensions : NormalTextureExtensions → Tree
-normal_texture_extensions e = object (trees []) (members_view e.others.entries)
+normal_texture_extensions e = unlisted_object (members_view e.others.entries)
 
 abbrev pub occlusion_texture_extensions : OcclusionTextureExtensions → Tree
-occlusion_texture_extensions e = object (trees []) (members_view e.others.entries)
+occlusion_texture_extensions e = unlisted_object (members_view e.others.entries)
 
 abbrev pub material_extensions : MaterialExtensions → Tree
 material_extensions e = object (material_extension_members e) (members_view e.others.entries)

@@ -4,7 +4,7 @@ use Rattle.serde_json.specs.View.{members_view}
 use Rattle.gltf_choices.specs.Choices.{mode_spelling}
 use Rattle.gltf_schema.specs.Tree.{Tree, Trees, trees, tree_or_absent, whole, object}
 use Rattle.gltf_schema.specs.Leaves.{checked_tree}
-use Rattle.gltf_schema.specs.Fields.{index_tree, text_tree, real_tree, any_tree, list_tree, attributes_tree, closed_object}
+use Rattle.gltf_schema.specs.Fields.{index_tree, text_tree, real_tree, any_tree, list_tree, attributes_tree, closed_object, unlisted_object}
 use Rattle.gltf_meshes.specs.declared.mesh.Mesh.{Mesh}
 use Rattle.gltf_meshes.specs.declared.mesh.Primitive.{Primitive}
 use Rattle.gltf_meshes.specs.declared.mesh.MorphTarget.{MorphTarget}
@@ -14,7 +14,7 @@ use Rattle.gltf_meshes.specs.declared.extensions.mesh.KhrMaterialsVariants.{KhrM
 use Rattle.gltf_meshes.specs.declared.extensions.mesh.Mapping.{Mapping}
 
 abbrev pub mesh_extensions : MeshExtensions → Tree
-mesh_extensions e = object (trees []) (members_view e.others.entries)
+mesh_extensions e = unlisted_object (members_view e.others.entries)
 
 unfoldable pub variant_mapping_members : Mapping → Trees
 variant_mapping_members v = trees (

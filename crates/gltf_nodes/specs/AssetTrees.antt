@@ -1,13 +1,12 @@
 -- The members of a document's own description, in the rows' order.
 use Rattle.std.specs.Prelude.{ℕ, List, [], ◌∷◌}
-use Rattle.serde_json.specs.Data.{no_members}
-use Rattle.gltf_schema.specs.Tree.{Tree, Trees, trees, tree_or_absent, absent, text, object}
-use Rattle.gltf_schema.specs.Fields.{text_tree, any_tree}
+use Rattle.gltf_schema.specs.Tree.{Tree, Trees, trees, tree_or_absent, absent, text}
+use Rattle.gltf_schema.specs.Fields.{text_tree, any_tree, closed_object}
 use Rattle.gltf_nodes.specs.declared.asset.Asset.{Asset}
 use Rattle.gltf_nodes.specs.declared.extensions.asset.Asset.{Asset as AssetExtensions}
 
 abbrev pub asset_extensions : AssetExtensions → Tree
-asset_extensions e = object (trees []) no_members
+asset_extensions e = closed_object (trees [])
 
 unfoldable pub asset_members : Asset → Trees
 asset_members v = trees (

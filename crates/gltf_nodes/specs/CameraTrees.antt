@@ -2,9 +2,9 @@
 use Rattle.std.specs.Prelude.{[], ◌∷◌}
 use Rattle.serde_json.specs.View.{members_view}
 use Rattle.gltf_choices.specs.SceneChoices.{camera_type_spelling}
-use Rattle.gltf_schema.specs.Tree.{Tree, Trees, trees, tree_or_absent, object}
+use Rattle.gltf_schema.specs.Tree.{Tree, Trees, trees, tree_or_absent}
 use Rattle.gltf_schema.specs.Leaves.{checked_tree}
-use Rattle.gltf_schema.specs.Fields.{text_tree, real_tree, any_tree, closed_object}
+use Rattle.gltf_schema.specs.Fields.{text_tree, real_tree, any_tree, closed_object, unlisted_object}
 use Rattle.gltf_nodes.specs.declared.camera.Camera.{Camera}
 use Rattle.gltf_nodes.specs.declared.camera.Orthographic.{Orthographic}
 use Rattle.gltf_nodes.specs.declared.camera.Perspective.{Perspective}
@@ -13,13 +13,13 @@ use Rattle.gltf_nodes.specs.declared.extensions.camera.Orthographic.{Orthographi
 use Rattle.gltf_nodes.specs.declared.extensions.camera.Perspective.{Perspective as PerspectiveExtensions}
 
 abbrev pub camera_extensions : CameraExtensions → Tree
-camera_extensions e = object (trees []) (members_view e.others.entries)
+camera_extensions e = unlisted_object (members_view e.others.entries)
 
 abbrev pub orthographic_extensions : OrthographicExtensions → Tree
-orthographic_extensions e = object (trees []) (members_view e.others.entries)
+orthographic_extensions e = unlisted_object (members_view e.others.entries)
 
 abbrev pub perspective_extensions : PerspectiveExtensions → Tree
-perspective_extensions e = object (trees []) (members_view e.others.entries)
+perspective_extensions e = unlisted_object (members_view e.others.entries)
 
 unfoldable pub orthographic_members : Orthographic → Trees
 orthographic_members v = trees (

@@ -3,7 +3,7 @@ use Rattle.std.specs.Prelude.{[], ◌∷◌}
 use Rattle.serde_json.specs.Data.{unsigned}
 use Rattle.serde_json.specs.View.{members_view}
 use Rattle.gltf_schema.specs.Tree.{Tree, Trees, trees, tree_or_absent, numbers, object}
-use Rattle.gltf_schema.specs.Fields.{index_tree, text_tree, real_tree, reals_tree, any_tree, list_tree, closed_object}
+use Rattle.gltf_schema.specs.Fields.{index_tree, text_tree, real_tree, reals_tree, any_tree, list_tree, closed_object, unlisted_object}
 use Rattle.gltf_nodes.specs.LightTrees.{light_of_node_members}
 use Rattle.gltf_nodes.specs.declared.scene.Node.{Node}
 use Rattle.gltf_nodes.specs.declared.scene.Scene.{Scene}
@@ -29,10 +29,10 @@ abbrev pub node_extensions : NodeExtensions → Tree
 node_extensions e = object (node_extension_members e) (members_view e.others.entries)
 
 abbrev pub scene_extensions : SceneExtensions → Tree
-scene_extensions e = object (trees []) (members_view e.others.entries)
+scene_extensions e = unlisted_object (members_view e.others.entries)
 
 abbrev pub skin_extensions : SkinExtensions → Tree
-skin_extensions e = object (trees []) (members_view e.others.entries)
+skin_extensions e = unlisted_object (members_view e.others.entries)
 
 unfoldable pub node_members : Node → Trees
 node_members v = trees (

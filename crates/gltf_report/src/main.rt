@@ -7,7 +7,7 @@ ghost use Rattle.std.specs.Process.{exit_status};
 ghost use Rattle.gltf_root.specs.Device.{IsFresh, IsWithin, byte_limit, call_limit};
 ghost use Rattle.gltf_lines.specs.Run.{IsRun};
 
-use gltf_json::root::{ByteIn, ByteOut, Watched};
+use gltf_root::root::{ByteIn, ByteOut, Watched};
 use std::alloc::Global;
 use std::process::ExitCode;
 

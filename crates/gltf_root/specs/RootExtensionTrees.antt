@@ -1,6 +1,7 @@
 -- The members of the extensions of a whole document, in the rows' order.
 use Rattle.std.specs.Prelude.{[], ◌∷◌}
-use Rattle.gltf_schema.specs.Tree.{Trees, trees, tree_or_absent}
+use Rattle.serde_json.specs.View.{members_view}
+use Rattle.gltf_schema.specs.Tree.{Tree, Trees, trees, tree_or_absent, object}
 use Rattle.gltf_schema.specs.Fields.{list_tree, closed_object}
 use Rattle.gltf_nodes.specs.LightTrees.{light_members, variant_members}
 use Rattle.gltf_root.specs.declared.extensions.root.Root.{Root}
@@ -22,3 +23,6 @@ root_extension_members v = trees (
     tree_or_absent (λ x. closed_object (lights_members x)) v.khr_lights_punctual
     ∷ tree_or_absent (λ x. closed_object (variants_members x)) v.khr_materials_variants
     ∷ [])
+
+abbrev pub root_extensions : Root → Tree
+root_extensions e = object (root_extension_members e) (members_view e.others.entries)

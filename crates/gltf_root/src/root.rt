@@ -1,20 +1,33 @@
 //! Whole documents, and the lists in them.
 
-ghost use Rattle.std.specs.Prelude.{false};
+ghost use Rattle.std.specs.Prelude.{◌≡◌, false, IfOk, codes};
 ghost use Rattle.serde_json.specs.Data.{no_members};
 ghost use Rattle.gltf_schema.specs.Kind.{ObjectName};
+ghost use Rattle.gltf_nodes.specs.AssetTrees.{asset_of_version};
 ghost use Rattle.gltf_root.specs.RootTable.{root_rows, root_sound};
-ghost use Rattle.gltf_root.specs.RootTrees.{root_members};
+ghost use Rattle.gltf_root.specs.RootTrees.{root_members, root_of_asset};
 
-use gltf_parts::accessor::Accessor;
-use gltf_parts::buffer::{Buffer, View};
-use gltf_parts::{Error, Object, Reading};
-use gltf_scene::asset::Asset;
+use crate::extensions;
+use gltf_animations::animation::Animation;
+use gltf_base::Index;
+use gltf_data::accessor::Accessor;
+use gltf_data::buffer::{Buffer, View};
+use gltf_data::extras::Extras;
+use gltf_data::image::Image;
+use gltf_materials::material::Material;
+use gltf_meshes::mesh::Mesh;
+use gltf_nodes::asset::Asset;
+use gltf_nodes::camera::Camera;
+use gltf_nodes::scene::{Node, Scene};
+use gltf_nodes::skin::Skin;
+use gltf_schema::{Error, Object, Reading};
+use gltf_textures::texture::{self, Texture};
 use serde_json::{Map, Value};
-use std::alloc::Global;
+use std::alloc::{AllocError, Global};
 
 mod device;
 mod get;
+mod items;
 mod parse;
 mod watched;
 
@@ -23,12 +36,92 @@ pub use get::{Get, RootItem};
 pub use watched::Watched;
 
 /// A whole document.
-#[derive(Clone, Debug, Drop)]
+// What takes longest to drop stands last (docs/DECISIONS.md).
+#[derive(Clone, Debug)]
 pub struct Root {
+    /// The scene that is shown first.
+    pub scene: Option<Index<Scene>>,
     pub accessors: Vec<Accessor>,
-    pub asset: Asset,
+    pub animations: Vec<Animation>,
     pub buffers: Vec<Buffer>,
     pub buffer_views: Vec<View>,
+    /// The names of the extensions that the document uses anywhere.
+    pub extensions_used: Vec<String>,
+    /// The names of those that a reader has to know.
+    pub extensions_required: Vec<String>,
+    pub cameras: Vec<Camera>,
+    pub images: Vec<Image>,
+    pub materials: Vec<Material>,
+    pub meshes: Vec<Mesh>,
+    pub nodes: Vec<Node>,
+    /// How textures are sampled; animations hold samplers of their own.
+    pub samplers: Vec<texture::Sampler>,
+    pub scenes: Vec<Scene>,
+    pub skins: Vec<Skin>,
+    pub textures: Vec<Texture>,
+    /// What the document says of itself.
+    pub asset: Asset,
+    pub extras: Extras,
+    pub extensions: Option<extensions::root::Root>,
+}
+
+// One call drops it, wherever it is held (docs/DECISIONS.md).
+impl Drop for Root {
+    fn drop(self) {
+        let Root {
+            scene: _,
+            accessors: _,
+            animations: _,
+            buffers: _,
+            buffer_views: _,
+            extensions_used: _,
+            extensions_required: _,
+            cameras: _,
+            images: _,
+            materials: _,
+            meshes: _,
+            nodes: _,
+            samplers: _,
+            scenes: _,
+            skins: _,
+            textures: _,
+            asset: _,
+            extras: _,
+            extensions: _,
+        } = self;
+    }
+}
+
+impl Root {
+    /// A document of version `2.0` that holds nothing. `Err` only where memory was refused for that
+    /// text.
+    #[tactic(auto, unfolding(crate::specs::RootTable::root_rows, crate::specs::RootTrees::root_members))]
+    pub fn new(alloc: Global) -> Result<Root, AllocError>
+        ensures { IfOk result (λ root. root_members root ≡ root_of_asset (asset_of_version (codes "2.0"))) }
+    {
+        let asset = Asset::new(alloc)?;
+        Ok(Root {
+            scene: None,
+            accessors: Vec::new(alloc),
+            animations: Vec::new(alloc),
+            buffers: Vec::new(alloc),
+            buffer_views: Vec::new(alloc),
+            extensions_used: Vec::new(alloc),
+            extensions_required: Vec::new(alloc),
+            cameras: Vec::new(alloc),
+            images: Vec::new(alloc),
+            materials: Vec::new(alloc),
+            meshes: Vec::new(alloc),
+            nodes: Vec::new(alloc),
+            samplers: Vec::new(alloc),
+            scenes: Vec::new(alloc),
+            skins: Vec::new(alloc),
+            textures: Vec::new(alloc),
+            asset,
+            extras: None,
+            extensions: None,
+        })
+    }
 }
 
 impl Object for Root {
@@ -47,29 +140,44 @@ impl Object for Root {
     fn decode_members(alloc: Global, found: Map<String, Value>) -> Result<Root, Error> {
         let mut reading = Reading::from_members(alloc, found);
         let accessors = reading.list("accessors");
-        reading.not_yet("animations");
+        let animations = reading.list("animations");
         let asset = reading.required("asset");
         let buffers = reading.list("buffers");
         let buffer_views = reading.list("bufferViews");
-        reading.not_yet("scene");
-        reading.not_yet("extensions");
-        reading.not_yet("extras");
-        reading.not_yet("extensionsUsed");
-        reading.not_yet("extensionsRequired");
-        reading.not_yet("cameras");
-        reading.not_yet("images");
-        reading.not_yet("materials");
-        reading.not_yet("meshes");
-        reading.not_yet("nodes");
-        reading.not_yet("samplers");
-        reading.not_yet("scenes");
-        reading.not_yet("skins");
-        reading.not_yet("textures");
+        let scene = reading.optional("scene");
+        let extensions = reading.optional("extensions");
+        let extras = reading.optional("extras");
+        let extensions_used = reading.list("extensionsUsed");
+        let extensions_required = reading.list("extensionsRequired");
+        let cameras = reading.list("cameras");
+        let images = reading.list("images");
+        let materials = reading.list("materials");
+        let meshes = reading.list("meshes");
+        let nodes = reading.list("nodes");
+        let samplers = reading.list("samplers");
+        let scenes = reading.list("scenes");
+        let skins = reading.list("skins");
+        let textures = reading.list("textures");
         reading.finish(Root {
             accessors,
+            animations,
             asset,
             buffers,
             buffer_views,
+            scene,
+            extensions,
+            extras,
+            extensions_used,
+            extensions_required,
+            cameras,
+            images,
+            materials,
+            meshes,
+            nodes,
+            samplers,
+            scenes,
+            skins,
+            textures,
         })
     }
 }

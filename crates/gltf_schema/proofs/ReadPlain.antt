@@ -10,7 +10,7 @@ use Rattle.gltf_schema.specs.Outcome.{Reads}
 use Rattle.gltf_schema.specs.Maybe.{◌>>=◌}
 use Rattle.gltf_schema.specs.Tree as tree
 use Rattle.gltf_schema.specs.Tree.{Tree, Trees, end, with_tree}
-use Rattle.gltf_schema.specs.Kind.{Mark, required, optional, always, unless, sometimes, or_null, not_yet, Kind, IndexInto, SourceImage, ChannelSampler, U32, U64, Stride, Number, Numbers, Text, Truth, Any, Choice, Attributes, ListOf, Object, Rows, no_rows, row, has_row}
+use Rattle.gltf_schema.specs.Kind.{Mark, required, optional, always, unless, sometimes, or_null, Kind, IndexInto, SourceImage, ChannelSampler, U32, U64, Stride, Number, Numbers, Text, Truth, Any, Choice, Attributes, ListOf, Object, Rows, no_rows, row, has_row}
 use Rattle.gltf_schema.specs.Read.{read, read_rows, read_items, read_member, read_entries, choice_among, spelling_in, small_number, whole_number, all_numbers, others, kept}
 use Rattle.gltf_schema.specs.Plain.{is_plain, are_plain, none_named, are_none, all_trees, is_null_kept, is_sound, are_sound, has_plain_default}
 use Rattle.gltf_schema.proofs.TakingOut.{sound_row}
@@ -164,8 +164,6 @@ member_plain sometimes kind None t default each h = absent_member sometimes kind
 member_plain sometimes kind (Some d) t default each h = record { seen = refl; plain = each d t h }
 member_plain or_null kind None t default each h = absent_member or_null kind t refl h
 member_plain or_null kind (Some d) t default each h = present_or_null_at _ kind d t (each d) h
-member_plain not_yet kind None t default each h = absent_member not_yet kind t refl h
-member_plain not_yet kind (Some d) t default each h = absurd cc
 
 mutual
   -- what a sound kind reads is plain

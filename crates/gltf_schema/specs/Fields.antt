@@ -1,8 +1,8 @@
 -- The trees of an object's fields.
-use Rattle.std.specs.Prelude.{ℕ, List, map, String, string_bytes}
+use Rattle.std.specs.Prelude.{ℕ, List, [], map, String, string_bytes}
 use Rattle.std.specs.declared.alloc.Global.{Global}
 use Rattle.std.specs.BTreeMap.{BTreeMap}
-use Rattle.serde_json.specs.Data.{no_members}
+use Rattle.serde_json.specs.Data.{Members, no_members}
 use Rattle.serde_json.specs.View.{view}
 use Rattle.serde_json.specs.declared.value.Value.{Value}
 use Rattle.gltf_checked.specs.Keys.{Key}
@@ -47,3 +47,7 @@ attributes_tree m = attributes (map entry_of m.entries)
 -- an object that keeps no other members
 abbrev pub closed_object : Trees → Tree
 closed_object ts = object ts no_members
+
+-- an extension object of which no member is known, with the members that it keeps
+abbrev pub unlisted_object : Members → Tree
+unlisted_object kept = object (trees []) kept

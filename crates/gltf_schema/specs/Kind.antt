@@ -69,8 +69,6 @@ pub data Mark : Type 0 where
   sometimes : Mark
   -- as optional, but absent is written as null
   or_null : Mark
-  -- no document with it is read so far
-  not_yet : Mark
 
 mutual
   pub data Kind : Type 0 where

@@ -11,7 +11,7 @@ use Rattle.gltf_checked.specs.declared.choice.Form.{Form}
 use Rattle.gltf_checked.specs.declared.choice.Form.TheVariants as form
 use Rattle.gltf_schema.specs.Maybe.{◌>>=◌}
 use Rattle.gltf_schema.specs.Tree.{Tree, absent, whole, number, numbers, text, truth, any, chosen, invalid, index, list, attributes, object, Trees, end, with_tree}
-use Rattle.gltf_schema.specs.Kind.{Mark, required, optional, always, unless, sometimes, or_null, not_yet, Kind, IndexInto, SourceImage, ChannelSampler, U32, U64, Stride, Number, Numbers, Text, Truth, Any, Choice, Attributes, ListOf, Object, Rows, no_rows, row, has_row}
+use Rattle.gltf_schema.specs.Kind.{Mark, required, optional, always, unless, sometimes, or_null, Kind, IndexInto, SourceImage, ChannelSampler, U32, U64, Stride, Number, Numbers, Text, Truth, Any, Choice, Attributes, ListOf, Object, Rows, no_rows, row, has_row}
 
 abbrev pub whole_number : Data → Option ℕ
 whole_number d = option_and_then as_u64 (as_number d)
@@ -51,8 +51,6 @@ read_member sometimes f None = Some absent
 read_member sometimes f (Some d) = f d
 read_member or_null f None = Some absent
 read_member or_null f (Some d) = if is_some (as_null d) then Some absent else f d
-read_member not_yet f None = Some absent
-read_member not_yet f (Some d) = None
 
 -- the members whose names are no row's
 abbrev pub others : Rows → Members → Members

@@ -4,8 +4,8 @@
 ghost use Rattle.std.specs.Prelude.{◌≡◌, option_map, map};
 ghost use Rattle.serde_json.specs.Find.{get_member};
 ghost use Rattle.serde_json.specs.View.{view, members_view};
-ghost use Rattle.gltf_schema.specs.Tree.{tree_or_absent, trees, list as list_tree, end, absent};
-ghost use Rattle.gltf_schema.specs.Kind.{required as is_required, optional as is_optional, always, unless, sometimes as is_sometimes, or_null, not_yet as is_not_yet, Any, ListOf};
+ghost use Rattle.gltf_schema.specs.Tree.{tree_or_absent, trees, list as list_tree, end};
+ghost use Rattle.gltf_schema.specs.Kind.{required as is_required, optional as is_optional, always, unless, sometimes as is_sometimes, or_null, ListOf};
 ghost use Rattle.gltf_schema.specs.Taken.{take_member, without};
 ghost use Rattle.gltf_schema.specs.Outcome.{Reads};
 
@@ -111,21 +111,5 @@ pub(crate) fn list<T: Schema>(
     match take(members, name) {
         Some(value) => Schema::decode(alloc, value),
         None => Ok(Vec::new(alloc)),
-    }
-}
-
-/// A member with which no document is read so far.
-#[tactic(auto, unfolding(crate::specs::Taken::take_member))]
-pub(crate) fn not_yet(
-    _alloc: Global,
-    members: &mut Map<String, Value>,
-    name: &str,
-) -> Result<(), Error>
-    ensures { Reads (λ _. (absent, members_view members.new.entries)) result
-        (take_member name.now is_not_yet Any (members_view members.old.entries)) }
-{
-    match take(members, name) {
-        Some(_) => Err(Error::Schema),
-        None => Ok(()),
     }
 }

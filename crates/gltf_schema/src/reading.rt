@@ -2,13 +2,13 @@
 
 ghost use Rattle.std.specs.Prelude.{◌≡◌, Ok, map};
 ghost use Rattle.serde_json.specs.View.{members_view};
-ghost use Rattle.gltf_schema.specs.Tree.{Tree, tree_or_absent, trees, list as list_tree, end, absent};
-ghost use Rattle.gltf_schema.specs.Kind.{required as is_required, optional as is_optional, always, unless, sometimes as is_sometimes, or_null, not_yet as is_not_yet, Any, ListOf};
+ghost use Rattle.gltf_schema.specs.Tree.{Tree, tree_or_absent, trees, list as list_tree, end};
+ghost use Rattle.gltf_schema.specs.Kind.{required as is_required, optional as is_optional, always, unless, sometimes as is_sometimes, or_null, ListOf};
 ghost use Rattle.gltf_schema.specs.Readings.{reading_state, ReadsMember, TakesOthers, Finishes};
 
 use crate::blank::Blank;
 use crate::error::Error;
-use crate::members::{list, not_yet, optional, or_default, required, sometimes};
+use crate::members::{list, optional, or_default, required, sometimes};
 use crate::schema::Schema;
 use serde_json::{Map, Value};
 use std::alloc::Global;
@@ -114,13 +114,5 @@ impl Reading {
             (T.tree result) (reading_state self.new) }
     {
         read_on!(self, or_default(name, default), T::blank(self.alloc))
-    }
-
-    /// A member with which no document is read so far.
-    pub fn not_yet(&mut self, name: &str)
-        ensures { ReadsMember (reading_state self.old) name.now is_not_yet Any
-            absent (reading_state self.new) }
-    {
-        read_on!(self, not_yet(name), ())
     }
 }

@@ -4,7 +4,7 @@ use Rattle.serde_json.specs.View.{members_view}
 use Rattle.gltf_choices.specs.TextureChoices.{mag_filter_spelling, min_filter_spelling, wrapping_mode_spelling}
 use Rattle.gltf_schema.specs.Tree.{Tree, Trees, trees, tree_or_absent, whole, object}
 use Rattle.gltf_schema.specs.Leaves.{checked_tree}
-use Rattle.gltf_schema.specs.Fields.{index_tree, text_tree, real_tree, reals_tree, any_tree, closed_object}
+use Rattle.gltf_schema.specs.Fields.{index_tree, text_tree, real_tree, reals_tree, any_tree, closed_object, unlisted_object}
 use Rattle.gltf_textures.specs.declared.texture.Sampler.{Sampler}
 use Rattle.gltf_textures.specs.declared.texture.Texture.{Texture}
 use Rattle.gltf_textures.specs.declared.texture.Info.{Info}
@@ -14,10 +14,10 @@ use Rattle.gltf_textures.specs.declared.extensions.texture.Info.{Info as InfoExt
 use Rattle.gltf_textures.specs.declared.extensions.texture.TextureTransform.{TextureTransform}
 
 abbrev pub sampler_extensions : SamplerExtensions → Tree
-sampler_extensions e = object (trees []) (members_view e.others.entries)
+sampler_extensions e = unlisted_object (members_view e.others.entries)
 
 abbrev pub texture_extensions : TextureExtensions → Tree
-texture_extensions e = object (trees []) (members_view e.others.entries)
+texture_extensions e = unlisted_object (members_view e.others.entries)
 
 unfoldable pub sampler_members : Sampler → Trees
 sampler_members v = trees (

@@ -7,9 +7,10 @@ use Rattle.gltf_checked.specs.declared.validation.Checked.TheVariants.{Valid, In
 use Rattle.gltf_schema.specs.Tree.{Tree, absent, trees, list, tree_or_absent}
 use Rattle.gltf_schema.specs.Kind.{Kind, IndexInto, SourceImage, ChannelSampler, U32, U64, Stride, Number, Numbers, Text, Truth, Any, Choice, Attributes, ListOf, Object}
 use Rattle.gltf_schema.specs.Leaves.{checked_tree}
-use Rattle.gltf_validation.specs.Faults.{From, choice_faults}
-use Rattle.gltf_validation.specs.Reports.{reports, items_reports}
-use Rattle.gltf_validation.specs.Walk.{reports_by, reports_in, checked_reports, option_reports, list_reports, list_kind, each_at}
+use Rattle.gltf_sinks.specs.Report.{From, each_at}
+use Rattle.gltf_faults.specs.Faults.{choice_faults}
+use Rattle.gltf_faults.specs.Reports.{reports, items_reports}
+use Rattle.gltf_validation.specs.ByType.{reports_by, reports_in, checked_reports, option_reports, list_reports, list_kind}
 
 -- nothing is wrong in what is absent
 absent-silent : (kind : Kind) (root animation : Tree) (base : List Step) → reports kind absent root animation base ≡ []
@@ -40,7 +41,7 @@ pub option-some : {X : Type 0} (kind : Option Kind) (tree : X → Tree) (own : X
 option-some None tree own root x base = refl
 option-some (Some kind) tree own root x base = refl
 
-items-each : {X : Type 0} (kind : Kind) (tree : X → Tree) (root animation : Tree) (i : ℕ) (xs : List X) (base : List Step)
+pub items-each : {X : Type 0} (kind : Kind) (tree : X → Tree) (root animation : Tree) (i : ℕ) (xs : List X) (base : List Step)
     → items_reports (λ t. reports kind t root animation) i (trees (map tree xs)) base ≡ each_at (λ x. reports kind (tree x) root animation) i xs base
 items-each kind tree root animation i [] base = refl
 items-each kind tree root animation i (x ∷ xs) base =

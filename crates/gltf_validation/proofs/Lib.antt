@@ -1,7 +1,4 @@
-pub mod ByPlaces
-pub mod CleanIsClosed
-pub mod Walks
-pub mod Resolving
-pub mod Loops
+pub mod Silences
 pub mod ByTable
-pub mod Counting
+pub mod BelowAnimations
+pub mod Entries

@@ -1,5 +1,4 @@
-//! What is wrong in a glTF 2.0 document, and what follows where nothing is.
+//! What validation hands to a sink, object by object.
 #![tactic(auto)]
 
-pub mod laws;
 pub mod validation;

@@ -3,25 +3,36 @@
 ghost use Rattle.std.specs.Prelude.{◌≡◌, ℕ, Option, None};
 ghost use Rattle.gltf_schema.specs.Tree.{Tree, absent};
 ghost use Rattle.gltf_schema.specs.Kind.{Kind};
-ghost use Rattle.gltf_validation.specs.Faults.{From};
+ghost use Rattle.gltf_sinks.specs.Report.{From};
 ghost use Rattle.gltf_root.specs.RootTrees.{root_tree};
-ghost use Rattle.gltf_validation.specs.Walk.{Walked, reports_by, no_reports};
+ghost use Rattle.gltf_sinks.specs.Handed.{Walked};
+ghost use Rattle.gltf_validation.specs.ByType.{reports_by, no_reports};
 
 use gltf_base::Steps;
 use gltf_root::root::Root;
+use gltf_sinks::{Sink, Stop};
 
 mod accessor;
+mod animation;
 mod buffer;
+mod camera;
+mod channels;
 mod composed;
 mod document;
+mod image;
 mod leaves;
+mod light;
 mod maps;
+mod material;
+mod mesh;
+mod normal_texture;
+mod occlusion_texture;
+mod scene;
+mod shading;
 mod silent;
-mod sink;
 mod sparse;
+mod texture;
 mod within;
-
-pub use sink::{Count, Sink, Stop};
 
 /// What can be validated.
 pub trait Validate {

@@ -7,6 +7,8 @@
 #[cfg(test)]
 mod base;
 #[cfg(test)]
+mod documents;
+#[cfg(test)]
 mod lines;
 #[cfg(test)]
 mod objects;

@@ -14,7 +14,7 @@ use std::alloc::Global;
 use std::test::Fail;
 
 /// What a JSON text is read as.
-fn read<T: Schema>(alloc: Global, text: &str) -> Result<T, Fail> {
+pub(super) fn read<T: Schema>(alloc: Global, text: &str) -> Result<T, Fail> {
     let value = Value::from_str(alloc, text)?;
     Ok(T::decode(alloc, value)?)
 }

@@ -1,24 +1,39 @@
 //! Sinks, and what validation hands to them.
 
-ghost use Rattle.std.specs.Prelude.{◌≡◌, ℕ, ◌+◌};
+ghost use Rattle.std.specs.Prelude.{ℕ, ◌+◌, ⊤};
 
 use gltf_base::{Step, Steps};
-use gltf_json::accessor::{Accessor, ComponentType, GenericComponentType, Type};
 use gltf_json::buffer::{Stride, View};
-use gltf_json::validation::{Checked, Count, Error, Sink, Stop, USize64, Validate};
-use gltf_json::{Asset, Index, Path, Root};
+use gltf_json::validation::{Count, Error, Sink, USize64, Validate};
+use gltf_json::{Index, Path, Root};
 use std::alloc::{AllocError, Global};
+use std::fmt::Write;
 use std::test::Fail;
 
-/// A sink that takes so many reports and refuses the next.
+/// A document with one accessor, in which what is missing is its view.
+const NO_VIEW: &str =
+    r#"{"asset":{"version":"2.0"},"accessors":[{"count":1,"componentType":5126,"type":"VEC3"}]}"#;
+
+/// The same with a type that isn't listed.
+const NO_VIEW_AND_NO_TYPE: &str =
+    r#"{"asset":{"version":"2.0"},"accessors":[{"count":1,"componentType":5126,"type":"foo"}]}"#;
+
+/// Why a bounded sink refuses a report.
+const FULL: u8 = 7;
+
+const NO_MEMORY: u8 = 8;
+
+/// A sink that takes so many reports, each as a line, and refuses the next.
 #[derive(Drop)]
 struct Bounded {
+    alloc: Global,
     taken: u32,
     limit: u32,
+    lines: String,
 }
 
 impl Sink for Bounded {
-    type Refusal = Error;
+    type Refusal = u8;
 
     ghost State = { ℕ };
 
@@ -26,33 +41,125 @@ impl Sink for Bounded {
 
     ghost next = { λ n _ _. n + 1 };
 
-    ghost refuses = { λ old _ error r new. (new ≡ old) × (r ≡ error) };
+    ghost refuses = { λ _ _ _ _ _. ⊤ };
 
-    fn report(&mut self, _path: &Steps<'_>, error: Error) -> Result<(), Error> {
+    fn report(&mut self, path: &Steps<'_>, error: Error) -> Result<(), u8> {
         if self.taken >= self.limit {
-            return Err(error);
+            return Err(FULL);
         }
         self.taken += 1;
-        Ok(())
+        match write_line(self.alloc, &mut self.lines, path, error) {
+            Ok(()) => Ok(()),
+            Err(_) => Err(NO_MEMORY),
+        }
     }
 }
 
-/// An accessor without data, whose type is as given.
-fn accessor(type_: Checked<Type>) -> Accessor {
-    Accessor {
-        buffer_view: None,
-        byte_offset: None,
-        count: USize64(1),
-        component_type: Checked::Valid(GenericComponentType(ComponentType::F32)),
-        type_,
-        min: None,
-        max: None,
-        name: None,
-        normalized: false,
-        sparse: None,
-        extensions: None,
-        extras: None,
+/// Appends a report as a line.
+fn write_line(
+    alloc: Global,
+    lines: &mut String,
+    path: &Steps<'_>,
+    error: Error,
+) -> Result<(), AllocError> {
+    let place = Path::of(alloc, path)?;
+    writeln!(lines, "{place}: {error}")
+}
+
+/// What a bounded sink holds of a document's reports, a line for each, and a last line that says
+/// how validation ended, and how long the path is then.
+fn bounded_lines_of(alloc: Global, root: &Root, limit: u32) -> Result<String, gltf_json::Error> {
+    let mut path = Steps::new();
+    let mut sink = Bounded {
+        alloc,
+        taken: 0,
+        limit,
+        lines: String::new(alloc),
+    };
+    let ended = root.validate(root, &mut path, &mut sink);
+    let step_count = path.len();
+    writeln!(sink.lines, "{ended:?}, {step_count} steps")?;
+    Ok(sink.lines)
+}
+
+/// The same of a document that is given as a text.
+pub(super) fn bounded_lines(
+    alloc: Global,
+    document: &str,
+    limit: u32,
+) -> Result<String, gltf_json::Error> {
+    let root = Root::from_str(alloc, document)?;
+    bounded_lines_of(alloc, &root, limit)
+}
+
+/// How many reports a sink takes, and what it holds then of the document with two faults.
+type Limit = (u32, &'static str);
+
+const LIMITS: [Limit; 3] = [
+    (0, "Err(Sink(7)), 0 steps\n"),
+    (
+        1,
+        "accessors[0].type: Invalid value\nErr(Sink(7)), 0 steps\n",
+    ),
+    (
+        2,
+        "accessors[0].type: Invalid value\naccessors[0].bufferView: Missing data\nOk(()), 0 steps\n",
+    ),
+];
+
+#[test]
+fn stops_where_the_sink_refuses(rt: HostRuntime) -> Result<(), Fail> {
+    for case in LIMITS.iter() {
+        let lines = bounded_lines(rt.alloc(), NO_VIEW_AND_NO_TYPE, case.0)?;
+        assert_eq!(rt; lines.as_str(), case.1);
     }
+    Ok(())
+}
+
+/// So many steps.
+fn steps<'a>(count: usize) -> Steps<'a> {
+    let mut path = Steps::new();
+    for n in 0..count {
+        if !path.is_full() {
+            path.push(Step::Index(n));
+        }
+    }
+    path
+}
+
+/// How validation of a document from so many steps ends, how many reports were counted, and the
+/// path then.
+fn count_of(alloc: Global, root: &Root, step_count: usize) -> Result<String, gltf_json::Error> {
+    let mut path = steps(step_count);
+    let mut sink = Count::new();
+    let ended = root.validate(root, &mut path, &mut sink);
+    let count = sink.count();
+    let place = Path::of(alloc, &path)?;
+    Ok(format!(in alloc; "{ended:?}, {count} at {place}")?)
+}
+
+/// The same of the document with one fault.
+fn count_from(alloc: Global, step_count: usize) -> Result<String, gltf_json::Error> {
+    let root = Root::from_str(alloc, NO_VIEW)?;
+    count_of(alloc, &root, step_count)
+}
+
+#[test]
+fn counts_from_six_steps(rt: HostRuntime) -> Result<(), Fail> {
+    assert_eq!(rt;
+        count_from(rt.alloc(), 6)?.as_str(),
+        "Ok(()), 1 at [0][1][2][3][4][5]"
+    );
+    Ok(())
+}
+
+#[test]
+fn stops_where_steps_are_full(rt: HostRuntime) -> Result<(), Fail> {
+    assert_eq!(rt;
+        count_from(rt.alloc(), 16)?.as_str(),
+        "Err(StepsFull), 0 at [0][1][2][3][4][5][6][7][8][9][10][11][12][13][14][15]"
+    );
+    Ok(())
 }
 
 fn view(byte_stride: usize) -> View {
@@ -68,88 +175,29 @@ fn view(byte_stride: usize) -> View {
     }
 }
 
-/// A document with one accessor, in which what is missing is its view.
-fn root(alloc: Global, type_: Checked<Type>) -> Result<Root, AllocError> {
-    let mut accessors = Vec::with_capacity(alloc, 1)?;
-    accessors.push(accessor(type_))?;
-    Ok(Root {
-        accessors,
-        asset: Asset::new(alloc)?,
-        buffers: Vec::new(alloc),
-        buffer_views: Vec::new(alloc),
-    })
-}
-
-/// So many steps.
-fn steps<'a>(count: usize) -> Steps<'a> {
-    let mut path = Steps::new();
-    for n in 0..count {
-        if !path.is_full() {
-            path.push(Step::Index(n));
-        }
-    }
-    path
-}
-
-#[test]
-fn counts_from_six_steps(rt: HostRuntime) -> Result<(), Fail> {
-    let root = root(rt.alloc(), Checked::Valid(Type::Vec3))?;
-    let mut path = steps(6);
+/// How many faults a view of this stride has; 0 where validation stopped.
+fn fault_count(root: &Root, byte_stride: usize) -> u64 {
+    let view = view(byte_stride);
     let mut sink = Count::new();
-    assert!(rt; root.validate(&root, &mut path, &mut sink).is_ok());
-    assert_eq!(rt; sink.count(), 1);
-    assert_eq!(rt;
-        Path::of(rt.alloc(), &path)?.0.as_str(),
-        "[0][1][2][3][4][5]"
-    );
-    Ok(())
+    let ended = view.validate(root, &mut Steps::new(), &mut sink);
+    if ended.is_ok() { sink.count() } else { 0 }
 }
 
-#[test]
-fn stops_where_steps_are_full(rt: HostRuntime) -> Result<(), Fail> {
-    let root = root(rt.alloc(), Checked::Valid(Type::Vec3))?;
-    let mut path = steps(16);
-    let mut sink = Count::new();
-    assert!(rt;
-        matches!(
-            root.validate(&root, &mut path, &mut sink),
-            Err(Stop::StepsFull)
-        )
-    );
-    assert_eq!(rt; sink.count(), 0);
-    assert_eq!(rt; path.len(), 16);
-    Ok(())
-}
-
-#[test]
-fn stops_where_the_sink_refuses(rt: HostRuntime) -> Result<(), Fail> {
-    let root = root(rt.alloc(), Checked::Invalid)?;
-    for (limit, want) in [(0, Error::Invalid), (1, Error::Missing)] {
-        let mut path = Steps::new();
-        let mut sink = Bounded { taken: 0, limit };
-        match root.validate(&root, &mut path, &mut sink) {
-            Err(Stop::Sink(refused)) => assert_eq!(rt; refused, want),
-            _ => assert!(rt; false, "not stopped at {limit}"),
-        }
-        assert_eq!(rt; sink.taken, limit);
-    }
-    let mut path = Steps::new();
-    let mut sink = Bounded { taken: 0, limit: 2 };
-    assert!(rt; root.validate(&root, &mut path, &mut sink).is_ok());
-    assert_eq!(rt; sink.taken, 2);
-    Ok(())
+/// How many faults views have, by their strides, in a document without buffers.
+fn fault_counts(alloc: Global) -> Result<[u64; 5], gltf_json::Error> {
+    let root = Root::new(alloc)?;
+    Ok([
+        fault_count(&root, 0),
+        fault_count(&root, 3),
+        fault_count(&root, 4),
+        fault_count(&root, 252),
+        fault_count(&root, 253),
+    ])
 }
 
 #[test]
 fn strides_are_from_4_to_252(rt: HostRuntime) -> Result<(), Fail> {
-    let root = root(rt.alloc(), Checked::Valid(Type::Vec3))?;
-    for (stride, faults) in [(0, 2), (3, 2), (4, 1), (252, 1), (253, 2)] {
-        let view = view(stride);
-        let mut path = Steps::new();
-        let mut sink = Count::new();
-        assert!(rt; view.validate(&root, &mut path, &mut sink).is_ok());
-        // One fault is the buffer, which the document doesn't have.
-        assert_eq!(rt; sink.count(), faults, "at {stride}");
-    }
+    // One fault is the buffer, which the document doesn't have.
+    assert_eq!(rt; fault_counts(rt.alloc())?, [2, 2, 1, 1, 2]);
     Ok(())
 }

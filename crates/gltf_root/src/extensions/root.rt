@@ -9,9 +9,9 @@ ghost use Rattle.gltf_schema.specs.Defaults.{defaults};
 ghost use Rattle.gltf_root.specs.RootExtensionTable.{root_extension_rows, root_extension_sound, lights_rows, lights_sound, variants_rows, variants_sound};
 ghost use Rattle.gltf_root.specs.RootExtensionTrees.{root_extension_members, lights_members, variants_members};
 
-use gltf_parts::{Error, Object, Reading};
-use gltf_scene::extensions::scene::khr_lights_punctual::Light;
-use gltf_scene::extensions::scene::khr_materials_variants::Variant;
+use gltf_nodes::extensions::scene::khr_lights_punctual::Light;
+use gltf_nodes::extensions::scene::khr_materials_variants::Variant;
+use gltf_schema::{Error, Object, Reading};
 use serde_json::{Map, Value};
 use std::alloc::Global;
 

@@ -4,7 +4,7 @@ ghost use Rattle.std.specs.Prelude.{◌≡◌, ◌+◌, ◌<◌, ◌≤◌, ◌&
 ghost use Rattle.std.specs.Io.KnownBytes.{ReadConsumes, WriteAppends};
 ghost use Rattle.gltf_root.specs.Device.{Seen, saturated, IsFresh, IsWithin, IsReadToEnd, GaveUp};
 
-use gltf_parts::Error as DocumentError;
+use gltf_schema::Error as DocumentError;
 use std::alloc::Global;
 use thiserror::Error;
 

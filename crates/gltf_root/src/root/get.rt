@@ -1,20 +1,15 @@
 //! The items of a document's lists, by their indexes.
 
-ghost use Rattle.std.specs.Prelude.{◌≡◌, List, slice_get, refl, map};
+ghost use Rattle.std.specs.Prelude.{◌≡◌, List, slice_get, map};
 ghost use Rattle.std.specs.Option.{option_copied};
 ghost use Rattle.gltf_paths.specs.Indexes.{index_number};
 ghost use Rattle.gltf_schema.specs.Tree.{Tree, trees};
-ghost use Rattle.gltf_schema.specs.Fields.{closed_object};
-ghost use Rattle.gltf_data.specs.AccessorTrees.{accessor_members};
-ghost use Rattle.gltf_data.specs.BufferTrees.{buffer_members, view_members};
 ghost use Rattle.gltf_root.specs.Lists.{list_in};
-ghost use Rattle.gltf_root.specs.RootTrees.{root_tree, root_members};
+ghost use Rattle.gltf_root.specs.RootTrees.{root_tree};
 ghost use Rattle.gltf_root.specs.declared.root.Root.{Root};
 
 use super::Root;
 use gltf_base::{Index, Listed};
-use gltf_parts::accessor::Accessor;
-use gltf_parts::buffer::{Buffer, View};
 
 /// A document has a list of `T`.
 pub trait Get<T> {
@@ -67,41 +62,5 @@ impl Root {
         ensures { option_copied result ≡ slice_get (⟦<Root as Get<T>>⟧.listed self.now) (index_number index) }
     {
         Get::<T>::get(self, index)
-    }
-}
-
-impl RootItem for Accessor {
-    ghost tree = { λ x. closed_object (accessor_members x) };
-
-    ghost items = { λ r. r.accessors.items };
-
-    ghost lists = { λ r. unfold root_members in refl };
-
-    fn list_of(root: &Root) -> &[Accessor] {
-        root.accessors.as_slice()
-    }
-}
-
-impl RootItem for Buffer {
-    ghost tree = { λ x. closed_object (buffer_members x) };
-
-    ghost items = { λ r. r.buffers.items };
-
-    ghost lists = { λ r. unfold root_members in refl };
-
-    fn list_of(root: &Root) -> &[Buffer] {
-        root.buffers.as_slice()
-    }
-}
-
-impl RootItem for View {
-    ghost tree = { λ x. closed_object (view_members x) };
-
-    ghost items = { λ r. r.buffer_views.items };
-
-    ghost lists = { λ r. unfold root_members in refl };
-
-    fn list_of(root: &Root) -> &[View] {
-        root.buffer_views.as_slice()
     }
 }

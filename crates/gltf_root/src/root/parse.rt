@@ -1,4 +1,4 @@
-//! Documents from values, bytes and readers.
+//! Documents from values, texts, bytes and readers.
 
 ghost use Rattle.std.specs.Prelude.{◌≡◌, true, None, Err, IfOk, IfSome};
 ghost use Rattle.serde_json.specs.Find.{as_object};
@@ -13,7 +13,7 @@ ghost use Rattle.gltf_root.specs.RootTrees.{root_tree};
 
 use super::Root;
 use super::device::{ByteIn, read_to_end};
-use gltf_parts::{Error, Schema};
+use gltf_schema::{Error, Schema};
 use serde_json::Value;
 use std::alloc::{AllocError, Global};
 
@@ -45,6 +45,14 @@ impl Root {
             Err(e) if e.is_memory() => Err(Error::Memory(AllocError)),
             Err(_) => Err(Error::Json),
         }
+    }
+
+    /// The document that a text of JSON is, as [`Root::from_slice`] of its bytes.
+    pub fn from_str(alloc: Global, text: &str) -> Result<Root, Error>
+        ensures by_text { IsAnswer (answer text.now) result }
+        ensures plain { IfOk result (λ root. is_plain root_kind (root_tree root) ≡ true) }
+    {
+        Root::from_slice(alloc, text.as_bytes())
     }
 
     /// The document that a reader gives up to its end, as [`Root::from_slice`]. `Read` comes where

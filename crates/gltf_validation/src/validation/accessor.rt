@@ -1,25 +1,22 @@
 //! Accessors.
 
-ghost use Rattle.std.specs.Prelude.{◌≡◌, List, ◌∷◌, [], ◌++◌, Some, codes, refl};
-ghost use Rattle.gltf_paths.specs.Steps.{Step as Mathematical, field};
+ghost use Rattle.std.specs.Prelude.{◌≡◌, Some, refl};
 ghost use Rattle.gltf_data.specs.AccessorTable.{accessor_kind};
 ghost use Rattle.gltf_data.specs.AccessorTrees.{accessor_members, accessor_extensions};
 ghost use Rattle.gltf_schema.specs.Extensions.{kept_extensions};
 ghost use Rattle.gltf_schema.specs.Fields.{closed_object};
 ghost use Rattle.gltf_schema.specs.Kind.{ObjectName};
-ghost use Rattle.gltf_validation.specs.Faults.{found_at};
-ghost use Rattle.gltf_validation.specs.Rules.{accessor_rule};
-ghost use Rattle.gltf_validation.specs.Walk.{no_reports};
+ghost use Rattle.gltf_validation.specs.ByType.{no_reports};
 
 use super::Validate;
 use super::silent::Silent;
-use super::sink::{Sink, Stop};
-use super::within::{member, told};
-use gltf_base::validation::Error;
+use super::within::member;
 use gltf_base::{Step, Steps};
-use gltf_parts::accessor::Accessor;
-use gltf_parts::extensions::accessor as extensions;
+use gltf_data::accessor::Accessor;
+use gltf_data::extensions::accessor as extensions;
+use gltf_faults::data_fault;
 use gltf_root::root::Root;
+use gltf_sinks::{Sink, Stop, told};
 
 impl Validate for Accessor {
     ghost kind = { Some accessor_kind };
@@ -49,26 +46,13 @@ impl Validate for Accessor {
         );
         let type_ = member(component_type, &self.type_, "type", root, path, sink);
         let sparse = member(type_, &self.sparse, "sparse", root, path, sink);
-        let extensions = member(sparse, &self.extensions, "extensions", root, path, sink);
         told(
-            extensions,
+            sparse,
             data_fault(self),
             Step::Field("bufferView"),
             path,
             sink,
         )
-    }
-}
-
-/// What is wrong where an accessor has neither a view nor sparse storage.
-#[tactic(auto, unfolding(gltf_data::specs::AccessorTrees::accessor_members))]
-fn data_fault(accessor: &Accessor) -> Option<Error>
-    ensures { (base : List Mathematical) → found_at result (base ++ field (codes "bufferView") ∷ [])
-        ≡ accessor_rule (accessor_members accessor.now) base }
-{
-    match (&accessor.sparse, &accessor.buffer_view) {
-        (None, None) => Some(Error::Missing),
-        _ => None,
     }
 }
 

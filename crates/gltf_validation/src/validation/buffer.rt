@@ -1,39 +1,30 @@
 //! Buffers and their views.
 
 ghost use Rattle.std.specs.Prelude.{◌≡◌, Some, refl};
-ghost use Rattle.gltf_data.specs.BufferTable.{buffer_kind, view_kind};
+ghost use Rattle.gltf_data.specs.BufferTable.{buffer_kind, buffer_rows, view_kind};
 ghost use Rattle.gltf_data.specs.BufferTrees.{buffer_members, view_members, buffer_extensions, view_extensions};
+ghost use Rattle.gltf_schema.specs.Tree.{absent};
 ghost use Rattle.gltf_schema.specs.Extensions.{kept_extensions};
 ghost use Rattle.gltf_schema.specs.Fields.{closed_object};
 ghost use Rattle.gltf_schema.specs.Kind.{ObjectName};
-ghost use Rattle.gltf_validation.specs.Walk.{no_reports};
+ghost use Rattle.gltf_faults.specs.Silence.{silent};
+ghost use Rattle.gltf_validation.specs.ByType.{no_reports};
 
 use super::Validate;
 use super::silent::Silent;
-use super::sink::{Sink, Stop};
 use super::within::member;
 use gltf_base::Steps;
-use gltf_parts::buffer::{Buffer, View};
-use gltf_parts::extensions::buffer as extensions;
+use gltf_data::buffer::{Buffer, View};
+use gltf_data::extensions::buffer as extensions;
 use gltf_root::root::Root;
+use gltf_sinks::{Sink, Stop};
 
-impl Validate for Buffer {
+impl Silent for Buffer {
     ghost kind = { Some buffer_kind };
 
     ghost tree = { λ v. closed_object (buffer_members v) };
 
-    ghost own = { no_reports };
-
-    ghost depth = { 1 };
-
-    fn validate<'a, S: Sink>(
-        &'a self,
-        root: &Root,
-        path: &mut Steps<'a>,
-        sink: &mut S,
-    ) -> Result<(), Stop<S::Refusal>> {
-        member(Ok(()), &self.extensions, "extensions", root, path, sink)
-    }
+    ghost is_silent = { λ v root base. silent buffer_kind (unfold buffer_rows in refl) (closed_object (buffer_members v)) root absent base };
 }
 
 impl Validate for View {
@@ -53,8 +44,7 @@ impl Validate for View {
     ) -> Result<(), Stop<S::Refusal>> {
         let buffer = member(Ok(()), &self.buffer, "buffer", root, path, sink);
         let byte_stride = member(buffer, &self.byte_stride, "byteStride", root, path, sink);
-        let target = member(byte_stride, &self.target, "target", root, path, sink);
-        member(target, &self.extensions, "extensions", root, path, sink)
+        member(byte_stride, &self.target, "target", root, path, sink)
     }
 }
 

@@ -3,13 +3,13 @@
 ghost use Rattle.std.specs.Prelude.{◌≡◌, ◌+◌};
 ghost use Rattle.gltf_schema.specs.Tree.{tree_or_absent};
 ghost use Rattle.gltf_schema.specs.Fields.{list_tree};
-ghost use Rattle.gltf_validation.specs.Walk.{option_reports, list_reports, list_kind};
+ghost use Rattle.gltf_validation.specs.ByType.{option_reports, list_reports, list_kind};
 
 use super::Validate;
-use super::sink::{Sink, Stop};
 use super::within::within;
 use gltf_base::{Step, Steps};
 use gltf_root::root::Root;
+use gltf_sinks::{Sink, Stop};
 
 impl<T: Validate> Validate for Option<T> {
     ghost kind = { T.kind };

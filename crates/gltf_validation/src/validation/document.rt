@@ -1,51 +1,31 @@
 //! Whole documents.
 
 ghost use Rattle.std.specs.Prelude.{◌≡◌, Some, refl};
-ghost use Rattle.gltf_schema.specs.Extensions.{dropped_extensions};
-ghost use Rattle.gltf_schema.specs.Fields.{closed_object};
-ghost use Rattle.gltf_schema.specs.Kind.{ObjectName};
-ghost use Rattle.gltf_nodes.specs.AssetTable.{asset_kind};
+ghost use Rattle.gltf_nodes.specs.AssetTable.{asset_kind, asset_rows};
 ghost use Rattle.gltf_nodes.specs.AssetTrees.{asset_members, asset_extensions};
 ghost use Rattle.gltf_root.specs.RootTable.{root_kind};
 ghost use Rattle.gltf_root.specs.RootTrees.{root_tree};
-ghost use Rattle.gltf_validation.specs.Walk.{no_reports};
+ghost use Rattle.gltf_root.specs.RootExtensionTable.{root_extensions_kind, lights_kind, variants_kind, variants_rows};
+ghost use Rattle.gltf_root.specs.RootExtensionTrees.{root_extensions, lights_members, variants_members};
+ghost use Rattle.gltf_schema.specs.Tree.{absent};
+ghost use Rattle.gltf_schema.specs.Extensions.{dropped_extensions};
+ghost use Rattle.gltf_schema.specs.Fields.{closed_object};
+ghost use Rattle.gltf_schema.specs.Kind.{ObjectName};
+ghost use Rattle.gltf_nodes.specs.LightTable.{variant_rows};
+ghost use Rattle.gltf_faults.specs.Silence.{silent};
+ghost use Rattle.gltf_validation.specs.ByType.{no_reports};
 
 use super::Validate;
 use super::silent::Silent;
-use super::sink::{Sink, Stop};
 use super::within::member;
 use gltf_base::Steps;
+use gltf_faults::required_extensions;
+use gltf_nodes::asset::Asset;
+use gltf_nodes::extensions::asset::Asset as AssetExtensions;
+use gltf_root::extensions::root as extensions;
+use gltf_root::extensions::root::{KhrLightsPunctual, KhrMaterialsVariants};
 use gltf_root::root::Root;
-use gltf_scene::asset::Asset;
-use gltf_scene::extensions::asset as extensions;
-
-impl Validate for Asset {
-    ghost kind = { Some asset_kind };
-
-    ghost tree = { λ v. closed_object (asset_members v) };
-
-    ghost own = { no_reports };
-
-    ghost depth = { 1 };
-
-    /// Reports nothing.
-    fn validate<'a, S: Sink>(
-        &'a self,
-        root: &Root,
-        path: &mut Steps<'a>,
-        sink: &mut S,
-    ) -> Result<(), Stop<S::Refusal>> {
-        member(Ok(()), &self.extensions, "extensions", root, path, sink)
-    }
-}
-
-impl Silent for extensions::Asset {
-    ghost kind = { Some (dropped_extensions ObjectName.asset) };
-
-    ghost tree = { asset_extensions };
-
-    ghost is_silent = { λ _ _ _. refl };
-}
+use gltf_sinks::{Sink, Stop};
 
 impl Validate for Root {
     ghost kind = { Some root_kind };
@@ -56,8 +36,9 @@ impl Validate for Root {
 
     ghost depth = { 10 };
 
-    /// Reports everything that is wrong in the document. Its indexes are looked up in `root`, which is
-    /// the document itself or another.
+    /// Reports everything that is wrong in the document, and last `Unsupported` at each extension that it
+    /// requires and that is not enabled. Its indexes are looked up in `root`, which is the document
+    /// itself or another.
     fn validate<'a, S: Sink>(
         &'a self,
         root: &Root,
@@ -65,8 +46,95 @@ impl Validate for Root {
         sink: &mut S,
     ) -> Result<(), Stop<S::Refusal>> {
         let accessors = member(Ok(()), &self.accessors, "accessors", root, path, sink);
-        let asset = member(accessors, &self.asset, "asset", root, path, sink);
-        let buffers = member(asset, &self.buffers, "buffers", root, path, sink);
-        member(buffers, &self.buffer_views, "bufferViews", root, path, sink)
+        let animations = member(accessors, &self.animations, "animations", root, path, sink);
+        let buffer_views = member(
+            animations,
+            &self.buffer_views,
+            "bufferViews",
+            root,
+            path,
+            sink,
+        );
+        let scene = member(buffer_views, &self.scene, "scene", root, path, sink);
+        let extensions = member(scene, &self.extensions, "extensions", root, path, sink);
+        let cameras = member(extensions, &self.cameras, "cameras", root, path, sink);
+        let images = member(cameras, &self.images, "images", root, path, sink);
+        let materials = member(images, &self.materials, "materials", root, path, sink);
+        let meshes = member(materials, &self.meshes, "meshes", root, path, sink);
+        let nodes = member(meshes, &self.nodes, "nodes", root, path, sink);
+        let samplers = member(nodes, &self.samplers, "samplers", root, path, sink);
+        let scenes = member(samplers, &self.scenes, "scenes", root, path, sink);
+        let skins = member(scenes, &self.skins, "skins", root, path, sink);
+        let textures = member(skins, &self.textures, "textures", root, path, sink);
+        required_extensions(textures, self, path, sink)
     }
+}
+
+impl Validate for extensions::Root {
+    ghost kind = { Some root_extensions_kind };
+
+    ghost tree = { root_extensions };
+
+    ghost own = { no_reports };
+
+    ghost depth = { 4 };
+
+    fn validate<'a, S: Sink>(
+        &'a self,
+        root: &Root,
+        path: &mut Steps<'a>,
+        sink: &mut S,
+    ) -> Result<(), Stop<S::Refusal>> {
+        member(
+            Ok(()),
+            &self.khr_lights_punctual,
+            "KHR_lights_punctual",
+            root,
+            path,
+            sink,
+        )
+    }
+}
+
+impl Validate for KhrLightsPunctual {
+    ghost kind = { Some lights_kind };
+
+    ghost tree = { λ v. closed_object (lights_members v) };
+
+    ghost own = { no_reports };
+
+    ghost depth = { 3 };
+
+    fn validate<'a, S: Sink>(
+        &'a self,
+        root: &Root,
+        path: &mut Steps<'a>,
+        sink: &mut S,
+    ) -> Result<(), Stop<S::Refusal>> {
+        member(Ok(()), &self.lights, "lights", root, path, sink)
+    }
+}
+
+impl Silent for KhrMaterialsVariants {
+    ghost kind = { Some variants_kind };
+
+    ghost tree = { λ v. closed_object (variants_members v) };
+
+    ghost is_silent = { λ v root base. silent variants_kind (unfold variants_rows variant_rows in refl) (closed_object (variants_members v)) root absent base };
+}
+
+impl Silent for Asset {
+    ghost kind = { Some asset_kind };
+
+    ghost tree = { λ v. closed_object (asset_members v) };
+
+    ghost is_silent = { λ v root base. silent asset_kind (unfold asset_rows in refl) (closed_object (asset_members v)) root absent base };
+}
+
+impl Silent for AssetExtensions {
+    ghost kind = { Some (dropped_extensions ObjectName.asset) };
+
+    ghost tree = { asset_extensions };
+
+    ghost is_silent = { λ _ _ _. refl };
 }

@@ -5,15 +5,16 @@ ghost use Rattle.gltf_schema.specs.Tree.{absent};
 ghost use Rattle.gltf_schema.specs.Kind.{IndexInto, Stride as stride_kind};
 ghost use Rattle.gltf_data.specs.BufferTrees.{stride_tree};
 ghost use Rattle.gltf_schema.specs.Fields.{index_tree};
-ghost use Rattle.gltf_validation.specs.Walk.{no_reports, checked_reports};
+ghost use Rattle.gltf_validation.specs.ByType.{no_reports, checked_reports};
 
 use super::Validate;
-use super::sink::{Sink, Stop, tell};
 use gltf_base::buffer::{MAX_BYTE_STRIDE, MIN_BYTE_STRIDE};
 use gltf_base::validation::{Checked, Error};
-use gltf_base::{Index, IndexTo, Names, Steps};
-use gltf_parts::buffer::Stride;
+use gltf_base::{IndexTo, Names, Steps};
+use gltf_data::buffer::Stride;
+use gltf_faults::index_fault;
 use gltf_root::root::{Root, RootItem};
+use gltf_sinks::{Sink, Stop, tell};
 
 impl<P: Names> Validate for IndexTo<P>
 where
@@ -34,10 +35,7 @@ where
         path: &mut Steps<'a>,
         sink: &mut S,
     ) -> Result<(), Stop<S::Refusal>> {
-        match root.get(Index::<P::Item>::new(self.number())) {
-            Some(_) => Ok(()),
-            None => tell(path, Some(Error::IndexOutOfBounds), sink),
-        }
+        tell(path, index_fault(self, root), sink)
     }
 }
 

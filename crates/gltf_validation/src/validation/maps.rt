@@ -4,13 +4,14 @@ ghost use Rattle.std.specs.Prelude.{◌≡◌, ◌+◌, ◌++◌, ◌∷◌, [],
 ghost use Rattle.gltf_paths.specs.Steps.{key};
 ghost use Rattle.gltf_schema.specs.Tree.{absent};
 ghost use Rattle.gltf_root.specs.RootTrees.{root_tree};
-ghost use Rattle.gltf_validation.specs.Walk.{Walked, reports_in, each_entry};
+ghost use Rattle.gltf_sinks.specs.Handed.{Walked};
+ghost use Rattle.gltf_validation.specs.ByType.{reports_in, each_entry};
 
 use super::Validate;
-use super::sink::{Sink, Stop};
 use super::within::{also_within, within};
 use gltf_base::{KeyStep, Steps};
 use gltf_root::root::Root;
+use gltf_sinks::{Sink, Stop};
 use std::collections::BTreeMap;
 
 impl<K: KeyStep + Validate + Ord, V: Validate> Validate for BTreeMap<K, V> {

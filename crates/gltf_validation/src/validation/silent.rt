@@ -1,17 +1,18 @@
 //! Types in which nothing can be wrong.
 
-ghost use Rattle.std.specs.Prelude.{◌≡◌, ℕ, Option, Some, None, List, [], refl};
+ghost use Rattle.std.specs.Prelude.{◌≡◌, Option, Some, None, List, [], refl};
 ghost use Rattle.gltf_paths.specs.Steps.{Step};
 ghost use Rattle.gltf_schema.specs.Tree.{Tree, absent, whole, truth};
-ghost use Rattle.gltf_schema.specs.Kind.{Kind, U32, U64, Number, Text, Truth, Any};
-ghost use Rattle.gltf_schema.specs.Fields.{size_tree, real_tree, text_tree, any_tree};
-ghost use Rattle.gltf_validation.specs.Walk.{reports_by, no_reports};
+ghost use Rattle.gltf_schema.specs.Kind.{Kind, U32, U64, Number, Numbers, Text, Truth, Any};
+ghost use Rattle.gltf_schema.specs.Fields.{size_tree, real_tree, reals_tree, text_tree, any_tree};
+ghost use Rattle.gltf_validation.specs.ByType.{reports_by, no_reports};
 
 use super::Validate;
-use super::sink::{Sink, Stop};
 use gltf_base::validation::USize64;
 use gltf_base::{Real, Steps};
+use gltf_data::extras::Void;
 use gltf_root::root::Root;
+use gltf_sinks::{Sink, Stop};
 use serde_json::Value;
 
 /// A type in which nothing can be wrong.
@@ -66,10 +67,22 @@ impl Silent for i32 {
     ghost is_silent = { λ _ _ _. refl };
 }
 
+impl Silent for Void {
+    ghost is_silent = { λ _ _ _. refl };
+}
+
 impl Silent for Real {
     ghost kind = { Some Number };
 
     ghost tree = { real_tree };
+
+    ghost is_silent = { λ _ _ _. refl };
+}
+
+impl<const N: usize> Silent for [Real; N] {
+    ghost kind = { Some (Numbers N) };
+
+    ghost tree = { reals_tree };
 
     ghost is_silent = { λ _ _ _. refl };
 }

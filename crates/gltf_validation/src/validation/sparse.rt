@@ -6,16 +6,16 @@ ghost use Rattle.gltf_data.specs.AccessorTrees.{sparse_members, sparse_indices_m
 ghost use Rattle.gltf_schema.specs.Extensions.{dropped_extensions};
 ghost use Rattle.gltf_schema.specs.Fields.{closed_object};
 ghost use Rattle.gltf_schema.specs.Kind.{ObjectName};
-ghost use Rattle.gltf_validation.specs.Walk.{no_reports};
+ghost use Rattle.gltf_validation.specs.ByType.{no_reports};
 
 use super::Validate;
 use super::silent::Silent;
-use super::sink::{Sink, Stop};
 use super::within::member;
 use gltf_base::Steps;
-use gltf_parts::accessor::sparse::{Indices, Sparse, Values};
-use gltf_parts::extensions::accessor::sparse as extensions;
+use gltf_data::accessor::sparse::{Indices, Sparse, Values};
+use gltf_data::extensions::accessor::sparse as extensions;
 use gltf_root::root::Root;
+use gltf_sinks::{Sink, Stop};
 
 impl Validate for Sparse {
     ghost kind = { Some sparse_kind };
@@ -33,8 +33,7 @@ impl Validate for Sparse {
         sink: &mut S,
     ) -> Result<(), Stop<S::Refusal>> {
         let indices = member(Ok(()), &self.indices, "indices", root, path, sink);
-        let values = member(indices, &self.values, "values", root, path, sink);
-        member(values, &self.extensions, "extensions", root, path, sink)
+        member(indices, &self.values, "values", root, path, sink)
     }
 }
 
@@ -54,18 +53,10 @@ impl Validate for Indices {
         sink: &mut S,
     ) -> Result<(), Stop<S::Refusal>> {
         let buffer_view = member(Ok(()), &self.buffer_view, "bufferView", root, path, sink);
-        let component_type = member(
+        member(
             buffer_view,
             &self.component_type,
             "componentType",
-            root,
-            path,
-            sink,
-        );
-        member(
-            component_type,
-            &self.extensions,
-            "extensions",
             root,
             path,
             sink,
@@ -88,15 +79,7 @@ impl Validate for Values {
         path: &mut Steps<'a>,
         sink: &mut S,
     ) -> Result<(), Stop<S::Refusal>> {
-        let buffer_view = member(Ok(()), &self.buffer_view, "bufferView", root, path, sink);
-        member(
-            buffer_view,
-            &self.extensions,
-            "extensions",
-            root,
-            path,
-            sink,
-        )
+        member(Ok(()), &self.buffer_view, "bufferView", root, path, sink)
     }
 }
 

@@ -2,15 +2,14 @@
 
 ghost use Rattle.std.specs.Prelude.{◌≡◌, ◌+◌, ◌++◌, ◌∷◌, []};
 ghost use Rattle.gltf_paths.specs.Steps.{step_of, field};
-ghost use Rattle.gltf_validation.specs.Faults.{found_at};
 ghost use Rattle.gltf_root.specs.RootTrees.{root_tree};
-ghost use Rattle.gltf_validation.specs.Walk.{Walked, WentOn, reports_by};
+ghost use Rattle.gltf_sinks.specs.Handed.{Walked, WentOn};
+ghost use Rattle.gltf_validation.specs.ByType.{reports_by};
 
 use super::Validate;
-use super::sink::{Sink, Stop, tell};
-use gltf_base::validation::Error;
 use gltf_base::{Step, Steps};
 use gltf_root::root::Root;
+use gltf_sinks::{Sink, Stop};
 
 /// Validates what stands one step further.
 pub(crate) fn within<'a, T: Validate, S: Sink>(
@@ -66,32 +65,4 @@ pub(crate) fn member<'a, T: Validate, S: Sink>(
         (T.depth + 1) result path.new (S.state sink.new) }
 {
     also_within(before, value, Step::Field(name), root, path, sink)
-}
-
-/// Goes on with what was found one step further, where nothing stopped the walk before.
-pub(crate) fn told<'a, S: Sink>(
-    before: Result<(), Stop<S::Refusal>>,
-    found: Option<Error>,
-    step: Step<'a>,
-    path: &mut Steps<'a>,
-    sink: &mut S,
-) -> Result<(), Stop<S::Refusal>>
-    ensures { WentOn S.next S.refuses before path.old (S.state sink.old)
-        (λ base. found_at found (base ++ step_of step.entry ∷ [])) 1 result path.new (S.state sink.new) }
-{
-    match before {
-        Err(stop) => Err(stop),
-        Ok(()) => {
-            if found.is_none() {
-                return Ok(());
-            }
-            if path.is_full() {
-                return Err(Stop::StepsFull);
-            }
-            path.push(step);
-            let handed = tell(path, found, sink);
-            path.pop();
-            handed
-        }
-    }
 }

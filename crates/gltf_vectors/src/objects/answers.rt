@@ -72,8 +72,11 @@ fn materials(rt: HostRuntime) -> Result<(), Fail> {
     let alloc = rt.alloc();
     assert!(rt; is_refused::<Material>(alloc, r#"{"emissiveFactor":[0,0]}"#)?);
     assert!(rt; is_refused::<Material>(alloc, r#"{"pbrMetallicRoughness":null}"#)?);
-    let black: Material = read(alloc, r#"{"emissiveFactor":[0,0,0]}"#)?;
-    assert!(rt; black.emissive_factor.0.is_some());
+    let is_black = read::<Material>(alloc, r#"{"emissiveFactor":[0,0,0]}"#)?
+        .emissive_factor
+        .0
+        .is_some();
+    assert!(rt; is_black);
     Ok(())
 }
 

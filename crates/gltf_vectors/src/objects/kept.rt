@@ -35,7 +35,8 @@ fn by_extensions_of_textures(rt: HostRuntime) -> Result<(), Fail> {
 
 #[test]
 fn by_extensions_of_materials(rt: HostRuntime) -> Result<(), Fail> {
-    assert!(rt; is_kept(&read::<material::Material>(rt.alloc(), UNKNOWN)?.others));
+    let kept = is_kept(&read::<material::Material>(rt.alloc(), UNKNOWN)?.others);
+    assert!(rt; kept);
     Ok(())
 }
 
@@ -50,7 +51,8 @@ fn by_extensions_of_references(rt: HostRuntime) -> Result<(), Fail> {
 
 #[test]
 fn by_glossiness(rt: HostRuntime) -> Result<(), Fail> {
-    assert!(rt; is_kept(&read::<material::PbrSpecularGlossiness>(rt.alloc(), UNKNOWN)?.others));
+    let kept = is_kept(&read::<material::PbrSpecularGlossiness>(rt.alloc(), UNKNOWN)?.others);
+    assert!(rt; kept);
     Ok(())
 }
 

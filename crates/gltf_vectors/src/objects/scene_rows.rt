@@ -1,8 +1,9 @@
-//! The rows of meshes, nodes, scenes and animations, and of a document's own description.
+//! The rows of meshes, nodes, scenes and animations, of a document's own description, and of whole
+//! documents.
 
 use super::marks::Mark::{Defaulted, Optional, Required};
 use super::marks::obeys;
-use gltf_json::extensions as all_extensions;
+use gltf_json::{Root, extensions as all_extensions};
 use gltf_scene::animation::{Animation, Channel, Sampler, Target};
 use gltf_scene::asset::Asset;
 use gltf_scene::camera::{Camera, Orthographic, Perspective};
@@ -13,6 +14,50 @@ use gltf_scene::mesh::{Mesh, MorphTarget, Primitive};
 use gltf_scene::scene::{Node, Scene};
 use gltf_scene::skin::Skin;
 use std::test::Fail;
+
+/// The least document.
+const DOCUMENT: &str = r#"{"asset":{"version":"2.0"}}"#;
+
+#[test]
+fn of_documents(rt: HostRuntime) -> Result<(), Fail> {
+    obeys::<Root>(
+        rt.alloc(),
+        DOCUMENT,
+        &[
+            ("asset", Required),
+            ("scene", Optional),
+            ("extensions", Optional),
+            ("extras", Optional),
+            ("extensionsUsed", Defaulted),
+            ("extensionsRequired", Defaulted),
+        ],
+    )?;
+    Ok(())
+}
+
+#[test]
+fn of_lists_of_documents(rt: HostRuntime) -> Result<(), Fail> {
+    obeys::<Root>(
+        rt.alloc(),
+        DOCUMENT,
+        &[
+            ("accessors", Defaulted),
+            ("animations", Defaulted),
+            ("buffers", Defaulted),
+            ("bufferViews", Defaulted),
+            ("cameras", Defaulted),
+            ("images", Defaulted),
+            ("materials", Defaulted),
+            ("meshes", Defaulted),
+            ("nodes", Defaulted),
+            ("samplers", Defaulted),
+            ("scenes", Defaulted),
+            ("skins", Defaulted),
+            ("textures", Defaulted),
+        ],
+    )?;
+    Ok(())
+}
 
 #[test]
 fn of_assets(rt: HostRuntime) -> Result<(), Fail> {

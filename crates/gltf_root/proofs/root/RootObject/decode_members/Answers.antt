@@ -9,21 +9,21 @@ unfolding root_rows root_members
 returns c =
     all_read root_members c.from_members-reading.ensures
     (read_row c.list-accessors.ensures
-    (read_row c.not_yet.ensures
+    (read_row c.list-animations.ensures
     (read_row c.required-asset.ensures
     (read_row c.list-buffers.ensures
     (read_row c.list-buffer_views.ensures
-    (read_row c.not_yet-2.ensures
-    (read_row c.not_yet-3.ensures
-    (read_row c.not_yet-4.ensures
-    (read_row c.not_yet-5.ensures
-    (read_row c.not_yet-6.ensures
-    (read_row c.not_yet-7.ensures
-    (read_row c.not_yet-8.ensures
-    (read_row c.not_yet-9.ensures
-    (read_row c.not_yet-10.ensures
-    (read_row c.not_yet-11.ensures
-    (read_row c.not_yet-12.ensures
-    (read_row c.not_yet-13.ensures
-    (read_row c.not_yet-14.ensures
-    (read_row c.not_yet-15.ensures read_none))))))))))))))))))) c.finish.ensures
+    (read_row c.optional-scene.ensures.left_out
+    (read_row c.optional-extensions.ensures.left_out
+    (read_row c.optional-extras.ensures.left_out
+    (read_row c.list-extensions_used.ensures
+    (read_row c.list-extensions_required.ensures
+    (read_row c.list-cameras.ensures
+    (read_row c.list-images.ensures
+    (read_row c.list-materials.ensures
+    (read_row c.list-meshes.ensures
+    (read_row c.list-nodes.ensures
+    (read_row c.list-samplers.ensures
+    (read_row c.list-scenes.ensures
+    (read_row c.list-skins.ensures
+    (read_row c.list-textures.ensures read_none))))))))))))))))))) c.finish.ensures

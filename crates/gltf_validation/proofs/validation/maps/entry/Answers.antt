@@ -1,6 +1,6 @@
 -- The key's reports, and then the value's.
 use Rattle.std.proofs.Common.{arith}
-use Rattle.gltf_validation.proofs.Walks.{went_then, went_wider}
+use Rattle.gltf_sinks.proofs.Walks.{went_then, went_wider}
 use Rattle.gltf_validation.proofs.validation.maps.entry.Goals as goal
 
 pub returns : goal.returns

@@ -2,10 +2,11 @@
 use Rattle.std.proofs.Common.{rules, arith, ◌+◌, ◌++◌, ◌∷◌, [], drop}
 use Rattle.gltf_paths.specs.Steps.{item}
 use Rattle.gltf_root.specs.RootTrees.{root_tree}
-use Rattle.gltf_validation.specs.Walk.{reports_in, each_at}
+use Rattle.gltf_validation.specs.ByType.{reports_in}
+use Rattle.gltf_sinks.specs.Report.{each_at}
 use Rattle.gltf_validation.proofs.ByTable.{list-each}
-use Rattle.gltf_validation.proofs.Loops.{underway-begin, underway-same, underway-more, underway-exit, underway-end, each_at-next, each_at-past}
-use Rattle.gltf_validation.proofs.Walks.{went_same}
+use Rattle.gltf_sinks.proofs.Loops.{underway-begin, underway-same, underway-more, underway-exit, underway-end, each_at-next, each_at-past}
+use Rattle.gltf_sinks.proofs.Walks.{went_same}
 use Rattle.gltf_validation.proofs.validation.composed.VecValidate.validate.Goals as goal
 
 pub loop-i-init : goal.loop-i-init

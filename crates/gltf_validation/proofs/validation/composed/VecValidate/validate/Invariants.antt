@@ -1,8 +1,9 @@
 -- The items from the number on are to come.
 use Rattle.std.proofs.Common.{drop}
 use Rattle.gltf_root.specs.RootTrees.{root_tree}
-use Rattle.gltf_validation.specs.Walk.{reports_in, each_at}
-use Rattle.gltf_validation.proofs.Loops.{Underway}
+use Rattle.gltf_validation.specs.ByType.{reports_in}
+use Rattle.gltf_sinks.specs.Report.{each_at}
+use Rattle.gltf_sinks.proofs.Loops.{Underway}
 use Rattle.gltf_validation.proofs.validation.composed.VecValidate.validate.Given as goal
 
 abbrev pub invariant-loop-i : goal.invariant-loop-i

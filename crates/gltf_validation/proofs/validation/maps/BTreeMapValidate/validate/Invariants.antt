@@ -1,7 +1,7 @@
 -- The entries that the iterator has left are to come.
 use Rattle.gltf_root.specs.RootTrees.{root_tree}
-use Rattle.gltf_validation.specs.Walk.{reports_in, each_entry}
-use Rattle.gltf_validation.proofs.Loops.{Underway}
+use Rattle.gltf_validation.specs.ByType.{reports_in, each_entry}
+use Rattle.gltf_sinks.proofs.Loops.{Underway}
 use Rattle.gltf_validation.proofs.validation.maps.BTreeMapValidate.validate.Given as goal
 
 abbrev pub invariant-loop-key : goal.invariant-loop-key

@@ -1,15 +1,22 @@
--- Each member in the table's order.
-use Rattle.std.proofs.Common.{lit≤}
+-- The one member in which something can be wrong.
+use Rattle.std.proofs.Common.{lit≤, refl, codes}
 use Rattle.gltf_data.specs.AccessorTable as table
 use Rattle.gltf_data.specs.AccessorTrees as made
-use Rattle.gltf_validation.proofs.Walks.{went_nowhere, went_then}
+use Rattle.gltf_schema.specs.Extensions.{dropped_extensions}
+use Rattle.gltf_schema.specs.Kind.{ObjectName}
+use Rattle.gltf_schema.specs.Tree.{tree_or_absent, absent}
+use Rattle.gltf_root.specs.RootTrees.{root_tree}
+use Rattle.gltf_validation.proofs.Silences.{went_silent}
+use Rattle.gltf_sinks.proofs.Walks.{went_nowhere, went_then}
 use Rattle.gltf_validation.proofs.validation.sparse.ValuesValidate.validate.Goals as goal
 
 pub returns-clause-walked : goal.returns-clause-walked
 unfolding table.sparse_values_rows made.sparse_values_members
 returns-clause-walked g c =
+    let v = c.args.self.now in
+    let root = root_tree c.args.root.now in
     went_then
-    (went_then c.member-buffer_view.ensures (lit≤ tt)
     (went_then c.member.ensures (lit≤ tt)
+    (went_silent (dropped_extensions ObjectName.sparse_values) refl (codes "extensions") (tree_or_absent made.values_extensions v.extensions) root absent
     (went_nowhere _ _ _ 1)))
     (lit≤ tt) (went_nowhere _ _ _ 1)

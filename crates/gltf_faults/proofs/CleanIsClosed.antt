@@ -1,0 +1,141 @@
+-- What has no report is closed.
+use Rattle.std.proofs.Common.{◌≡◌, ℕ, suc, ◌<◌, List, [], ◌∷◌, ◌++◌, Bool, true, false, not, cond, nat_lt, refl}
+use Rattle.std.proofs.lemmas.Bool.{ltb-true}
+use Rattle.gltf_checked.specs.Keys.{Key, key_text}
+use Rattle.gltf_checked.specs.Keys as keys
+use Rattle.gltf_paths.specs.Lists.{ListName}
+use Rattle.gltf_paths.specs.Steps.{Step, field, item, key}
+use Rattle.gltf_paths.specs.declared.validation.Error.TheVariants.{IndexOutOfBounds, Missing}
+use Rattle.gltf_schema.specs.Tree as tree
+use Rattle.gltf_schema.specs.Tree.{Tree, absent, Trees, end, with_tree, items_in, members_in, entries_in}
+use Rattle.gltf_schema.specs.Kind.{Kind, IndexInto, SourceImage, ChannelSampler, U32, U64, Stride, Number, Numbers, Text, Truth, Any, Choice, Attributes, ListOf, Object, Rows, no_rows, row}
+use Rattle.gltf_root.specs.Lists.{count_in, sampler_count}
+use Rattle.gltf_sinks.specs.Report.{From, report}
+use Rattle.gltf_faults.specs.Faults.{number_faults, index_faults, source_faults, choice_faults, key_faults, entries_faults}
+use Rattle.gltf_faults.specs.Rules.{object_faults}
+use Rattle.gltf_faults.specs.Reports.{animation_below, items_reports, reports, member_reports}
+use Rattle.gltf_faults.specs.Closed.{NamesItem, IsListed, IsKnown, EntriesClosed, EachTree, IsClosed, MembersClosed}
+
+first_none : {A : Type 0} (xs ys : List A) → xs ++ ys ≡ [] → xs ≡ []
+first_none [] ys h = refl
+first_none (x ∷ xs) ys h = absurd cc
+
+second_none : {A : Type 0} (xs ys : List A) → xs ++ ys ≡ [] → ys ≡ []
+second_none [] ys h = h
+second_none (x ∷ xs) ys h = absurd cc
+
+below_at : (b : Bool) (n count : ℕ) (base : List Step) → nat_lt n count ≡ b → cond (not b) (report base IndexOutOfBounds ∷ []) [] ≡ [] → n < count
+below_at true n count base is h = ltb-true n count is
+below_at false n count base is h = absurd cc
+
+below : (count n : ℕ) (base : List Step) → number_faults count n base ≡ [] → n < count
+below count n base h = below_at _ n count base refl h
+
+index_named : (count : ℕ) (t : Tree) (base : List Step) → index_faults count t base ≡ [] → NamesItem count t
+index_named count absent base h = tt
+index_named count (tree.whole n) base h = tt
+index_named count (tree.number x) base h = tt
+index_named count (tree.numbers xs) base h = tt
+index_named count (tree.text s) base h = tt
+index_named count (tree.truth b) base h = tt
+index_named count (tree.any d) base h = tt
+index_named count (tree.chosen s) base h = tt
+index_named count tree.invalid base h = tt
+index_named count (tree.index n) base h = below count n base h
+index_named count (tree.list ts) base h = tt
+index_named count (tree.attributes es) base h = tt
+index_named count (tree.object ts others) base h = tt
+
+source_at : (b : Bool) (count n : ℕ) (base : List Step) → cond b (report base Missing ∷ []) (number_faults count n base) ≡ [] → number_faults count n base ≡ []
+source_at true count n base h = absurd cc
+source_at false count n base h = h
+
+source_named : (count : ℕ) (t : Tree) (base : List Step) → source_faults count t base ≡ [] → NamesItem count t
+source_named count absent base h = tt
+source_named count (tree.whole n) base h = tt
+source_named count (tree.number x) base h = tt
+source_named count (tree.numbers xs) base h = tt
+source_named count (tree.text s) base h = tt
+source_named count (tree.truth b) base h = tt
+source_named count (tree.any d) base h = tt
+source_named count (tree.chosen s) base h = tt
+source_named count tree.invalid base h = tt
+source_named count (tree.index n) base h = below count n base (source_at _ count n base h)
+source_named count (tree.list ts) base h = tt
+source_named count (tree.attributes es) base h = tt
+source_named count (tree.object ts others) base h = tt
+
+choice_listed : (t : Tree) (base : List Step) → choice_faults t base ≡ [] → IsListed t
+choice_listed absent base h = tt
+choice_listed (tree.whole n) base h = tt
+choice_listed (tree.number x) base h = tt
+choice_listed (tree.numbers xs) base h = tt
+choice_listed (tree.text s) base h = tt
+choice_listed (tree.truth b) base h = tt
+choice_listed (tree.any d) base h = tt
+choice_listed (tree.chosen s) base h = tt
+choice_listed tree.invalid base h = absurd cc
+choice_listed (tree.index n) base h = tt
+choice_listed (tree.list ts) base h = tt
+choice_listed (tree.attributes es) base h = tt
+choice_listed (tree.object ts others) base h = tt
+
+key_known : (k : Key) (base : List Step) → key_faults k base ≡ [] → IsKnown k
+key_known (keys.extras name) base h = tt
+key_known keys.positions base h = tt
+key_known keys.normals base h = tt
+key_known keys.tangents base h = tt
+key_known (keys.colors set) base h = tt
+key_known (keys.tex_coords set) base h = tt
+key_known (keys.joints set) base h = tt
+key_known (keys.weights set) base h = tt
+key_known keys.unknown base h = absurd cc
+
+entries_closed : (count : ℕ) (es : List (Key × ℕ)) (base : List Step) → entries_faults count es base ≡ [] → EntriesClosed count es
+entries_closed count [] base h = tt
+entries_closed count (e ∷ es) base h =
+    let at = base ++ key (key_text e.0) ∷ [] in
+    let both = first_none (key_faults e.0 at ++ number_faults count e.1 at) (entries_faults count es base) h in (
+      key_known e.0 at (first_none (key_faults e.0 at) (number_faults count e.1 at) both),
+      below count e.1 at (second_none (key_faults e.0 at) (number_faults count e.1 at) both),
+      entries_closed count es base (second_none (key_faults e.0 at ++ number_faults count e.1 at) (entries_faults count es base) h),
+    )
+
+items_closed : (f : Tree → From) (P : Tree → Type 0) → ((t : Tree) (base : List Step) → f t base ≡ [] → P t)
+    → (i : ℕ) (ts : Trees) (base : List Step) → items_reports f i ts base ≡ [] → EachTree P ts
+items_closed f P each i end base h = tt
+items_closed f P each i (with_tree t ts) base h = (
+  each t (base ++ item i ∷ []) (first_none (f t (base ++ item i ∷ [])) (items_reports f (suc i) ts base) h),
+  items_closed f P each (suc i) ts base (second_none (f t (base ++ item i ∷ [])) (items_reports f (suc i) ts base) h),
+)
+
+mutual
+  -- the law, at every kind and place
+  pub clean_is_closed : (kind : Kind) (t root animation : Tree) (base : List Step) → reports kind t root animation base ≡ [] → IsClosed kind t root animation
+  clean_is_closed (IndexInto named) t root animation base h = index_named (count_in named root) t base h
+  clean_is_closed SourceImage t root animation base h = source_named (count_in ListName.images root) t base h
+  clean_is_closed ChannelSampler t root animation base h = index_named (sampler_count animation) t base h
+  clean_is_closed U32 t root animation base h = tt
+  clean_is_closed U64 t root animation base h = tt
+  clean_is_closed Stride t root animation base h = tt
+  clean_is_closed Number t root animation base h = tt
+  clean_is_closed (Numbers n) t root animation base h = tt
+  clean_is_closed Text t root animation base h = tt
+  clean_is_closed Truth t root animation base h = tt
+  clean_is_closed Any t root animation base h = tt
+  clean_is_closed (Choice form listed) t root animation base h = choice_listed t base h
+  clean_is_closed (Attributes named) t root animation base h = entries_closed (count_in named root) (entries_in t) base h
+  clean_is_closed (ListOf kind) t root animation base h =
+      items_closed (λ x. reports kind x root animation) (λ x. IsClosed kind x root animation) (λ x at e. clean_is_closed kind x root animation at e) 0 (items_in t) base h
+  clean_is_closed (Object named rows keeps) t root animation base h =
+      members_closed (members_in t) rows root (animation_below named t animation) base
+      (first_none (member_reports (members_in t) rows root (animation_below named t animation) base) (object_faults t named root base) h)
+
+  members_closed : (ts : Trees) (rows : Rows) (root animation : Tree) (base : List Step) → member_reports ts rows root animation base ≡ [] → MembersClosed ts rows root animation
+  members_closed end rows root animation base h = tt
+  members_closed (with_tree t ts) no_rows root animation base h = tt
+  members_closed (with_tree t ts) (row n mark kind rows) root animation base h =
+      let at = base ++ field n ∷ [] in (
+        clean_is_closed kind t root animation at (first_none (reports kind t root animation at) (member_reports ts rows root animation base) h),
+        members_closed ts rows root animation base (second_none (reports kind t root animation at) (member_reports ts rows root animation base) h),
+      )

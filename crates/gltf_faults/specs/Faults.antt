@@ -1,0 +1,44 @@
+-- What is wrong with a value by itself.
+use Rattle.std.specs.Prelude.{ℕ, List, [], ◌∷◌, ◌++◌, Bool, not, cond, ◌&&◌, nat_lt, nat_le, nat_eq}
+use Rattle.gltf_checked.specs.Keys.{Key, unknown, key_text}
+use Rattle.gltf_paths.specs.Steps.{key}
+use Rattle.gltf_paths.specs.declared.validation.Error.{Error}
+use Rattle.gltf_paths.specs.declared.validation.Error.TheVariants.{IndexOutOfBounds, Invalid, Missing}
+use Rattle.gltf_schema.specs.Tree.{Tree, index, whole, invalid}
+use Rattle.gltf_sinks.specs.Report.{report, From}
+
+-- a report where something is so
+abbrev pub report_if : Bool → Error → From
+report_if b error base = cond b (report base error ∷ []) []
+
+-- an index past the end of its list
+abbrev pub number_faults : ℕ → ℕ → From
+number_faults count n = report_if (not (nat_lt n count)) IndexOutOfBounds
+
+abbrev pub index_faults : ℕ → Tree → From
+index_faults count (index n) base = number_faults count n base
+index_faults count _ base = []
+
+-- a texture without an image; the number 2^32 - 1 stands for none
+abbrev pub source_faults : ℕ → Tree → From
+source_faults count (index n) base = cond (nat_eq n 4294967295) (report base Missing ∷ []) (number_faults count n base)
+source_faults count _ base = []
+
+-- a stride below 4 or above 252 bytes
+abbrev pub stride_faults : Tree → From
+stride_faults (whole n) base = report_if (not (nat_le 4 n && nat_le n 252)) Invalid base
+stride_faults _ base = []
+
+abbrev pub choice_faults : Tree → From
+choice_faults invalid base = report base Invalid ∷ []
+choice_faults _ base = []
+
+abbrev pub key_faults : Key → From
+key_faults unknown base = report base Invalid ∷ []
+key_faults _ base = []
+
+-- each attribute's key, then its index, both at the key
+abbrev pub entries_faults : ℕ → List (Key × ℕ) → From
+entries_faults count [] base = []
+entries_faults count (e ∷ es) base =
+    (key_faults e.0 (base ++ key (key_text e.0) ∷ []) ++ number_faults count e.1 (base ++ key (key_text e.0) ∷ [])) ++ entries_faults count es base

@@ -1,0 +1,9 @@
+pub mod Faults
+pub mod Rules
+pub mod Positions
+pub mod Reports
+pub mod Places
+pub mod Closed
+pub mod Worked
+pub mod RowNames
+pub mod Silence

@@ -1,0 +1,76 @@
+-- Documents worked by hand, to test the definitions by.
+use Rattle.std.specs.Prelude.{ℕ, List, [], ◌∷◌, codes, Option, option_map}
+use Rattle.serde_json.specs.Data.{Data, number, unsigned, string, array, object, no_items, item as data_item, Members, no_members, member}
+use Rattle.gltf_paths.specs.Steps.{Step, field, item, key}
+use Rattle.gltf_sinks.specs.Report.{Report}
+use Rattle.gltf_faults.specs.Reports.{reports_of}
+use Rattle.gltf_root.specs.RootTable.{root_kind}
+use Rattle.gltf_schema.specs.Read.{read}
+
+-- what is wrong in the document that a JSON value is, if it is one
+abbrev pub reports_in : Data → Option (List Report)
+reports_in d = option_map (λ t. reports_of root_kind t t []) (read root_kind d)
+
+abbrev pub whole : ℕ → Data
+whole n = number (unsigned n)
+
+abbrev pub one : Data → Data
+one d = array (data_item d no_items)
+
+abbrev pub text : List ℕ → Data
+text s = string s
+
+-- {"asset":{"version":"2.0"}, ..}
+abbrev pub with_asset : Members → Data
+with_asset ms = object (member (codes "asset") (object (member (codes "version") (text (codes "2.0")) no_members)) ms)
+
+-- an accessor of so many elements, of a component type, with further members
+abbrev pub accessor_of : Data → Data → Members → Data
+accessor_of count component_type more =
+    object (member (codes "componentType") component_type (member (codes "count") count (member (codes "type") (text (codes "VEC3")) more)))
+
+abbrev pub with_accessor : Data → Data
+with_accessor d = with_asset (member (codes "accessors") (one d) no_members)
+
+-- a buffer of 256 bytes, and a view of it with further members
+abbrev pub with_view : Members → Members → Data
+with_view view more =
+    with_asset (member (codes "bufferViews") (one (object (member (codes "buffer") (whole 0) (member (codes "byteLength") (whole 256) view))))
+    (member (codes "buffers") (one (object (member (codes "byteLength") (whole 256) no_members))) more))
+
+abbrev pub in_accessor : List ℕ → List Step
+in_accessor name = field (codes "accessors") ∷ item 0 ∷ field name ∷ []
+
+abbrev pub in_view : List ℕ → List Step
+in_view name = field (codes "bufferViews") ∷ item 0 ∷ field name ∷ []
+
+-- a document of one list of one object
+abbrev pub with_one : List ℕ → Members → Data
+with_one name ms = with_asset (member name (one (object ms)) no_members)
+
+abbrev pub in_one : List ℕ → List Step → List Step
+in_one name steps = field name ∷ item 0 ∷ steps
+
+-- a channel that names the first sampler and the first node, by a property that there is none of
+abbrev pub odd_channel : Data
+odd_channel =
+    object (member (codes "sampler") (whole 0)
+    (member (codes "target") (object (member (codes "node") (whole 0) (member (codes "path") (text (codes "foo")) no_members))) no_members))
+
+abbrev pub in_channel : List Step → List Step
+in_channel steps = in_one (codes "animations") (field (codes "channels") ∷ item 0 ∷ steps)
+
+-- a primitive with attributes
+abbrev pub with_attributes : Members → Members
+with_attributes ms = member (codes "primitives") (one (object (member (codes "attributes") (object ms) no_members))) no_members
+
+abbrev pub in_attributes : List ℕ → List Step → List Step
+in_attributes name steps =
+    in_one (codes "meshes") (field (codes "primitives") ∷ item 0 ∷ field (codes "attributes") ∷ key name ∷ steps)
+
+-- an extension object of a document or a node, of one member
+abbrev pub extended : List ℕ → List ℕ → Data → Members
+extended extension name d = member (codes "extensions") (object (member extension (object (member name d no_members)) no_members)) no_members
+
+abbrev pub in_extension : List ℕ → List Step → List Step
+in_extension extension steps = field (codes "extensions") ∷ field extension ∷ steps

@@ -1,0 +1,22 @@
+//! Accessors without data.
+
+ghost use Rattle.std.specs.Prelude.{◌≡◌, List, ◌∷◌, [], ◌++◌, codes};
+ghost use Rattle.gltf_paths.specs.Steps.{Step, field};
+ghost use Rattle.gltf_data.specs.AccessorTrees.{accessor_members};
+ghost use Rattle.gltf_sinks.specs.Report.{found_at};
+ghost use Rattle.gltf_faults.specs.Rules.{accessor_rule};
+
+use gltf_base::validation::Error;
+use gltf_data::accessor::Accessor;
+
+/// What is wrong where an accessor has neither a view nor sparse storage.
+#[tactic(auto, unfolding(gltf_data::specs::AccessorTrees::accessor_members))]
+pub fn data_fault(accessor: &Accessor) -> Option<Error>
+    ensures { (base : List Step) → found_at result (base ++ field (codes "bufferView") ∷ [])
+        ≡ accessor_rule (accessor_members accessor.now) base }
+{
+    match (&accessor.sparse, &accessor.buffer_view) {
+        (None, None) => Some(Error::Missing),
+        _ => None,
+    }
+}

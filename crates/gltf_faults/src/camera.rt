@@ -1,0 +1,21 @@
+//! Cameras without a projection.
+
+ghost use Rattle.std.specs.Prelude.{◌≡◌, List};
+ghost use Rattle.gltf_paths.specs.Steps.{Step};
+ghost use Rattle.gltf_nodes.specs.CameraTrees.{camera_members};
+ghost use Rattle.gltf_sinks.specs.Report.{found_at};
+ghost use Rattle.gltf_faults.specs.Rules.{camera_rule};
+
+use gltf_base::validation::Error;
+use gltf_nodes::camera::Camera;
+
+/// What is wrong where a camera has no projection.
+#[tactic(auto, unfolding(gltf_nodes::specs::CameraTrees::camera_members))]
+pub fn projection_fault(camera: &Camera) -> Option<Error>
+    ensures { (base : List Step) → found_at result base ≡ camera_rule (camera_members camera.now) base }
+{
+    match (&camera.orthographic, &camera.perspective) {
+        (None, None) => Some(Error::Missing),
+        _ => None,
+    }
+}

@@ -1,0 +1,62 @@
+//! Indexes that name no item.
+
+ghost use Rattle.std.specs.Prelude.{◌≡◌, List, slice_get};
+ghost use Rattle.std.specs.Option.{option_copied};
+ghost use Rattle.gltf_paths.specs.Indexes.{index_number};
+ghost use Rattle.gltf_paths.specs.Lists.{ListName};
+ghost use Rattle.gltf_paths.specs.Steps.{Step};
+ghost use Rattle.gltf_schema.specs.Fields.{closed_object, index_tree};
+ghost use Rattle.gltf_animations.specs.AnimationTrees.{animation_members};
+ghost use Rattle.gltf_root.specs.Lists.{count_in, sampler_count};
+ghost use Rattle.gltf_root.specs.RootTrees.{root_tree};
+ghost use Rattle.gltf_sinks.specs.Report.{found_at};
+ghost use Rattle.gltf_faults.specs.Faults.{index_faults, source_faults};
+
+use gltf_animations::animation::{Animation, Channel, Sampler};
+use gltf_base::validation::Error;
+use gltf_base::{Index, IndexTo, Names};
+use gltf_root::root::{Root, RootItem};
+use gltf_textures::texture::Texture;
+
+/// What is wrong with an index.
+pub fn index_fault<P: Names>(index: &IndexTo<P>, root: &Root) -> Option<Error>
+where
+    P::Item: RootItem,
+    ensures { (base : List Step) → found_at result base
+        ≡ index_faults (count_in P.Item.list (root_tree root.now)) (index_tree index.now) base }
+{
+    match root.get(Index::<P::Item>::new(index.number())) {
+        Some(_) => None,
+        None => Some(Error::IndexOutOfBounds),
+    }
+}
+
+/// What is wrong with the image that a texture names.
+pub fn source_fault(texture: &Texture, root: &Root) -> Option<Error>
+    ensures { (base : List Step) → found_at result base
+        ≡ source_faults (count_in ListName.images (root_tree root.now)) (index_tree texture.now.source) base }
+{
+    if texture.source == Index::new(u32::MAX) {
+        Some(Error::Missing)
+    } else {
+        index_fault(&texture.source, root)
+    }
+}
+
+/// What is wrong with the sampler that a channel names.
+pub fn sampler_fault(channel: &Channel, animation: &Animation) -> Option<Error>
+    ensures { (base : List Step) → found_at result base
+        ≡ index_faults (sampler_count (closed_object (animation_members animation.now))) (index_tree channel.now.sampler) base }
+{
+    match sampler_of(channel, animation) {
+        Some(_) => None,
+        None => Some(Error::IndexOutOfBounds),
+    }
+}
+
+/// The sampler that a channel names.
+fn sampler_of<'a>(channel: &Channel, animation: &'a Animation) -> Option<&'a Sampler>
+    ensures { option_copied result ≡ slice_get animation.now.samplers.items (index_number channel.now.sampler) }
+{
+    animation.samplers.get(channel.sampler.value())
+}

@@ -1,0 +1,70 @@
+//! Documents worked by hand, computed on the definitions.
+
+ghost use Rattle.std.specs.Prelude.{◌≡◌, [], ◌∷◌, Some, None, codes, negsuc};
+ghost use Rattle.serde_json.specs.Data.{no_members, member, number, negative, null, object, array, no_items, item as data_item};
+ghost use Rattle.gltf_paths.specs.Steps.{field, item, value};
+ghost use Rattle.gltf_paths.specs.declared.validation.Error.TheVariants.{IndexOutOfBounds, Invalid, Missing, Unsupported};
+ghost use Rattle.gltf_sinks.specs.Report.{report};
+ghost use Rattle.gltf_faults.specs.Worked.{reports_in, whole, text, one, with_asset, with_accessor, with_view, accessor_of, in_accessor, in_view, with_one, in_one, odd_channel, in_channel, with_attributes, in_attributes, extended, in_extension};
+
+/// Documents that are read, with their reports, and documents that are not.
+pub fn worked_documents()
+    ensures no_asset { reports_in (object no_members) ≡ None }
+    ensures no_object { reports_in (array no_items) ≡ None }
+    ensures clean { reports_in (with_asset no_members) ≡ Some [] }
+    // An accessor with neither a view nor elements that stand in for zeros.
+    ensures no_data { reports_in (with_accessor (accessor_of (whole 1) (whole 5126) no_members))
+        ≡ Some (report (in_accessor (codes "bufferView")) Missing ∷ []) }
+    // 4294972416 is 5120 in its low 32 bits.
+    ensures choice_is_whole { reports_in (with_view no_members (member (codes "accessors") (one (accessor_of (whole 1) (whole 4294972416) (member (codes "bufferView") (whole 0) no_members))) no_members))
+        ≡ Some (report (in_accessor (codes "componentType")) Invalid ∷ []) }
+    ensures members_first { reports_in (with_accessor (accessor_of (whole 1) (whole 0) no_members))
+        ≡ Some (report (in_accessor (codes "componentType")) Invalid ∷ report (in_accessor (codes "bufferView")) Missing ∷ []) }
+    ensures count_of_64_bits { reports_in (with_accessor (accessor_of (whole 18446744073709551615) (whole 5126) no_members))
+        ≡ Some (report (in_accessor (codes "bufferView")) Missing ∷ []) }
+    ensures negative_count { reports_in (with_accessor (accessor_of (number (negative (negsuc 0))) (whole 5126) no_members)) ≡ None }
+    ensures index_of_33_bits { reports_in (with_accessor (accessor_of (whole 1) (whole 5126) (member (codes "bufferView") (whole 4294967296) no_members))) ≡ None }
+    ensures dangling { reports_in (with_accessor (accessor_of (whole 1) (whole 5126) (member (codes "bufferView") (whole 0) no_members)))
+        ≡ Some (report (in_accessor (codes "bufferView")) IndexOutOfBounds ∷ []) }
+    ensures null_is_absent { reports_in (with_accessor (accessor_of (whole 1) (whole 5126) (member (codes "bufferView") null no_members)))
+        ≡ Some (report (in_accessor (codes "bufferView")) Missing ∷ []) }
+    ensures no_stride { reports_in (with_view (member (codes "byteStride") (whole 0) no_members) no_members)
+        ≡ Some (report (in_view (codes "byteStride")) Invalid ∷ []) }
+    ensures stride_below { reports_in (with_view (member (codes "byteStride") (whole 3) no_members) no_members)
+        ≡ Some (report (in_view (codes "byteStride")) Invalid ∷ []) }
+    ensures least_stride { reports_in (with_view (member (codes "byteStride") (whole 4) no_members) no_members) ≡ Some [] }
+    ensures greatest_stride { reports_in (with_view (member (codes "byteStride") (whole 252) no_members) no_members) ≡ Some [] }
+    ensures stride_above { reports_in (with_view (member (codes "byteStride") (whole 253) no_members) no_members)
+        ≡ Some (report (in_view (codes "byteStride")) Invalid ∷ []) }
+    ensures no_image { reports_in (with_one (codes "textures") no_members)
+        ≡ Some (report (in_one (codes "textures") (field (codes "source") ∷ [])) Missing ∷ []) }
+    ensures no_such_image { reports_in (with_one (codes "textures") (member (codes "source") (whole 0) no_members))
+        ≡ Some (report (in_one (codes "textures") (field (codes "source") ∷ [])) IndexOutOfBounds ∷ []) }
+    ensures no_projection { reports_in (with_one (codes "cameras") (member (codes "type") (text (codes "foo")) no_members))
+        ≡ Some (report (in_one (codes "cameras") (field (codes "type") ∷ [])) Invalid ∷ report (in_one (codes "cameras") []) Missing ∷ []) }
+    ensures channel_by_itself { reports_in (with_one (codes "animations") (member (codes "channels") (one odd_channel) no_members))
+        ≡ Some (report (in_channel (field (codes "sampler") ∷ [])) IndexOutOfBounds
+        ∷ report (in_channel (field (codes "target") ∷ field (codes "node") ∷ [])) IndexOutOfBounds
+        ∷ report (in_channel (field (codes "target") ∷ field (codes "path") ∷ [])) Invalid ∷ []) }
+    ensures not_enabled { reports_in (with_asset (member (codes "extensionsRequired") (array (data_item (text (codes "KHR_lights_punctual")) (data_item (text (codes "KHR_mesh_quantization")) no_items))) no_members))
+        ≡ Some (report (field (codes "extensionsRequired") ∷ item 1 ∷ value (codes "KHR_mesh_quantization") ∷ []) Unsupported ∷ []) }
+    ensures no_cone { reports_in (with_asset (extended (codes "KHR_lights_punctual") (codes "lights") (one (object (member (codes "type") (text (codes "spot")) no_members)))))
+        ≡ Some (report (in_extension (codes "KHR_lights_punctual") (field (codes "lights") ∷ item 0 ∷ field (codes "spot") ∷ [])) Missing ∷ []) }
+    ensures no_such_light { reports_in (with_one (codes "nodes") (extended (codes "KHR_lights_punctual") (codes "light") (whole 1)))
+        ≡ Some (report (in_one (codes "nodes") (in_extension (codes "KHR_lights_punctual") (field (codes "light") ∷ []))) IndexOutOfBounds ∷ []) }
+    ensures no_positions { reports_in (with_one (codes "meshes") (with_attributes no_members))
+        ≡ Some (report (in_attributes (codes "POSITION") []) Missing ∷ []) }
+    // Of an accessor that isn't there no bounds are asked.
+    ensures no_such_positions { reports_in (with_one (codes "meshes") (with_attributes (member (codes "POSITION") (whole 7) no_members)))
+        ≡ Some (report (in_attributes (codes "POSITION") []) IndexOutOfBounds ∷ []) }
+    // Keys in their order, each before its index, and the bounds behind them all.
+    ensures attributes_in_order { reports_in (with_asset (member (codes "accessors") (one (accessor_of (whole 1) (whole 5126) (member (codes "max") (array (data_item (whole 1) (data_item (whole 2) no_items))) no_members)))
+        (member (codes "meshes") (one (object (with_attributes (member (codes "FOO") (whole 9) (member (codes "POSITION") (whole 0) (member (codes "_x") (whole 9) no_members)))))) no_members)))
+        ≡ Some (report (in_accessor (codes "bufferView")) Missing
+        ∷ report (in_attributes (codes "_x") []) IndexOutOfBounds
+        ∷ report (in_attributes (codes "<invalid semantic name>") []) Invalid
+        ∷ report (in_attributes (codes "<invalid semantic name>") []) IndexOutOfBounds
+        ∷ report (in_attributes (codes "POSITION") (field (codes "min") ∷ [])) Missing
+        ∷ report (in_attributes (codes "POSITION") (field (codes "max") ∷ [])) Invalid ∷ []) }
+    ensures unknown_member { reports_in (with_asset (member (codes "zz") (text (codes "x")) no_members)) ≡ Some [] }
+{}

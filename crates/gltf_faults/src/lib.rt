@@ -1,0 +1,18 @@
+//! What is wrong in a glTF 2.0 document, what follows where nothing is, and what is wrong with an
+//! object by itself.
+#![tactic(auto)]
+
+mod accessor;
+mod camera;
+mod indexes;
+pub mod laws;
+mod light;
+mod primitive;
+mod required;
+
+pub use accessor::data_fault;
+pub use camera::projection_fault;
+pub use indexes::{index_fault, sampler_fault, source_fault};
+pub use light::spot_fault;
+pub use primitive::positions;
+pub use required::required_extensions;

@@ -1,0 +1,23 @@
+//! Spot lights without a cone.
+
+ghost use Rattle.std.specs.Prelude.{◌≡◌, List, ◌∷◌, [], ◌++◌, codes};
+ghost use Rattle.gltf_paths.specs.Steps.{Step, field};
+ghost use Rattle.gltf_nodes.specs.LightTrees.{light_members};
+ghost use Rattle.gltf_sinks.specs.Report.{found_at};
+ghost use Rattle.gltf_faults.specs.Rules.{light_rule};
+
+use gltf_base::extensions::scene::khr_lights_punctual::LightType;
+use gltf_base::validation::{Checked, Error};
+use gltf_nodes::extensions::scene::khr_lights_punctual::Light;
+
+/// What is wrong where a spot light has no cone.
+#[tactic(auto, unfolding(gltf_nodes::specs::LightTrees::light_members))]
+pub fn spot_fault(light: &Light) -> Option<Error>
+    ensures { (base : List Step) → found_at result (base ++ field (codes "spot") ∷ [])
+        ≡ light_rule (light_members light.now) base }
+{
+    match (light.type_, &light.spot) {
+        (Checked::Valid(LightType::Spot), None) => Some(Error::Missing),
+        _ => None,
+    }
+}

@@ -1,0 +1,193 @@
+//! The positions of a primitive (glTF 2.0, section 3.7.2.1).
+
+ghost use Rattle.std.specs.Prelude.{◌≡◌, List, ◌∷◌, [], ◌++◌, Some, option_map, codes};
+ghost use Rattle.std.specs.Map.{lookup};
+ghost use Rattle.serde_json.specs.View.{view};
+ghost use Rattle.gltf_checked.specs.Semantics.{checked_key};
+ghost use Rattle.gltf_paths.specs.Indexes.{index_number};
+ghost use Rattle.gltf_paths.specs.Steps.{Step as Mathematical, field, key};
+ghost use Rattle.gltf_data.specs.AccessorTrees.{accessor_members};
+ghost use Rattle.gltf_meshes.specs.MeshTrees.{primitive_members};
+ghost use Rattle.gltf_schema.specs.Fields.{any_tree, attributes_tree, closed_object};
+ghost use Rattle.gltf_schema.specs.Tree.{entries_in, tree_or_absent};
+ghost use Rattle.gltf_root.specs.RootTrees.{root_tree};
+ghost use Rattle.gltf_sinks.specs.Report.{found_at};
+ghost use Rattle.gltf_faults.specs.Rules.{bound_faults, bounds_faults, is_positions, is_triple, positions_faults, primitive_attributes, primitive_rule};
+ghost use Rattle.gltf_faults.specs.Positions.{found_in_positions};
+ghost use Rattle.gltf_sinks.specs.Handed.{Walked, WentOn};
+
+use gltf_base::mesh::Semantic;
+use gltf_base::validation::{Checked, Error};
+use gltf_base::{Index, Step, Steps};
+use gltf_data::accessor::Accessor;
+use gltf_meshes::mesh::Primitive;
+use gltf_root::root::Root;
+use gltf_sinks::{Sink, Stop, tell, told};
+use serde_json::Value;
+use std::collections::BTreeMap;
+
+/// What is wrong with the positions of a primitive: that they are missing, or a bound of their
+/// accessor.
+#[derive(Clone, Copy, Drop)]
+pub(crate) struct PositionFaults {
+    pub(crate) positions: Option<Error>,
+    pub(crate) min: Option<Error>,
+    pub(crate) max: Option<Error>,
+}
+
+/// Goes on with what is wrong with the positions of a primitive, where nothing stopped the walk
+/// before.
+pub fn positions<'a, S: Sink>(
+    before: Result<(), Stop<S::Refusal>>,
+    primitive: &Primitive,
+    root: &Root,
+    path: &mut Steps<'a>,
+    sink: &mut S,
+) -> Result<(), Stop<S::Refusal>>
+    ensures { WentOn S.next S.refuses before path.old (S.state sink.old)
+        (primitive_rule (primitive_members primitive.now) (root_tree root.now)) 3 result path.new (S.state sink.new) }
+{
+    match before {
+        Ok(()) => told_in_attributes(found_in(primitive, root), path, sink),
+        Err(stop) => Err(stop),
+    }
+}
+
+/// Tells what was found, seen from the primitive.
+fn told_in_attributes<'a, S: Sink>(
+    found: PositionFaults,
+    path: &mut Steps<'a>,
+    sink: &mut S,
+) -> Result<(), Stop<S::Refusal>>
+    ensures { Walked S.next S.refuses path.old (S.state sink.old)
+        (λ base. found_in_positions found ((base ++ field (codes "attributes") ∷ []) ++ key (codes "POSITION") ∷ [])) 3 result path.new (S.state sink.new) }
+{
+    if path.is_full() {
+        return Err(Stop::StepsFull);
+    }
+    path.push(Step::Field("attributes"));
+    let handed = told_at_key(found, path, sink);
+    path.pop();
+    handed
+}
+
+/// Tells what was found, seen from the attributes.
+fn told_at_key<'a, S: Sink>(
+    found: PositionFaults,
+    path: &mut Steps<'a>,
+    sink: &mut S,
+) -> Result<(), Stop<S::Refusal>>
+    ensures { Walked S.next S.refuses path.old (S.state sink.old)
+        (λ base. found_in_positions found (base ++ key (codes "POSITION") ∷ [])) 2 result path.new (S.state sink.new) }
+{
+    if path.is_full() {
+        return Err(Stop::StepsFull);
+    }
+    path.push(Step::Key("POSITION"));
+    let handed = told_here(found, path, sink);
+    path.pop();
+    handed
+}
+
+/// Tells what was found, seen from the positions.
+fn told_here<'a, S: Sink>(
+    found: PositionFaults,
+    path: &mut Steps<'a>,
+    sink: &mut S,
+) -> Result<(), Stop<S::Refusal>>
+    ensures { Walked S.next S.refuses path.old (S.state sink.old)
+        (found_in_positions found) 1 result path.new (S.state sink.new) }
+{
+    let positions = tell(path, found.positions, sink);
+    let min = told(positions, found.min, Step::Field("min"), path, sink);
+    told(min, found.max, Step::Field("max"), path, sink)
+}
+
+/// What is wrong with the positions of a primitive.
+#[tactic(auto, unfolding(gltf_meshes::specs::MeshTrees::primitive_members))]
+fn found_in(primitive: &Primitive, root: &Root) -> PositionFaults
+    ensures { (base : List Mathematical) → found_in_positions result base
+        ≡ positions_faults (lookup is_positions (entries_in (primitive_attributes (primitive_members primitive.now)))) (root_tree root.now) base }
+{
+    match index_of_positions(&primitive.attributes) {
+        Some(index) => found_at_index(index, root),
+        None => PositionFaults {
+            positions: Some(Error::Missing),
+            min: None,
+            max: None,
+        },
+    }
+}
+
+/// What is wrong with the accessor that an index names; nothing where it names none.
+fn found_at_index(index: Index<Accessor>, root: &Root) -> PositionFaults
+    ensures { (base : List Mathematical) → found_in_positions result base
+        ≡ positions_faults (Some (index_number index)) (root_tree root.now) base }
+{
+    match root.get(index) {
+        Some(accessor) => found_in_bounds(accessor),
+        None => PositionFaults {
+            positions: None,
+            min: None,
+            max: None,
+        },
+    }
+}
+
+/// What is wrong with the bounds of an accessor of positions.
+#[tactic(auto, unfolding(gltf_data::specs::AccessorTrees::accessor_members))]
+fn found_in_bounds(accessor: &Accessor) -> PositionFaults
+    ensures { (base : List Mathematical) → found_in_positions result base
+        ≡ bounds_faults (closed_object (accessor_members accessor.now)) base }
+{
+    PositionFaults {
+        positions: None,
+        min: bound_fault(&accessor.min),
+        max: bound_fault(&accessor.max),
+    }
+}
+
+/// What is wrong with a bound of positions.
+fn bound_fault(bound: &Option<Value>) -> Option<Error>
+    ensures { (base : List Mathematical) → found_at result base ≡ bound_faults (tree_or_absent any_tree bound.now) base }
+{
+    match bound {
+        None => Some(Error::Missing),
+        Some(value) if is_three_numbers(value) => None,
+        Some(_) => Some(Error::Invalid),
+    }
+}
+
+/// Whether a value is an array of exactly three numbers.
+fn is_three_numbers(value: &Value) -> bool
+    ensures { result ≡ is_triple (view value.now) }
+{
+    let Some(items) = value.as_array() else {
+        return false;
+    };
+    match items.as_slice() {
+        [x, y, z] => x.is_number() && y.is_number() && z.is_number(),
+        _ => false,
+    }
+}
+
+/// The index under which the positions stand.
+fn index_of_positions(
+    attributes: &BTreeMap<Checked<Semantic>, Index<Accessor>>,
+) -> Option<Index<Accessor>>
+    ensures { option_map index_number result ≡ lookup is_positions (entries_in (attributes_tree attributes.now)) }
+{
+    for (semantic, index) in attributes {
+        if means_positions(semantic) {
+            return Some(*index);
+        }
+    }
+    None
+}
+
+/// Whether an attribute's key means the positions.
+fn means_positions(semantic: &Checked<Semantic>) -> bool
+    ensures { result ≡ is_positions (checked_key semantic.now) }
+{
+    matches!(semantic, Checked::Valid(Semantic::Positions))
+}

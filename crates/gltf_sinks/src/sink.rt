@@ -1,0 +1,79 @@
+//! What takes reports.
+
+ghost use Rattle.std.specs.Prelude.{◌≡◌, ℕ, List, OnOk, IfErr};
+ghost use Rattle.gltf_paths.specs.Steps.{Step, steps_of};
+ghost use Rattle.gltf_paths.specs.declared.validation.Error.{Error};
+ghost use Rattle.gltf_sinks.specs.Sinks.{reports_counted, one_more};
+
+use gltf_base::Steps;
+use gltf_base::validation::Error;
+
+/// What takes reports.
+pub trait Sink {
+    /// Why a report is refused.
+    type Refusal;
+
+    /// What contracts see of a sink.
+    ghost State: { Type 0 };
+
+    ghost state: { Self → State };
+
+    /// The state after one more report that was taken.
+    ghost next: { State → List Step → Error → State };
+
+    /// When a report is refused, and the state then.
+    ghost refuses: { State → List Step → Error → Self.Refusal → State → Type 0 };
+
+    /// Takes a report: what is wrong at the end of a path. Any error stops the walk.
+    fn report(&mut self, path: &Steps<'_>, error: Error) -> Result<(), Self::Refusal>
+        ensures taken { OnOk result (state self.new ≡ next (state self.old) (steps_of path.now) error) }
+        ensures refused { IfErr result (λ r. refuses (state self.old) (steps_of path.now) error r (state self.new)) };
+}
+
+/// Why validation stopped before its end.
+#[derive(Clone, Copy, Debug, Drop, PartialEq, Eq)]
+pub enum Stop<R> {
+    /// A path had no room for one more step.
+    StepsFull,
+    /// The sink refused a report.
+    Sink(R),
+}
+
+/// A sink that counts reports. It refuses none, and stops rising at the greatest number it can hold.
+#[derive(Clone, Debug, Drop)]
+pub struct Count {
+    count: u64,
+}
+
+impl Count {
+    /// A count of none.
+    pub fn new() -> Count
+        ensures { reports_counted result ≡ 0 }
+    {
+        Count { count: 0 }
+    }
+
+    /// How many reports were counted.
+    pub fn count(&self) -> u64
+        ensures { result ≡ reports_counted self.now }
+    {
+        self.count
+    }
+}
+
+impl Sink for Count {
+    type Refusal = ();
+
+    ghost State = { ℕ };
+
+    ghost state = { reports_counted };
+
+    ghost next = { one_more };
+
+    ghost refuses = { λ _ _ _ _ _. ⊥ };
+
+    fn report(&mut self, _path: &Steps<'_>, _error: Error) -> Result<(), ()> {
+        self.count = self.count.saturating_add(1);
+        Ok(())
+    }
+}

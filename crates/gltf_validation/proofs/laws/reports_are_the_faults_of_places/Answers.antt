@@ -1,5 +1,0 @@
-use Rattle.gltf_validation.proofs.ByPlaces.{reports_are_by_places}
-use Rattle.gltf_validation.proofs.laws.reports_are_the_faults_of_places.Goals as goal
-
-pub returns : goal.returns
-returns c kind tree root base = reports_are_by_places kind tree root base

@@ -1,0 +1,120 @@
+//! Animations.
+
+ghost use Rattle.std.specs.Prelude.{◌≡◌, Some, refl};
+ghost use Rattle.gltf_animations.specs.AnimationTable.{animation_kind, animation_target_kind, animation_sampler_kind};
+ghost use Rattle.gltf_animations.specs.AnimationTrees.{animation_members, animation_target_members, animation_sampler_members, animation_extensions, channel_extensions, target_extensions, sampler_extensions};
+ghost use Rattle.gltf_schema.specs.Extensions.{kept_extensions, dropped_extensions};
+ghost use Rattle.gltf_schema.specs.Fields.{closed_object};
+ghost use Rattle.gltf_schema.specs.Kind.{ObjectName};
+ghost use Rattle.gltf_validation.specs.ByType.{no_reports};
+
+use super::Validate;
+use super::channels::channels;
+use super::silent::Silent;
+use super::within::member;
+use gltf_animations::animation::{Animation, Sampler, Target};
+use gltf_animations::extensions::animation as extensions;
+use gltf_base::Steps;
+use gltf_root::root::Root;
+use gltf_sinks::{Sink, Stop};
+
+impl Validate for Animation {
+    ghost kind = { Some animation_kind };
+
+    ghost tree = { λ v. closed_object (animation_members v) };
+
+    ghost own = { no_reports };
+
+    ghost depth = { 4 };
+
+    /// Reports `IndexOutOfBounds` at the `sampler` of each channel that names none of the animation's own.
+    fn validate<'a, S: Sink>(
+        &'a self,
+        root: &Root,
+        path: &mut Steps<'a>,
+        sink: &mut S,
+    ) -> Result<(), Stop<S::Refusal>> {
+        let samplers = member(Ok(()), &self.samplers, "samplers", root, path, sink);
+        channels(samplers, self, root, path, sink)
+    }
+}
+
+impl Validate for Target {
+    ghost kind = { Some animation_target_kind };
+
+    ghost tree = { λ v. closed_object (animation_target_members v) };
+
+    ghost own = { no_reports };
+
+    ghost depth = { 1 };
+
+    fn validate<'a, S: Sink>(
+        &'a self,
+        root: &Root,
+        path: &mut Steps<'a>,
+        sink: &mut S,
+    ) -> Result<(), Stop<S::Refusal>> {
+        let node = member(Ok(()), &self.node, "node", root, path, sink);
+        member(node, &self.path, "path", root, path, sink)
+    }
+}
+
+impl Validate for Sampler {
+    ghost kind = { Some animation_sampler_kind };
+
+    ghost tree = { λ v. closed_object (animation_sampler_members v) };
+
+    ghost own = { no_reports };
+
+    ghost depth = { 1 };
+
+    fn validate<'a, S: Sink>(
+        &'a self,
+        root: &Root,
+        path: &mut Steps<'a>,
+        sink: &mut S,
+    ) -> Result<(), Stop<S::Refusal>> {
+        let input = member(Ok(()), &self.input, "input", root, path, sink);
+        let interpolation = member(
+            input,
+            &self.interpolation,
+            "interpolation",
+            root,
+            path,
+            sink,
+        );
+        member(interpolation, &self.output, "output", root, path, sink)
+    }
+}
+
+impl Silent for extensions::Animation {
+    ghost kind = { Some (kept_extensions ObjectName.animation) };
+
+    ghost tree = { animation_extensions };
+
+    ghost is_silent = { λ _ _ _. refl };
+}
+
+impl Silent for extensions::Channel {
+    ghost kind = { Some (dropped_extensions ObjectName.animation_channel) };
+
+    ghost tree = { channel_extensions };
+
+    ghost is_silent = { λ _ _ _. refl };
+}
+
+impl Silent for extensions::Target {
+    ghost kind = { Some (dropped_extensions ObjectName.animation_target) };
+
+    ghost tree = { target_extensions };
+
+    ghost is_silent = { λ _ _ _. refl };
+}
+
+impl Silent for extensions::Sampler {
+    ghost kind = { Some (dropped_extensions ObjectName.animation_sampler) };
+
+    ghost tree = { sampler_extensions };
+
+    ghost is_silent = { λ _ _ _. refl };
+}

@@ -1,0 +1,82 @@
+//! Cameras and their projections.
+
+ghost use Rattle.std.specs.Prelude.{◌≡◌, Some, refl};
+ghost use Rattle.gltf_nodes.specs.CameraTable.{camera_kind, orthographic_rows, orthographic_kind, perspective_rows, perspective_kind};
+ghost use Rattle.gltf_nodes.specs.CameraTrees.{camera_members, orthographic_members, perspective_members, camera_extensions, orthographic_extensions, perspective_extensions};
+ghost use Rattle.gltf_schema.specs.Tree.{absent};
+ghost use Rattle.gltf_schema.specs.Extensions.{kept_extensions};
+ghost use Rattle.gltf_schema.specs.Fields.{closed_object};
+ghost use Rattle.gltf_schema.specs.Kind.{ObjectName};
+ghost use Rattle.gltf_faults.specs.Silence.{silent};
+ghost use Rattle.gltf_validation.specs.ByType.{no_reports};
+
+use super::Validate;
+use super::silent::Silent;
+use super::within::member;
+use gltf_base::Steps;
+use gltf_faults::projection_fault;
+use gltf_nodes::camera::{Camera, Orthographic, Perspective};
+use gltf_nodes::extensions::camera as extensions;
+use gltf_root::root::Root;
+use gltf_sinks::{Sink, Stop, also_told};
+
+impl Validate for Camera {
+    ghost kind = { Some camera_kind };
+
+    ghost tree = { λ v. closed_object (camera_members v) };
+
+    ghost own = { no_reports };
+
+    ghost depth = { 1 };
+
+    /// Reports `Missing` at the camera itself where it has neither projection, whatever its type.
+    fn validate<'a, S: Sink>(
+        &'a self,
+        root: &Root,
+        path: &mut Steps<'a>,
+        sink: &mut S,
+    ) -> Result<(), Stop<S::Refusal>> {
+        let type_ = member(Ok(()), &self.type_, "type", root, path, sink);
+        also_told(type_, projection_fault(self), path, sink)
+    }
+}
+
+impl Silent for Orthographic {
+    ghost kind = { Some orthographic_kind };
+
+    ghost tree = { λ v. closed_object (orthographic_members v) };
+
+    ghost is_silent = { λ v root base. silent orthographic_kind (unfold orthographic_rows in refl) (closed_object (orthographic_members v)) root absent base };
+}
+
+impl Silent for Perspective {
+    ghost kind = { Some perspective_kind };
+
+    ghost tree = { λ v. closed_object (perspective_members v) };
+
+    ghost is_silent = { λ v root base. silent perspective_kind (unfold perspective_rows in refl) (closed_object (perspective_members v)) root absent base };
+}
+
+impl Silent for extensions::Camera {
+    ghost kind = { Some (kept_extensions ObjectName.camera) };
+
+    ghost tree = { camera_extensions };
+
+    ghost is_silent = { λ _ _ _. refl };
+}
+
+impl Silent for extensions::Orthographic {
+    ghost kind = { Some (kept_extensions ObjectName.orthographic) };
+
+    ghost tree = { orthographic_extensions };
+
+    ghost is_silent = { λ _ _ _. refl };
+}
+
+impl Silent for extensions::Perspective {
+    ghost kind = { Some (kept_extensions ObjectName.perspective) };
+
+    ghost tree = { perspective_extensions };
+
+    ghost is_silent = { λ _ _ _. refl };
+}

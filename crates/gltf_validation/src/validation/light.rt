@@ -1,0 +1,75 @@
+//! Lights, and the variants of materials.
+
+ghost use Rattle.std.specs.Prelude.{◌≡◌, Some, refl};
+ghost use Rattle.gltf_nodes.specs.LightTable.{light_kind, light_of_node_kind, spot_kind, spot_rows, variant_kind, variant_rows};
+ghost use Rattle.gltf_nodes.specs.LightTrees.{light_members, light_of_node_members, spot_members, variant_members};
+ghost use Rattle.gltf_schema.specs.Tree.{absent};
+ghost use Rattle.gltf_schema.specs.Fields.{closed_object};
+ghost use Rattle.gltf_faults.specs.Silence.{silent};
+ghost use Rattle.gltf_validation.specs.ByType.{no_reports};
+
+use super::Validate;
+use super::silent::Silent;
+use super::within::member;
+use gltf_base::{Step, Steps};
+use gltf_faults::spot_fault;
+use gltf_nodes::extensions::scene::khr_lights_punctual::{KhrLightsPunctual, Light, Spot};
+use gltf_nodes::extensions::scene::khr_materials_variants::Variant;
+use gltf_root::root::Root;
+use gltf_sinks::{Sink, Stop, told};
+
+impl Validate for Light {
+    ghost kind = { Some light_kind };
+
+    ghost tree = { λ v. closed_object (light_members v) };
+
+    ghost own = { no_reports };
+
+    ghost depth = { 1 };
+
+    /// Reports `Missing` at `spot` where a spot light has no cone.
+    fn validate<'a, S: Sink>(
+        &'a self,
+        root: &Root,
+        path: &mut Steps<'a>,
+        sink: &mut S,
+    ) -> Result<(), Stop<S::Refusal>> {
+        let type_ = member(Ok(()), &self.type_, "type", root, path, sink);
+        told(type_, spot_fault(self), Step::Field("spot"), path, sink)
+    }
+}
+
+impl Validate for KhrLightsPunctual {
+    ghost kind = { Some light_of_node_kind };
+
+    ghost tree = { λ v. closed_object (light_of_node_members v) };
+
+    ghost own = { no_reports };
+
+    ghost depth = { 1 };
+
+    fn validate<'a, S: Sink>(
+        &'a self,
+        root: &Root,
+        path: &mut Steps<'a>,
+        sink: &mut S,
+    ) -> Result<(), Stop<S::Refusal>> {
+        member(Ok(()), &self.light, "light", root, path, sink)
+    }
+}
+
+impl Silent for Spot {
+    ghost kind = { Some spot_kind };
+
+    ghost tree = { λ v. closed_object (spot_members v) };
+
+    ghost is_silent = { λ v root base. silent spot_kind (unfold spot_rows in refl) (closed_object (spot_members v)) root absent base };
+}
+
+impl Silent for Variant {
+    ghost kind = { Some variant_kind };
+
+    ghost tree = { λ v. closed_object (variant_members v) };
+
+    ghost is_silent = { λ v root base. silent variant_kind (unfold variant_rows in refl) (closed_object (variant_members v)) root absent base };
+}

@@ -1,0 +1,258 @@
+//! The extension objects of materials.
+
+ghost use Rattle.std.specs.Prelude.{◌≡◌, Some, refl};
+ghost use Rattle.gltf_shading.specs.MaterialExtensionTable.{pbr_specular_glossiness_kind, unlit_kind, transmission_kind, volume_kind, specular_kind, ior_kind, ior_rows, emissive_strength_kind, emissive_strength_rows, material_extensions_kind};
+ghost use Rattle.gltf_shading.specs.MaterialExtensionTrees.{pbr_specular_glossiness_tree, unlit_tree, transmission_members, volume_members, specular_members, ior_members, emissive_strength_members};
+ghost use Rattle.gltf_materials.specs.MaterialTrees.{material_extensions};
+ghost use Rattle.gltf_schema.specs.Tree.{absent};
+ghost use Rattle.gltf_schema.specs.Fields.{closed_object};
+ghost use Rattle.gltf_faults.specs.Silence.{silent};
+ghost use Rattle.gltf_validation.specs.ByType.{no_reports};
+
+use super::Validate;
+use super::silent::Silent;
+use super::within::member;
+use gltf_base::Steps;
+use gltf_root::root::Root;
+use gltf_shading::extensions::material as extensions;
+use gltf_shading::extensions::material::{
+    AttenuationColor, AttenuationDistance, EmissiveStrength, EmissiveStrengthFactor,
+    IndexOfRefraction, Ior, PbrDiffuseFactor, PbrSpecularFactor, PbrSpecularGlossiness, Specular,
+    SpecularColorFactor, SpecularFactor, ThicknessFactor, Transmission, TransmissionFactor, Unlit,
+    Volume,
+};
+use gltf_sinks::{Sink, Stop};
+
+impl Validate for extensions::Material {
+    ghost kind = { Some material_extensions_kind };
+
+    ghost tree = { material_extensions };
+
+    ghost own = { no_reports };
+
+    ghost depth = { 3 };
+
+    fn validate<'a, S: Sink>(
+        &'a self,
+        root: &Root,
+        path: &mut Steps<'a>,
+        sink: &mut S,
+    ) -> Result<(), Stop<S::Refusal>> {
+        let pbr_specular_glossiness = member(
+            Ok(()),
+            &self.pbr_specular_glossiness,
+            "KHR_materials_pbrSpecularGlossiness",
+            root,
+            path,
+            sink,
+        );
+        let transmission = member(
+            pbr_specular_glossiness,
+            &self.transmission,
+            "KHR_materials_transmission",
+            root,
+            path,
+            sink,
+        );
+        let volume = member(
+            transmission,
+            &self.volume,
+            "KHR_materials_volume",
+            root,
+            path,
+            sink,
+        );
+        member(
+            volume,
+            &self.specular,
+            "KHR_materials_specular",
+            root,
+            path,
+            sink,
+        )
+    }
+}
+
+impl Validate for PbrSpecularGlossiness {
+    ghost kind = { Some pbr_specular_glossiness_kind };
+
+    ghost tree = { pbr_specular_glossiness_tree };
+
+    ghost own = { no_reports };
+
+    ghost depth = { 2 };
+
+    fn validate<'a, S: Sink>(
+        &'a self,
+        root: &Root,
+        path: &mut Steps<'a>,
+        sink: &mut S,
+    ) -> Result<(), Stop<S::Refusal>> {
+        let diffuse_texture = member(
+            Ok(()),
+            &self.diffuse_texture,
+            "diffuseTexture",
+            root,
+            path,
+            sink,
+        );
+        member(
+            diffuse_texture,
+            &self.specular_glossiness_texture,
+            "specularGlossinessTexture",
+            root,
+            path,
+            sink,
+        )
+    }
+}
+
+impl Validate for Transmission {
+    ghost kind = { Some transmission_kind };
+
+    ghost tree = { λ v. closed_object (transmission_members v) };
+
+    ghost own = { no_reports };
+
+    ghost depth = { 2 };
+
+    fn validate<'a, S: Sink>(
+        &'a self,
+        root: &Root,
+        path: &mut Steps<'a>,
+        sink: &mut S,
+    ) -> Result<(), Stop<S::Refusal>> {
+        member(
+            Ok(()),
+            &self.transmission_texture,
+            "transmissionTexture",
+            root,
+            path,
+            sink,
+        )
+    }
+}
+
+impl Validate for Volume {
+    ghost kind = { Some volume_kind };
+
+    ghost tree = { λ v. closed_object (volume_members v) };
+
+    ghost own = { no_reports };
+
+    ghost depth = { 2 };
+
+    fn validate<'a, S: Sink>(
+        &'a self,
+        root: &Root,
+        path: &mut Steps<'a>,
+        sink: &mut S,
+    ) -> Result<(), Stop<S::Refusal>> {
+        member(
+            Ok(()),
+            &self.thickness_texture,
+            "thicknessTexture",
+            root,
+            path,
+            sink,
+        )
+    }
+}
+
+impl Validate for Specular {
+    ghost kind = { Some specular_kind };
+
+    ghost tree = { λ v. closed_object (specular_members v) };
+
+    ghost own = { no_reports };
+
+    ghost depth = { 2 };
+
+    fn validate<'a, S: Sink>(
+        &'a self,
+        root: &Root,
+        path: &mut Steps<'a>,
+        sink: &mut S,
+    ) -> Result<(), Stop<S::Refusal>> {
+        let specular_texture = member(
+            Ok(()),
+            &self.specular_texture,
+            "specularTexture",
+            root,
+            path,
+            sink,
+        );
+        member(
+            specular_texture,
+            &self.specular_color_texture,
+            "specularColorTexture",
+            root,
+            path,
+            sink,
+        )
+    }
+}
+
+impl Silent for Unlit {
+    ghost kind = { Some unlit_kind };
+
+    ghost tree = { unlit_tree };
+
+    ghost is_silent = { λ _ _ _. refl };
+}
+
+impl Silent for Ior {
+    ghost kind = { Some ior_kind };
+
+    ghost tree = { λ v. closed_object (ior_members v) };
+
+    ghost is_silent = { λ v root base. silent ior_kind (unfold ior_rows in refl) (closed_object (ior_members v)) root absent base };
+}
+
+impl Silent for EmissiveStrength {
+    ghost kind = { Some emissive_strength_kind };
+
+    ghost tree = { λ v. closed_object (emissive_strength_members v) };
+
+    ghost is_silent = { λ v root base. silent emissive_strength_kind (unfold emissive_strength_rows in refl) (closed_object (emissive_strength_members v)) root absent base };
+}
+
+impl Silent for PbrDiffuseFactor {
+    ghost is_silent = { λ _ _ _. refl };
+}
+
+impl Silent for PbrSpecularFactor {
+    ghost is_silent = { λ _ _ _. refl };
+}
+
+impl Silent for TransmissionFactor {
+    ghost is_silent = { λ _ _ _. refl };
+}
+
+impl Silent for ThicknessFactor {
+    ghost is_silent = { λ _ _ _. refl };
+}
+
+impl Silent for AttenuationDistance {
+    ghost is_silent = { λ _ _ _. refl };
+}
+
+impl Silent for AttenuationColor {
+    ghost is_silent = { λ _ _ _. refl };
+}
+
+impl Silent for SpecularFactor {
+    ghost is_silent = { λ _ _ _. refl };
+}
+
+impl Silent for SpecularColorFactor {
+    ghost is_silent = { λ _ _ _. refl };
+}
+
+impl Silent for IndexOfRefraction {
+    ghost is_silent = { λ _ _ _. refl };
+}
+
+impl Silent for EmissiveStrengthFactor {
+    ghost is_silent = { λ _ _ _. refl };
+}

@@ -1,0 +1,40 @@
+//! Whole documents: what is reported of them and of their parts, and their lists.
+
+mod lists;
+mod reports;
+mod sources;
+
+use gltf_base::Steps;
+use gltf_json::validation::{Collect, Validate};
+use gltf_json::{Error, Root};
+use std::alloc::Global;
+use std::fmt::Write;
+
+/// A document with a texture that names no image.
+const WITHOUT_SOURCE: &str = r#"{"asset":{"version":"2.0"},"textures":[{}]}"#;
+
+const NO_SOURCE: &str = "textures[0].source: Missing data\n";
+
+/// A document with a texture that names an image past the end of the list.
+const WITH_SOURCE: &str = r#"{"asset":{"version":"2.0"},"textures":[{"source":0}]}"#;
+
+const SOURCE_PAST_END: &str = "textures[0].source: Index out of bounds\n";
+
+/// What is wrong in a part of a document, a line for each report.
+fn lines_of<'a, T: Validate>(
+    alloc: Global,
+    part: &'a T,
+    root: &Root,
+    path: &mut Steps<'a>,
+) -> Result<String, Error> {
+    let mut sink = Collect::new(alloc);
+    let ended = part.validate(root, path, &mut sink);
+    let mut lines = String::new(alloc);
+    if ended.is_err() {
+        lines.push_str("stopped\n")?;
+    }
+    for (place, error) in sink.reports() {
+        writeln!(lines, "{place}: {error}")?;
+    }
+    Ok(lines)
+}

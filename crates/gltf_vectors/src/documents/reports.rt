@@ -1,0 +1,160 @@
+//! What is reported of whole documents, each read from bytes and from a text.
+
+use super::{NO_SOURCE, SOURCE_PAST_END, WITH_SOURCE, WITHOUT_SOURCE, lines_of};
+use crate::validation::bounded_lines;
+use gltf_base::Steps;
+use gltf_json::{Error, Root};
+use std::alloc::Global;
+use std::test::Fail;
+
+/// A document, and what it tells.
+type Case = (&'static str, &'static str);
+
+/// What is told of JSON that is no document.
+const REFUSED: &str = "refused";
+
+/// A document with an animation in which everything is wrong.
+const ANIMATIONS: &str =
+    r#"{"asset":{"version":"2.0"},"animations":[{"channels":[{"sampler":0,"target":{"node":0,"path":"foo"}}],"samplers":[]}]}"#;
+
+const NULL_CAMERA: &str = r#"{"asset":{"version":"2.0"},"nodes":[{"camera":null}]}"#;
+
+const CASES: [Case; 15] = [
+    (WITHOUT_SOURCE, NO_SOURCE),
+    (
+        r#"{"asset":{"version":"2.0"},"textures":[{"source":4294967295}]}"#,
+        NO_SOURCE,
+    ),
+    (
+        r#"{"asset":{"version":"2.0"},"textures":[{"source":4294967296}]}"#,
+        REFUSED,
+    ),
+    (WITH_SOURCE, SOURCE_PAST_END),
+    (
+        ANIMATIONS,
+        "animations[0].channels[0].sampler: Index out of bounds\nanimations[0].channels[0].target.node: Index out of bounds\nanimations[0].channels[0].target.path: Invalid value\n",
+    ),
+    (
+        r#"{"asset":{"version":"2.0"},"accessors":[{"count":1,"componentType":5126,"type":"VEC3","max":[1,2]}],"meshes":[{"primitives":[{"attributes":{"FOO":9,"POSITION":0,"_x":9}}]}]}"#,
+        "accessors[0].bufferView: Missing data\nmeshes[0].primitives[0].attributes[\"_x\"]: Index out of bounds\nmeshes[0].primitives[0].attributes[\"<invalid semantic name>\"]: Invalid value\nmeshes[0].primitives[0].attributes[\"<invalid semantic name>\"]: Index out of bounds\nmeshes[0].primitives[0].attributes[\"POSITION\"].min: Missing data\nmeshes[0].primitives[0].attributes[\"POSITION\"].max: Invalid value\n",
+    ),
+    (
+        r#"{"asset":{"version":"2.0"},"cameras":[{"type":"foo"}]}"#,
+        "cameras[0].type: Invalid value\ncameras[0]: Missing data\n",
+    ),
+    (
+        r#"{"asset":{"version":"2.0"},"extensions":{"KHR_lights_punctual":{"lights":[{"type":"spot"}]}},"nodes":[{"extensions":{"KHR_lights_punctual":{"light":1}}}]}"#,
+        "extensions.KHR_lights_punctual.lights[0].spot: Missing data\nnodes[0].extensions.KHR_lights_punctual.light: Index out of bounds\n",
+    ),
+    (NULL_CAMERA, ""),
+    (
+        r#"{"asset":{"version":"2.0"},"meshes":[{"primitives":[{"attributes":{},"mode":null}]}]}"#,
+        REFUSED,
+    ),
+    (
+        r#"{"asset":{"version":"2.0"},"materials":[{"emissiveTexture":{"index":0,"extensions":{"KHR_texture_transform":{}}}}]}"#,
+        "materials[0].emissiveTexture.index: Index out of bounds\n",
+    ),
+    (
+        r#"{"asset":{"version":"2.0"},"meshes":[{"primitives":[{"attributes":{"POSITION":7}}]}]}"#,
+        "meshes[0].primitives[0].attributes[\"POSITION\"]: Index out of bounds\n",
+    ),
+    (
+        r#"{"asset":{"version":"2.0"},"meshes":[{"primitives":[{"attributes":{}}]}]}"#,
+        "meshes[0].primitives[0].attributes[\"POSITION\"]: Missing data\n",
+    ),
+    (
+        r#"{"asset":{"version":"2.0"},"scene":0,"skins":[{"joints":[1]}],"nodes":[{}]}"#,
+        "scene: Index out of bounds\nskins[0].joints[0]: Index out of bounds\n",
+    ),
+    (
+        r#"{"asset":{"version":"2.0"},"meshes":[{"primitives":[{"attributes":{},"targets":[{"POSITION":3}]}]}]}"#,
+        "meshes[0].primitives[0].targets[0].POSITION: Index out of bounds\nmeshes[0].primitives[0].attributes[\"POSITION\"]: Missing data\n",
+    ),
+];
+
+/// Documents that require extensions.
+const REQUIRED: [Case; 2] = [
+    (
+        r#"{"asset":{"version":"2.0"},"extensionsRequired":["KHR_lights_punctual"]}"#,
+        "",
+    ),
+    (
+        r#"{"asset":{"version":"2.0"},"extensionsRequired":["KHR_lights_punctual","KHR_mesh_quantization"]}"#,
+        "extensionsRequired[1] = \"KHR_mesh_quantization\": Unsupported extension\n",
+    ),
+];
+
+/// Whether the reports of a document against itself are these lines.
+fn has_lines(alloc: Global, root: &Root, lines: &str) -> bool {
+    match lines_of(alloc, root, root, &mut Steps::new()) {
+        Ok(found) => found.as_str() == lines,
+        Err(_) => false,
+    }
+}
+
+/// Whether a reading tells this: the lines of its reports, or that it was refused.
+fn is_told(alloc: Global, reading: &Result<Root, Error>, told: &str) -> bool {
+    match reading {
+        Ok(root) => has_lines(alloc, root, told),
+        Err(Error::Schema) => told == REFUSED,
+        Err(_) => false,
+    }
+}
+
+fn is_told_from_slice(alloc: Global, document: &str, told: &str) -> bool {
+    let reading = Root::from_slice(alloc, document.as_bytes());
+    is_told(alloc, &reading, told)
+}
+
+fn is_told_from_str(alloc: Global, document: &str, told: &str) -> bool {
+    let reading = Root::from_str(alloc, document);
+    is_told(alloc, &reading, told)
+}
+
+/// Whether a document tells what it should, read from bytes and from a text.
+fn is_answered(alloc: Global, (document, told): &Case) -> bool {
+    is_told_from_slice(alloc, document, told) && is_told_from_str(alloc, document, told)
+}
+
+#[test]
+fn collected_lines(rt: HostRuntime) {
+    for case in CASES.iter() {
+        assert!(rt; is_answered(rt.alloc(), case), "{}", case.0);
+    }
+}
+
+#[test]
+fn root_extensions(rt: HostRuntime) {
+    for case in REQUIRED.iter() {
+        assert!(rt; is_answered(rt.alloc(), case), "{}", case.0);
+    }
+}
+
+/// Whether the first node of a document has no camera.
+fn has_no_camera(root: &Root) -> bool {
+    root.nodes
+        .first()
+        .is_some_and(|first| first.camera.is_none())
+}
+
+/// Whether a null camera is read as none.
+fn is_null_absent(alloc: Global) -> Result<bool, Error> {
+    let root = Root::from_str(alloc, NULL_CAMERA)?;
+    Ok(has_no_camera(&root))
+}
+
+#[test]
+fn null_cameras(rt: HostRuntime) -> Result<(), Fail> {
+    assert!(rt; is_null_absent(rt.alloc())?);
+    Ok(())
+}
+
+#[test]
+fn first_report_alone(rt: HostRuntime) -> Result<(), Fail> {
+    assert_eq!(rt;
+        bounded_lines(rt.alloc(), ANIMATIONS, 1)?.as_str(),
+        "animations[0].channels[0].sampler: Index out of bounds\nErr(Sink(7)), 0 steps\n"
+    );
+    Ok(())
+}

@@ -1,0 +1,60 @@
+//! The images that textures name.
+
+use super::{NO_SOURCE, SOURCE_PAST_END, WITH_SOURCE, WITHOUT_SOURCE, lines_of};
+use crate::objects::read;
+use gltf_base::{Step, Steps};
+use gltf_json::{Error, Root, Texture};
+use std::alloc::Global;
+use std::test::Fail;
+
+/// The number of the image that a texture names.
+fn source(alloc: Global, texture: &str) -> Result<usize, Fail> {
+    Ok(read::<Texture>(alloc, texture)?.source.value())
+}
+
+#[test]
+fn deserialize_source(rt: HostRuntime) -> Result<(), Fail> {
+    assert_eq!(rt; source(rt.alloc(), r#"{"source":0}"#)?, 0);
+    Ok(())
+}
+
+#[test]
+fn deserialize_empty_source(rt: HostRuntime) -> Result<(), Fail> {
+    assert_eq!(rt; source(rt.alloc(), "{}")?, 4294967295);
+    Ok(())
+}
+
+/// What is wrong in the first texture, a line for each report.
+fn lines_of_first(alloc: Global, root: &Root) -> Result<String, Error> {
+    let mut path = Steps::new();
+    path.push(Step::Field("textures"));
+    path.push(Step::Index(0));
+    match root.textures.first() {
+        Some(texture) => lines_of(alloc, texture, root, &mut path),
+        None => Ok(String::new(alloc)),
+    }
+}
+
+/// The same of a document that is given as a text.
+fn texture_lines(alloc: Global, document: &str) -> Result<String, Error> {
+    let root = Root::from_str(alloc, document)?;
+    lines_of_first(alloc, &root)
+}
+
+#[test]
+fn validate_source(rt: HostRuntime) -> Result<(), Fail> {
+    assert_eq!(rt;
+        texture_lines(rt.alloc(), WITH_SOURCE)?.as_str(),
+        SOURCE_PAST_END
+    );
+    Ok(())
+}
+
+#[test]
+fn validate_empty_source(rt: HostRuntime) -> Result<(), Fail> {
+    assert_eq!(rt;
+        texture_lines(rt.alloc(), WITHOUT_SOURCE)?.as_str(),
+        NO_SOURCE
+    );
+    Ok(())
+}

@@ -1,46 +1,18 @@
--- The reports of options, lists and choices are those of the table.
+-- The reports of lists and choices are those of the table.
 use Rattle.std.proofs.Common.{◌≡◌, ℕ, suc, List, [], ◌∷◌, ◌++◌, map, Option, Some, None, refl, ap}
 use Rattle.gltf_checked.specs.Spelling.{Spelling}
 use Rattle.gltf_paths.specs.Steps.{Step, item}
 use Rattle.gltf_checked.specs.declared.validation.Checked.{Checked}
 use Rattle.gltf_checked.specs.declared.validation.Checked.TheVariants.{Valid, Invalid}
 use Rattle.gltf_schema.specs.Tree.{Tree, absent, trees, list, tree_or_absent}
-use Rattle.gltf_schema.specs.Kind.{Kind, IndexInto, SourceImage, ChannelSampler, U32, U64, Stride, Number, Numbers, Text, Truth, Any, Choice, Attributes, ListOf, Object}
+use Rattle.gltf_schema.specs.Kind.{Kind}
 use Rattle.gltf_schema.specs.Leaves.{checked_tree}
 use Rattle.gltf_sinks.specs.Report.{From, each_at}
 use Rattle.gltf_faults.specs.Faults.{choice_faults}
 use Rattle.gltf_faults.specs.Reports.{reports, items_reports}
 use Rattle.gltf_validation.specs.ByType.{reports_by, reports_in, checked_reports, option_reports, list_reports, list_kind}
 
--- nothing is wrong in what is absent
-absent-silent : (kind : Kind) (root animation : Tree) (base : List Step) → reports kind absent root animation base ≡ []
-absent-silent (IndexInto named) root animation base = refl
-absent-silent SourceImage root animation base = refl
-absent-silent ChannelSampler root animation base = refl
-absent-silent U32 root animation base = refl
-absent-silent U64 root animation base = refl
-absent-silent Stride root animation base = refl
-absent-silent Number root animation base = refl
-absent-silent (Numbers n) root animation base = refl
-absent-silent Text root animation base = refl
-absent-silent Truth root animation base = refl
-absent-silent Any root animation base = refl
-absent-silent (Choice form listed) root animation base = refl
-absent-silent (Attributes named) root animation base = refl
-absent-silent (ListOf kind) root animation base = refl
-absent-silent (Object named rows keeps) root animation base = refl
-
--- an option has the reports of what it holds
-pub option-none : {X : Type 0} (kind : Option Kind) (tree : X → Tree) (own : X → Tree → From) (root : Tree) (base : List Step)
-    → reports_by kind (tree_or_absent tree None) (option_reports own None) root base ≡ []
-option-none None tree own root base = refl
-option-none (Some kind) tree own root base = absent-silent kind root absent base
-
-pub option-some : {X : Type 0} (kind : Option Kind) (tree : X → Tree) (own : X → Tree → From) (root : Tree) (x : X) (base : List Step)
-    → reports_by kind (tree_or_absent tree (Some x)) (option_reports own (Some x)) root base ≡ reports_by kind (tree x) (own x) root base
-option-some None tree own root x base = refl
-option-some (Some kind) tree own root x base = refl
-
+-- each item by itself
 pub items-each : {X : Type 0} (kind : Kind) (tree : X → Tree) (root animation : Tree) (i : ℕ) (xs : List X) (base : List Step)
     → items_reports (λ t. reports kind t root animation) i (trees (map tree xs)) base ≡ each_at (λ x. reports kind (tree x) root animation) i xs base
 items-each kind tree root animation i [] base = refl

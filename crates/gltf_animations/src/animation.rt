@@ -19,7 +19,7 @@ use serde_json::{Map, Value};
 use std::alloc::Global;
 
 /// What moves nodes over time.
-#[derive(Clone, Debug, Drop)]
+#[derive(Clone, Debug)]
 pub struct Animation {
     /// How values are found between times; the channels name them by their numbers.
     pub samplers: Vec<Sampler>,
@@ -28,6 +28,19 @@ pub struct Animation {
     pub name: Option<String>,
     pub extensions: Option<extensions::animation::Animation>,
     pub extras: Extras,
+}
+
+// One call drops it, wherever it is held (docs/DECISIONS.md).
+impl Drop for Animation {
+    fn drop(self) {
+        let Animation {
+            samplers: _,
+            channels: _,
+            name: _,
+            extensions: _,
+            extras: _,
+        } = self;
+    }
 }
 
 impl Listed for Animation {
@@ -65,13 +78,14 @@ impl Object for Animation {
 }
 
 /// A property of a node, and the sampler that it follows.
+// What takes longest to drop stands last (docs/DECISIONS.md).
 #[derive(Clone, Debug, Drop)]
 pub struct Channel {
     /// The sampler, one of the same animation's.
     pub sampler: Index<Sampler>,
-    pub target: Target,
     pub extensions: Option<extensions::animation::Channel>,
     pub extras: Extras,
+    pub target: Target,
 }
 
 impl Object for Channel {

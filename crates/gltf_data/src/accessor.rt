@@ -21,7 +21,7 @@ pub mod sparse;
 
 /// How the data of a view is read as elements.
 // What takes longest to drop stands last (docs/DECISIONS.md).
-#[derive(Clone, Debug, Drop)]
+#[derive(Clone, Debug)]
 pub struct Accessor {
     /// The view that the elements lie in; without one they are zeros, or come from `sparse`.
     pub buffer_view: Option<Index<View>>,
@@ -33,9 +33,9 @@ pub struct Accessor {
     pub component_type: Checked<GenericComponentType>,
     /// How many components an element has, and how they lie.
     pub type_: Checked<AccessorType>,
-    pub name: Option<String>,
     /// Whether integers stand for fractions.
     pub normalized: bool,
+    pub name: Option<String>,
     pub extensions: Option<extensions::accessor::Accessor>,
     pub extras: Extras,
     /// The least value of each component.
@@ -44,6 +44,26 @@ pub struct Accessor {
     pub max: Option<Value>,
     /// Elements that deviate from the view's.
     pub sparse: Option<sparse::Sparse>,
+}
+
+// One call drops it, wherever it is held (docs/DECISIONS.md).
+impl Drop for Accessor {
+    fn drop(self) {
+        let Accessor {
+            buffer_view: _,
+            byte_offset: _,
+            count: _,
+            component_type: _,
+            type_: _,
+            name: _,
+            normalized: _,
+            extensions: _,
+            extras: _,
+            min: _,
+            max: _,
+            sparse: _,
+        } = self;
+    }
 }
 
 impl Listed for Accessor {

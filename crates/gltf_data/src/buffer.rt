@@ -36,7 +36,7 @@ impl Schema for Stride {
 }
 
 /// Bytes, in a file or in the document itself.
-#[derive(Clone, Debug, Drop)]
+#[derive(Clone, Debug)]
 pub struct Buffer {
     /// How many bytes there are.
     pub byte_length: USize64,
@@ -45,6 +45,19 @@ pub struct Buffer {
     pub uri: Option<String>,
     pub extensions: Option<extensions::buffer::Buffer>,
     pub extras: Extras,
+}
+
+// One call drops it, wherever it is held (docs/DECISIONS.md).
+impl Drop for Buffer {
+    fn drop(self) {
+        let Buffer {
+            byte_length: _,
+            name: _,
+            uri: _,
+            extensions: _,
+            extras: _,
+        } = self;
+    }
 }
 
 impl Listed for Buffer {
@@ -82,7 +95,8 @@ impl Object for Buffer {
 }
 
 /// A part of a buffer.
-#[derive(Clone, Debug, Drop)]
+// What takes longest to drop stands last (docs/DECISIONS.md).
+#[derive(Clone, Debug)]
 pub struct View {
     /// The buffer that it is a part of.
     pub buffer: Index<Buffer>,
@@ -92,11 +106,27 @@ pub struct View {
     pub byte_offset: Option<USize64>,
     /// The distance from one element to the next, in bytes.
     pub byte_stride: Option<Stride>,
-    pub name: Option<String>,
     /// What the data is bound to.
     pub target: Option<Checked<Target>>,
+    pub name: Option<String>,
     pub extensions: Option<extensions::buffer::View>,
     pub extras: Extras,
+}
+
+// One call drops it, wherever it is held (docs/DECISIONS.md).
+impl Drop for View {
+    fn drop(self) {
+        let View {
+            buffer: _,
+            byte_length: _,
+            byte_offset: _,
+            byte_stride: _,
+            name: _,
+            target: _,
+            extensions: _,
+            extras: _,
+        } = self;
+    }
 }
 
 impl Listed for View {

@@ -32,7 +32,7 @@ impl Schema for MimeType {
 }
 
 /// The data of a picture: in a view, or behind a URI.
-#[derive(Clone, Debug, Drop)]
+#[derive(Clone, Debug)]
 pub struct Image {
     /// The view that the data lies in; it and `uri` stand for each other.
     pub buffer_view: Option<Index<View>>,
@@ -43,6 +43,20 @@ pub struct Image {
     pub uri: Option<String>,
     pub extensions: Option<extensions::image::Image>,
     pub extras: Extras,
+}
+
+// One call drops it, wherever it is held (docs/DECISIONS.md).
+impl Drop for Image {
+    fn drop(self) {
+        let Image {
+            buffer_view: _,
+            mime_type: _,
+            name: _,
+            uri: _,
+            extensions: _,
+            extras: _,
+        } = self;
+    }
 }
 
 impl Listed for Image {

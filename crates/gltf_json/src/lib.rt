@@ -41,7 +41,8 @@ pub mod laws {
 /// Whole documents, and the lists in them.
 pub mod root {
     pub use gltf_base::{Index, PushError};
-    pub use gltf_root::root::{ByteIn, ByteOut, Failed, Get, Root, RootItem, Watched};
+    pub use gltf_devices::{ByteIn, ByteOut, Failed, Watched};
+    pub use gltf_root::root::{Get, Root, RootItem};
 }
 
 /// What is wrong in a document, place by place.

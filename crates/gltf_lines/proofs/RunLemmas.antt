@@ -5,7 +5,7 @@ use Rattle.std.specs.Io.KnownBytes.{Appends}
 use Rattle.gltf_schema.specs.declared.error.Error.{Error}
 use Rattle.gltf_schema.specs.declared.error.Error.TheVariants.{Json, Schema, InvalidItem, Read, Write, Memory, TooLong}
 use Rattle.gltf_root.specs.Answer.{Answer, no_json, no_document, document, answer, IsReadAnswer, IsReading}
-use Rattle.gltf_root.specs.Device.{Seen, IsWithin, AppendsFront}
+use Rattle.gltf_devices.specs.Device.{Seen, IsWithin, AppendsFront}
 use Rattle.gltf_sinks.specs.Report.{Report}
 use Rattle.gltf_root.specs.RootTrees.{root_tree}
 use Rattle.gltf_root.specs.declared.root.Root.{Root}

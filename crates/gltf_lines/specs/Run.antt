@@ -4,7 +4,7 @@ use Rattle.std.specs.Io.KnownBytes.{Appends}
 use Rattle.gltf_schema.specs.declared.error.Error.{Error}
 use Rattle.gltf_schema.specs.declared.error.Error.TheVariants as errors
 use Rattle.gltf_root.specs.Answer.{no_json, no_document, document}
-use Rattle.gltf_root.specs.Device.{AppendsFront}
+use Rattle.gltf_devices.specs.Device.{AppendsFront}
 use Rattle.gltf_root.specs.RootTrees.{root_tree}
 use Rattle.gltf_root.specs.declared.root.Root.{Root}
 use Rattle.gltf_lines.specs.Output.{Output, answer_output, output, refusal}

@@ -2,7 +2,7 @@
 #![tactic(auto)]
 
 ghost use Rattle.std.specs.Prelude.{◌≡◌, ◌≢◌, ◌≤◌, ◌⊎◌, false, true, None, IsSomeAnd};
-ghost use Rattle.gltf_root.specs.Device.{IsFresh, IsWithin, AppendsFront, byte_limit, call_limit};
+ghost use Rattle.gltf_devices.specs.Device.{IsFresh, IsWithin, AppendsFront, byte_limit, call_limit};
 ghost use Rattle.gltf_lines.specs.Output.{refusal};
 ghost use Rattle.gltf_lines.specs.Run.{IsRun, IsWritten, reading_output};
 

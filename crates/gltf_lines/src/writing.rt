@@ -2,7 +2,7 @@
 
 ghost use Rattle.std.specs.Prelude.{◌≡◌, ◌⊎◌, false, true, OnOk, OnErr};
 ghost use Rattle.std.specs.Io.KnownBytes.{Appends};
-ghost use Rattle.gltf_root.specs.Device.{AppendsFront};
+ghost use Rattle.gltf_devices.specs.Device.{AppendsFront};
 ghost use Rattle.gltf_lines.specs.Run.{IsWritten};
 
 use gltf_json::root::{ByteOut, Failed};

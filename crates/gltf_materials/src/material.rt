@@ -20,7 +20,7 @@ use serde_json::{Map, Value};
 use std::alloc::Global;
 
 /// How a surface looks.
-#[derive(Clone, Debug, Drop)]
+#[derive(Clone, Debug)]
 pub struct Material {
     /// Below which alpha nothing is shown where `alpha_mode` is `Mask`; without it one half.
     pub alpha_cutoff: Option<AlphaCutoff>,
@@ -41,6 +41,25 @@ pub struct Material {
     pub emissive_factor: EmissiveFactor,
     pub extensions: Option<extensions::material::Material>,
     pub extras: Extras,
+}
+
+// One call drops it, wherever it is held (docs/DECISIONS.md).
+impl Drop for Material {
+    fn drop(self) {
+        let Material {
+            alpha_cutoff: _,
+            alpha_mode: _,
+            double_sided: _,
+            name: _,
+            pbr_metallic_roughness: _,
+            normal_texture: _,
+            occlusion_texture: _,
+            emissive_texture: _,
+            emissive_factor: _,
+            extensions: _,
+            extras: _,
+        } = self;
+    }
 }
 
 impl Material {
@@ -118,12 +137,12 @@ impl Object for Material {
 // What takes longest to drop stands last (docs/DECISIONS.md).
 #[derive(Clone, Debug, Drop)]
 pub struct PbrMetallicRoughness {
-    /// The factors of the base color.
-    pub base_color_factor: PbrBaseColorFactor,
     /// The factor of how metallic the surface is.
     pub metallic_factor: StrengthFactor,
     /// The factor of how rough the surface is.
     pub roughness_factor: StrengthFactor,
+    /// The factors of the base color.
+    pub base_color_factor: PbrBaseColorFactor,
     pub extensions: Option<extensions::material::PbrMetallicRoughness>,
     pub extras: Extras,
     /// The base color.

@@ -20,15 +20,29 @@ use std::alloc::Global;
 use std::collections::BTreeMap;
 
 /// Geometry that nodes place in a scene.
-#[derive(Clone, Debug, Drop)]
+// What takes longest to drop stands last (docs/DECISIONS.md).
+#[derive(Clone, Debug)]
 pub struct Mesh {
-    pub extensions: Option<extensions::mesh::Mesh>,
-    pub extras: Extras,
     pub name: Option<String>,
-    /// The parts of the mesh; each is drawn by itself.
-    pub primitives: Vec<Primitive>,
     /// How much of each morph target is added.
     pub weights: Option<Vec<Real>>,
+    /// The parts of the mesh; each is drawn by itself.
+    pub primitives: Vec<Primitive>,
+    pub extensions: Option<extensions::mesh::Mesh>,
+    pub extras: Extras,
+}
+
+// One call drops it, wherever it is held (docs/DECISIONS.md).
+impl Drop for Mesh {
+    fn drop(self) {
+        let Mesh {
+            extensions: _,
+            extras: _,
+            name: _,
+            primitives: _,
+            weights: _,
+        } = self;
+    }
 }
 
 impl Listed for Mesh {
@@ -66,19 +80,20 @@ impl Object for Mesh {
 }
 
 /// A part of a mesh: what is drawn at once, with one material.
+// What takes longest to drop stands last (docs/DECISIONS.md).
 #[derive(Clone, Debug, Drop)]
 pub struct Primitive {
-    /// The data of each vertex, by what it means.
-    pub attributes: BTreeMap<Checked<Semantic>, Index<Accessor>>,
-    pub extensions: Option<extensions::mesh::Primitive>,
-    pub extras: Extras,
     /// The numbers of the vertices in the order in which they are drawn; without it all are, as they lie.
     pub indices: Option<Index<Accessor>>,
     pub material: Option<Index<Material>>,
     /// What the vertices are drawn as.
     pub mode: Checked<Mode>,
+    /// The data of each vertex, by what it means.
+    pub attributes: BTreeMap<Checked<Semantic>, Index<Accessor>>,
     /// What can be added to the attributes, by the mesh's weights.
     pub targets: Option<Vec<MorphTarget>>,
+    pub extensions: Option<extensions::mesh::Primitive>,
+    pub extras: Extras,
 }
 
 impl Object for Primitive {

@@ -13,7 +13,7 @@ use serde_json::{Map, Value};
 use std::alloc::{AllocError, Global};
 
 /// What a document says of itself.
-#[derive(Clone, Debug, Drop)]
+#[derive(Clone, Debug)]
 pub struct Asset {
     /// A note for credit to the author.
     pub copyright: Option<String>,
@@ -25,6 +25,20 @@ pub struct Asset {
     pub version: String,
     pub extensions: Option<extensions::asset::Asset>,
     pub extras: Extras,
+}
+
+// One call drops it, wherever it is held (docs/DECISIONS.md).
+impl Drop for Asset {
+    fn drop(self) {
+        let Asset {
+            copyright: _,
+            generator: _,
+            min_version: _,
+            version: _,
+            extensions: _,
+            extras: _,
+        } = self;
+    }
 }
 
 impl Asset {

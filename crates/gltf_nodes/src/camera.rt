@@ -17,17 +17,32 @@ use serde_json::{Map, Value};
 use std::alloc::Global;
 
 /// How a scene is seen from a node.
-#[derive(Clone, Debug, Drop)]
+// What takes longest to drop stands last (docs/DECISIONS.md).
+#[derive(Clone, Debug)]
 pub struct Camera {
+    /// How the camera projects.
+    pub type_: Checked<CameraType>,
     pub name: Option<String>,
+    pub extensions: Option<extensions::camera::Camera>,
+    pub extras: Extras,
     /// The projection of a camera of type `Orthographic`.
     pub orthographic: Option<Orthographic>,
     /// The projection of a camera of type `Perspective`.
     pub perspective: Option<Perspective>,
-    /// How the camera projects.
-    pub type_: Checked<CameraType>,
-    pub extensions: Option<extensions::camera::Camera>,
-    pub extras: Extras,
+}
+
+// One call drops it, wherever it is held (docs/DECISIONS.md).
+impl Drop for Camera {
+    fn drop(self) {
+        let Camera {
+            name: _,
+            orthographic: _,
+            perspective: _,
+            type_: _,
+            extensions: _,
+            extras: _,
+        } = self;
+    }
 }
 
 impl Listed for Camera {

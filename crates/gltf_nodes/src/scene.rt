@@ -20,19 +20,17 @@ use std::alloc::Global;
 
 /// A place in the hierarchy of a scene, and what stands there.
 // What takes longest to drop stands last (docs/DECISIONS.md).
-#[derive(Clone, Debug, Drop)]
+#[derive(Clone, Debug)]
 pub struct Node {
     pub camera: Option<Index<Camera>>,
-    /// The nodes that move with this one.
-    pub children: Option<Vec<Index<Node>>>,
     pub mesh: Option<Index<Mesh>>,
-    pub name: Option<String>,
     /// The skin that the mesh follows.
     pub skin: Option<Index<Skin>>,
+    pub name: Option<String>,
+    /// The nodes that move with this one.
+    pub children: Option<Vec<Index<Node>>>,
     /// How much of each morph target of the mesh is added; without it the mesh says it.
     pub weights: Option<Vec<Real>>,
-    pub extras: Extras,
-    pub extensions: Option<extensions::scene::Node>,
     /// How the node stands in its parent, as a matrix by columns.
     pub matrix: Option<[Real; 16]>,
     /// How the node is turned in its parent.
@@ -41,6 +39,28 @@ pub struct Node {
     pub scale: Option<[Real; 3]>,
     /// How far the node is moved in its parent, along the axes.
     pub translation: Option<[Real; 3]>,
+    pub extensions: Option<extensions::scene::Node>,
+    pub extras: Extras,
+}
+
+// One call drops it, wherever it is held (docs/DECISIONS.md).
+impl Drop for Node {
+    fn drop(self) {
+        let Node {
+            camera: _,
+            children: _,
+            mesh: _,
+            name: _,
+            skin: _,
+            weights: _,
+            extras: _,
+            extensions: _,
+            matrix: _,
+            rotation: _,
+            scale: _,
+            translation: _,
+        } = self;
+    }
 }
 
 impl Node {
@@ -115,13 +135,26 @@ impl Object for Node {
 }
 
 /// The nodes that are shown together.
-#[derive(Clone, Debug, Drop)]
+// What takes longest to drop stands last (docs/DECISIONS.md).
+#[derive(Clone, Debug)]
 pub struct Scene {
-    pub extensions: Option<extensions::scene::Scene>,
-    pub extras: Extras,
     pub name: Option<String>,
     /// The roots of the scene's hierarchies.
     pub nodes: Vec<Index<Node>>,
+    pub extensions: Option<extensions::scene::Scene>,
+    pub extras: Extras,
+}
+
+// One call drops it, wherever it is held (docs/DECISIONS.md).
+impl Drop for Scene {
+    fn drop(self) {
+        let Scene {
+            extensions: _,
+            extras: _,
+            name: _,
+            nodes: _,
+        } = self;
+    }
 }
 
 impl Listed for Scene {

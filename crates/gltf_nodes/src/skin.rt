@@ -17,17 +17,32 @@ use serde_json::{Map, Value};
 use std::alloc::Global;
 
 /// The joints that the vertices of a mesh follow.
-#[derive(Clone, Debug, Drop)]
+// What takes longest to drop stands last (docs/DECISIONS.md).
+#[derive(Clone, Debug)]
 pub struct Skin {
-    pub extensions: Option<extensions::skin::Skin>,
-    pub extras: Extras,
     /// The matrices that bring vertices into the space of each joint; without it they are there.
     pub inverse_bind_matrices: Option<Index<Accessor>>,
-    /// The nodes that vertices follow, in the order in which vertices name them.
-    pub joints: Vec<Index<Node>>,
-    pub name: Option<String>,
     /// The node that is the root of the skeleton.
     pub skeleton: Option<Index<Node>>,
+    pub name: Option<String>,
+    /// The nodes that vertices follow, in the order in which vertices name them.
+    pub joints: Vec<Index<Node>>,
+    pub extensions: Option<extensions::skin::Skin>,
+    pub extras: Extras,
+}
+
+// One call drops it, wherever it is held (docs/DECISIONS.md).
+impl Drop for Skin {
+    fn drop(self) {
+        let Skin {
+            extensions: _,
+            extras: _,
+            inverse_bind_matrices: _,
+            joints: _,
+            name: _,
+            skeleton: _,
+        } = self;
+    }
 }
 
 impl Listed for Skin {

@@ -4,10 +4,10 @@
 
 ghost use Rattle.std.specs.Prelude.{◌≡◌, ◌≢◌, ◌≤◌, false};
 ghost use Rattle.std.specs.Process.{exit_status};
-ghost use Rattle.gltf_root.specs.Device.{IsFresh, IsWithin, byte_limit, call_limit};
+ghost use Rattle.gltf_devices.specs.Device.{IsFresh, IsWithin, byte_limit, call_limit};
 ghost use Rattle.gltf_lines.specs.Run.{IsRun};
 
-use gltf_root::root::{ByteIn, ByteOut, Watched};
+use gltf_devices::{ByteIn, ByteOut, Watched};
 use std::alloc::Global;
 use std::process::ExitCode;
 

@@ -7,7 +7,7 @@ use Rattle.gltf_schema.specs.Tree.{Tree}
 use Rattle.gltf_schema.specs.Read.{read}
 use Rattle.gltf_schema.specs.declared.error.Error.{Error}
 use Rattle.gltf_schema.specs.declared.error.Error.TheVariants as errors
-use Rattle.gltf_root.specs.Device.{Seen, IsWithin, IsCause}
+use Rattle.gltf_devices.specs.Device.{Seen, IsWithin, IsCause}
 use Rattle.gltf_root.specs.RootTable.{root_kind}
 use Rattle.gltf_root.specs.RootTrees.{root_tree}
 use Rattle.gltf_root.specs.declared.root.Root.{Root}

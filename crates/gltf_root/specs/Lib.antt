@@ -4,6 +4,4 @@ pub mod RootExtensionTable
 pub mod RootExtensionTrees
 pub mod Lists
 pub mod Items
-pub mod Device
-pub mod Watched
 pub mod Answer

@@ -25,15 +25,11 @@ use gltf_textures::texture::{self, Texture};
 use serde_json::{Map, Value};
 use std::alloc::{AllocError, Global};
 
-mod device;
 mod get;
 mod items;
 mod parse;
-mod watched;
 
-pub use device::{ByteIn, ByteOut, Failed};
 pub use get::{Get, RootItem};
-pub use watched::Watched;
 
 /// A whole document.
 // What takes longest to drop stands last (docs/DECISIONS.md).
@@ -61,8 +57,8 @@ pub struct Root {
     pub textures: Vec<Texture>,
     /// What the document says of itself.
     pub asset: Asset,
-    pub extras: Extras,
     pub extensions: Option<extensions::root::Root>,
+    pub extras: Extras,
 }
 
 // One call drops it, wherever it is held (docs/DECISIONS.md).

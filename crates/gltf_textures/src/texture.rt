@@ -20,19 +20,35 @@ use serde_json::{Map, Value};
 use std::alloc::Global;
 
 /// How a texture is sampled: how it is filtered, and what lies past its edges.
-#[derive(Clone, Debug, Drop)]
+// What takes longest to drop stands last (docs/DECISIONS.md).
+#[derive(Clone, Debug)]
 pub struct Sampler {
     /// How the texture is shown larger than it is.
     pub mag_filter: Option<Checked<MagFilter>>,
     /// How the texture is shown smaller than it is.
     pub min_filter: Option<Checked<MinFilter>>,
-    pub name: Option<String>,
     /// What lies past the left and the right edge.
     pub wrap_s: Checked<WrappingMode>,
     /// What lies past the upper and the lower edge.
     pub wrap_t: Checked<WrappingMode>,
+    pub name: Option<String>,
     pub extensions: Option<extensions::texture::Sampler>,
     pub extras: Extras,
+}
+
+// One call drops it, wherever it is held (docs/DECISIONS.md).
+impl Drop for Sampler {
+    fn drop(self) {
+        let Sampler {
+            mag_filter: _,
+            min_filter: _,
+            name: _,
+            wrap_s: _,
+            wrap_t: _,
+            extensions: _,
+            extras: _,
+        } = self;
+    }
 }
 
 impl Sampler {
@@ -92,15 +108,29 @@ impl Object for Sampler {
 }
 
 /// An image and how it is sampled.
-#[derive(Clone, Debug, Drop)]
+// What takes longest to drop stands last (docs/DECISIONS.md).
+#[derive(Clone, Debug)]
 pub struct Texture {
-    pub name: Option<String>,
-    /// How the image is sampled; without it the texture repeats and is filtered at will.
-    pub sampler: Option<Index<Sampler>>,
-    pub extensions: Option<extensions::texture::Texture>,
     /// The image; 4294967295 where the document names none, as where an extension gives it.
     pub source: Index<Image>,
+    /// How the image is sampled; without it the texture repeats and is filtered at will.
+    pub sampler: Option<Index<Sampler>>,
+    pub name: Option<String>,
+    pub extensions: Option<extensions::texture::Texture>,
     pub extras: Extras,
+}
+
+// One call drops it, wherever it is held (docs/DECISIONS.md).
+impl Drop for Texture {
+    fn drop(self) {
+        let Texture {
+            name: _,
+            sampler: _,
+            extensions: _,
+            source: _,
+            extras: _,
+        } = self;
+    }
 }
 
 impl Listed for Texture {

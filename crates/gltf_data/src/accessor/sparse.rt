@@ -18,16 +18,17 @@ use serde_json::{Map, Value};
 use std::alloc::Global;
 
 /// Elements that deviate from those of the view.
+// What takes longest to drop stands last (docs/DECISIONS.md).
 #[derive(Clone, Debug, Drop)]
 pub struct Sparse {
     /// How many elements deviate.
     pub count: USize64,
-    /// Which elements they are.
-    pub indices: Indices,
-    /// What stands in their place.
-    pub values: Values,
     pub extensions: Option<extensions::accessor::sparse::Sparse>,
     pub extras: Extras,
+    /// What stands in their place.
+    pub values: Values,
+    /// Which elements they are.
+    pub indices: Indices,
 }
 
 impl Object for Sparse {

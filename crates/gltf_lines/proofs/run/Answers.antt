@@ -1,5 +1,5 @@
 -- What a run wrote, by what its reading answered.
-use Rattle.gltf_root.specs.Device.{byte_limit, call_limit}
+use Rattle.gltf_devices.specs.Device.{byte_limit, call_limit}
 use Rattle.gltf_lines.proofs.RunLemmas.{IsRun-either, reading_output-failed, IsReading-output}
 use Rattle.gltf_lines.proofs.run.Goals as goal
 

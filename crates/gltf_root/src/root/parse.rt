@@ -7,12 +7,12 @@ ghost use Rattle.gltf_schema.specs.Outcome.{Reads};
 ghost use Rattle.gltf_schema.specs.Plain.{is_plain};
 ghost use Rattle.gltf_schema.specs.Read.{read};
 ghost use Rattle.gltf_root.specs.Answer.{IsAnswer, IsReadAnswer, IsReading, answer};
-ghost use Rattle.gltf_root.specs.Device.{IsFresh, byte_limit, call_limit};
+ghost use Rattle.gltf_devices.specs.Device.{IsFresh, byte_limit, call_limit};
 ghost use Rattle.gltf_root.specs.RootTable.{root_kind};
 ghost use Rattle.gltf_root.specs.RootTrees.{root_tree};
 
 use super::Root;
-use super::device::{ByteIn, read_to_end};
+use gltf_devices::{ByteIn, read_to_end};
 use gltf_schema::{Error, Schema};
 use serde_json::Value;
 use std::alloc::{AllocError, Global};

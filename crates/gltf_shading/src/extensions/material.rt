@@ -188,15 +188,15 @@ impl OcclusionTexture {
 // What takes longest to drop stands last (docs/DECISIONS.md).
 #[derive(Clone, Debug, Drop)]
 pub struct PbrSpecularGlossiness {
-    /// The factors of the diffuse color.
-    pub diffuse_factor: PbrDiffuseFactor,
-    /// The factors of the specular color.
-    pub specular_factor: PbrSpecularFactor,
     /// The factor of how glossy the surface is.
     pub glossiness_factor: StrengthFactor,
-    pub extras: Extras,
     /// The members that are not known.
     pub others: Map<String, Value>,
+    /// The factors of the specular color.
+    pub specular_factor: PbrSpecularFactor,
+    /// The factors of the diffuse color.
+    pub diffuse_factor: PbrDiffuseFactor,
+    pub extras: Extras,
     /// The diffuse color.
     pub diffuse_texture: Option<Info>,
     /// The specular color, and how glossy the surface is, by alpha.

@@ -122,13 +122,14 @@ impl Info {
 }
 
 /// How texture coordinates are changed before they are used: scaled, then turned, then moved.
+// What takes longest to drop stands last (docs/DECISIONS.md).
 #[derive(Clone, Debug, Drop)]
 pub struct TextureTransform {
-    pub offset: TextureTransformOffset,
-    pub rotation: TextureTransformRotation,
-    pub scale: TextureTransformScale,
     /// Which set of texture coordinates is used in place of the one that the reference names.
     pub tex_coord: Option<u32>,
+    pub rotation: TextureTransformRotation,
+    pub offset: TextureTransformOffset,
+    pub scale: TextureTransformScale,
     pub extras: Extras,
 }
 

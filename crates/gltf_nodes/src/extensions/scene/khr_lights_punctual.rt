@@ -46,22 +46,39 @@ impl Object for KhrLightsPunctual {
 }
 
 /// A light.
-#[derive(Clone, Debug, Drop)]
+// What takes longest to drop stands last (docs/DECISIONS.md).
+#[derive(Clone, Debug)]
 pub struct Light {
+    /// From where and where to it shines.
+    pub type_: Checked<LightType>,
+    pub name: Option<String>,
+    /// How bright it is, in candela or, where it is directional, in lux; `None` stands for 1.
+    pub intensity: Option<Real>,
+    /// How far it reaches; without it there is no end.
+    pub range: Option<Real>,
     /// Its color: red, green, blue; `None` stands for ones.
     pub color: Option<[Real; 3]>,
     /// The extensions, as they are.
     pub extensions: Option<Value>,
     pub extras: Extras,
-    /// How bright it is, in candela or, where it is directional, in lux; `None` stands for 1.
-    pub intensity: Option<Real>,
-    pub name: Option<String>,
-    /// How far it reaches; without it there is no end.
-    pub range: Option<Real>,
     /// The cone of a light of type `Spot`.
     pub spot: Option<Spot>,
-    /// From where and where to it shines.
-    pub type_: Checked<LightType>,
+}
+
+// One call drops it, wherever it is held (docs/DECISIONS.md).
+impl Drop for Light {
+    fn drop(self) {
+        let Light {
+            color: _,
+            extensions: _,
+            extras: _,
+            intensity: _,
+            name: _,
+            range: _,
+            spot: _,
+            type_: _,
+        } = self;
+    }
 }
 
 impl Listed for Light {

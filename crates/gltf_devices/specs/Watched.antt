@@ -1,6 +1,6 @@
 -- What a watched device shows.
-use Rattle.gltf_root.specs.Device.{Seen}
-use Rattle.gltf_root.specs.declared.root.watched.Watched.{Watched}
+use Rattle.gltf_devices.specs.Device.{Seen}
+use Rattle.gltf_devices.specs.declared.watched.Watched.{Watched}
 
 -- the device that is watched
 abbrev pub device_of : {D : Type 0} → Watched D → D

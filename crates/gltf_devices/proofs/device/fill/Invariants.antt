@@ -1,7 +1,7 @@
 use Rattle.std.proofs.Common.{◌≡◌, ◌<◌, ◌≤◌, false, length, vec_items}
 use Rattle.std.specs.Io.KnownBytes.{Consumes}
-use Rattle.gltf_root.specs.Device.{IsFresh}
-use Rattle.gltf_root.proofs.root.device.fill.Given as goal
+use Rattle.gltf_devices.specs.Device.{IsFresh}
+use Rattle.gltf_devices.proofs.device.fill.Given as goal
 
 abbrev pub invariant-loop : goal.invariant-loop
 invariant-loop g l = record {

@@ -1,10 +1,10 @@
 //! Devices of the system, watched.
 
 ghost use Rattle.std.specs.Prelude.{◌≡◌, true};
-ghost use Rattle.gltf_root.specs.Device.{IsFresh};
-ghost use Rattle.gltf_root.specs.Watched.{device_of, seen_of};
+ghost use Rattle.gltf_devices.specs.Device.{IsFresh};
+ghost use Rattle.gltf_devices.specs.Watched.{device_of, seen_of};
 
-use super::device::{ByteIn, ByteOut, Failed};
+use crate::device::{ByteIn, ByteOut, Failed};
 use std::io::{Read, Write};
 
 /// A device of the system with what its calls have shown: a [`ByteIn`] over what can be read, and a

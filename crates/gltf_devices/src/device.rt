@@ -2,7 +2,7 @@
 
 ghost use Rattle.std.specs.Prelude.{◌≡◌, ◌+◌, ◌<◌, ◌≤◌, ◌&&◌, ℕ, List, [], Bool, Option, None, true, false, nat_eq, nat_lt, length, IfOk, IfErr, OnOk, OnErr, MatchResult};
 ghost use Rattle.std.specs.Io.KnownBytes.{ReadConsumes, WriteAppends};
-ghost use Rattle.gltf_root.specs.Device.{Seen, saturated, IsFresh, IsWithin, IsReadToEnd, GaveUp};
+ghost use Rattle.gltf_devices.specs.Device.{Seen, saturated, IsFresh, IsWithin, IsReadToEnd, GaveUp};
 
 use gltf_schema::Error as DocumentError;
 use std::alloc::Global;
@@ -16,7 +16,7 @@ const PIECE_LEN: usize = 65536;
 pub struct Failed;
 
 /// What bytes are read from. An implementer holds what its calls have shown in fields of its own,
-/// as [`Watched`](crate::root::Watched) does.
+/// as [`Watched`](crate::Watched) does.
 pub trait ByteIn {
     // The bytes that are left, where they are known.
     ghost left: { Self → Option (List ℕ) } = { λ _. None };
@@ -57,8 +57,10 @@ pub trait ByteOut {
         ensures works { OnOk result (has_failed self.new ≡ has_failed self.old) };
 }
 
-/// All bytes up to the end, within a count of bytes and a count of calls.
-pub(crate) fn read_to_end<R: ByteIn>(
+/// All bytes that a reader gives up to its end, read 65536 at a time. `Read` comes where the reader
+/// fails; `TooLong` where it gives more than `most_bytes` bytes, or hasn't given its end in
+/// `most_calls` calls; `Memory` where memory was refused.
+pub fn read_to_end<R: ByteIn>(
     alloc: Global,
     reader: &mut R,
     most_bytes: u64,

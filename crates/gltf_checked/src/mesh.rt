@@ -18,9 +18,9 @@ pub enum Semantic {
     Extras(String),
     /// Where the vertices stand.
     Positions,
-    /// What is upright on the surface.
+    /// The directions at right angles to the surface.
     Normals,
-    /// What runs along the surface.
+    /// The directions along the surface.
     Tangents,
     /// The colors of a set, by its number.
     Colors(u32),

@@ -45,14 +45,20 @@ pub const VALID_ACCESSOR_TYPES: &[&str] = &[
     "SCALAR", "VEC2", "VEC3", "VEC4", "MAT2", "MAT3", "MAT4",
 ];
 
-/// The type of one component of an element.
+/// The type of one component of an element (glTF 2.0, section 5.1.3).
 #[derive(Clone, Copy, Debug, PartialEq, Eq)]
 pub enum ComponentType {
+    /// A signed integer of 8 bits.
     I8 = 1,
+    /// An unsigned integer of 8 bits.
     U8,
+    /// A signed integer of 16 bits.
     I16,
+    /// An unsigned integer of 16 bits.
     U16,
+    /// An unsigned integer of 32 bits.
     U32,
+    /// A floating-point number of 32 bits.
     F32,
 }
 
@@ -120,7 +126,7 @@ impl Choice for GenericComponentType {
 }
 
 impl GenericComponentType {
-    /// The component type that a number spells.
+    /// The component type that a number spells; `Invalid` where it spells none.
     pub fn from_gl_enum(number: u64) -> Checked<GenericComponentType>
         ensures { result ≡ item_spelled generic_component_type_spelling generic_component_types (by_number number) }
     {
@@ -169,7 +175,7 @@ impl Choice for IndexComponentType {
 }
 
 impl IndexComponentType {
-    /// The component type of indexes that a number spells.
+    /// The component type of indexes that a number spells; `Invalid` where it spells none.
     pub fn from_gl_enum(number: u64) -> Checked<IndexComponentType>
         ensures { result ≡ item_spelled index_component_type_spelling index_component_types (by_number number) }
     {
@@ -184,15 +190,22 @@ impl IndexComponentType {
     }
 }
 
-/// How many components an element has, and how they lie.
+/// How many components an element has, and how they lie (glTF 2.0, section 5.1.6).
 #[derive(Clone, Copy, Debug, PartialEq, Eq)]
 pub enum AccessorType {
+    /// One component.
     Scalar = 1,
+    /// Two components.
     Vec2,
+    /// Three components.
     Vec3,
+    /// Four components.
     Vec4,
+    /// Four components, by columns of two.
     Mat2,
+    /// Nine components, by columns of three.
     Mat3,
+    /// Sixteen components, by columns of four.
     Mat4,
 }
 
@@ -244,7 +257,7 @@ impl AccessorType {
         }
     }
 
-    /// The type that a name spells.
+    /// The type that a name spells; `Invalid` where it spells none.
     pub fn from_name(name: &str) -> Checked<AccessorType>
         ensures { result ≡ item_spelled accessor_type_spelling accessor_types (by_name name.now) }
     {

@@ -13,7 +13,7 @@ pub const VALID_INTERPOLATIONS: &[&str] = &["LINEAR", "STEP", "CUBICSPLINE"];
 /// The names of the properties.
 pub const VALID_PROPERTIES: &[&str] = &["translation", "rotation", "scale", "weights"];
 
-/// How values between two keyframes are found.
+/// How values between two keyframes are found (glTF 2.0, section 5.8.2).
 #[derive(Clone, Copy, Debug, PartialEq, Eq)]
 pub enum Interpolation {
     /// Along the straight line between them.
@@ -64,7 +64,7 @@ impl Choice for Interpolation {
 }
 
 impl Interpolation {
-    /// The interpolation that a name spells.
+    /// The interpolation that a name spells; `Invalid` where it spells none.
     pub fn from_name(name: &str) -> Checked<Interpolation>
         ensures { result ≡ item_spelled interpolation_spelling interpolations (by_name name.now) }
     {
@@ -83,7 +83,7 @@ impl Interpolation {
     }
 }
 
-/// The property of a node that an animation moves.
+/// The property of a node that an animation moves (glTF 2.0, section 5.7.2).
 #[derive(Clone, Copy, Debug, PartialEq, Eq)]
 pub enum Property {
     /// Where the node stands.
@@ -127,7 +127,7 @@ impl Choice for Property {
 }
 
 impl Property {
-    /// The property that a name spells.
+    /// The property that a name spells; `Invalid` where it spells none.
     pub fn from_name(name: &str) -> Checked<Property>
         ensures { result ≡ item_spelled property_spelling properties (by_name name.now) }
     {

@@ -22,10 +22,12 @@ pub const MIN_BYTE_STRIDE: usize = 4;
 /// The greatest stride of a view, in bytes.
 pub const MAX_BYTE_STRIDE: usize = 252;
 
-/// What a view's data is bound to.
+/// What a view's data is bound to (glTF 2.0, section 5.11.5).
 #[derive(Clone, Copy, Debug, PartialEq, Eq)]
 pub enum Target {
+    /// The attributes of vertices.
     ArrayBuffer = 1,
+    /// The indexes of vertices.
     ElementArrayBuffer,
 }
 
@@ -55,7 +57,7 @@ impl Choice for Target {
 }
 
 impl Target {
-    /// The target that a number spells.
+    /// The target that a number spells; `Invalid` where it spells none.
     pub fn from_gl_enum(number: u64) -> Checked<Target>
         ensures { result ≡ item_spelled target_spelling targets (by_number number) }
     {

@@ -11,7 +11,7 @@ use gltf_checked::validation::Checked;
 /// The names of the types.
 pub const VALID_CAMERA_TYPES: &[&str] = &["perspective", "orthographic"];
 
-/// How a camera projects.
+/// How a camera projects (glTF 2.0, section 5.12.3).
 #[derive(Clone, Copy, Debug, PartialEq, Eq)]
 pub enum CameraType {
     /// With perspective.
@@ -46,7 +46,7 @@ impl Choice for CameraType {
 }
 
 impl CameraType {
-    /// The type that a name spells.
+    /// The type that a name spells; `Invalid` where it spells none.
     pub fn from_name(name: &str) -> Checked<CameraType>
         ensures { result ≡ item_spelled camera_type_spelling camera_types (by_name name.now) }
     {

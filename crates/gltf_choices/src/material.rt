@@ -10,7 +10,7 @@ use gltf_checked::validation::Checked;
 /// The names of the modes.
 pub const VALID_ALPHA_MODES: &[&str] = &["OPAQUE", "MASK", "BLEND"];
 
-/// How the alpha of a base color is used.
+/// How the alpha of a base color is used (glTF 2.0, section 5.19.9).
 #[derive(Clone, Copy, Debug, PartialEq, Eq)]
 pub enum AlphaMode {
     /// Not at all.
@@ -57,7 +57,7 @@ impl Choice for AlphaMode {
 }
 
 impl AlphaMode {
-    /// The mode that a name spells.
+    /// The mode that a name spells; `Invalid` where it spells none.
     pub fn from_name(name: &str) -> Checked<AlphaMode>
         ensures { result ≡ item_spelled alpha_mode_spelling alpha_modes (by_name name.now) }
     {

@@ -42,7 +42,7 @@ pub const VALID_MODES: &[u32] = &[
 /// The attributes that a morph target may move (glTF 2.0, section 3.7.2.2).
 pub const VALID_MORPH_TARGETS: &[&str] = &["POSITION", "NORMAL", "TANGENT"];
 
-/// What the vertices of a primitive are joined to.
+/// What the vertices of a primitive are joined to (glTF 2.0, section 5.24.4).
 #[derive(Clone, Copy, Debug, PartialEq, Eq)]
 pub enum Mode {
     /// Points.
@@ -105,7 +105,7 @@ impl Choice for Mode {
 }
 
 impl Mode {
-    /// The mode that a number spells.
+    /// The mode that a number spells; `Invalid` where it spells none.
     pub fn from_gl_enum(number: u64) -> Checked<Mode>
         ensures { result ≡ item_spelled mode_spelling modes (by_number number) }
     {

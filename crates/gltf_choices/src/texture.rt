@@ -50,7 +50,7 @@ pub const VALID_MIN_FILTERS: &[u32] = &[
 /// The numbers of the wrapping modes.
 pub const VALID_WRAPPING_MODES: &[u32] = &[CLAMP_TO_EDGE, MIRRORED_REPEAT, REPEAT];
 
-/// How a texture is shown larger than it is.
+/// How a texture is shown larger than it is (glTF 2.0, section 5.26.1).
 #[derive(Clone, Copy, Debug, PartialEq, Eq)]
 pub enum MagFilter {
     /// By the nearest texel.
@@ -85,7 +85,7 @@ impl Choice for MagFilter {
 }
 
 impl MagFilter {
-    /// The filter that a number spells.
+    /// The filter that a number spells; `Invalid` where it spells none.
     pub fn from_gl_enum(number: u64) -> Checked<MagFilter>
         ensures { result ≡ item_spelled mag_filter_spelling mag_filters (by_number number) }
     {
@@ -103,7 +103,7 @@ impl MagFilter {
     }
 }
 
-/// How a texture is shown smaller than it is.
+/// How a texture is shown smaller than it is (glTF 2.0, section 5.26.2).
 #[derive(Clone, Copy, Debug, PartialEq, Eq)]
 pub enum MinFilter {
     /// By the nearest texel.
@@ -153,7 +153,7 @@ impl Choice for MinFilter {
 }
 
 impl MinFilter {
-    /// The filter that a number spells.
+    /// The filter that a number spells; `Invalid` where it spells none.
     pub fn from_gl_enum(number: u64) -> Checked<MinFilter>
         ensures { result ≡ item_spelled min_filter_spelling min_filters (by_number number) }
     {
@@ -175,7 +175,7 @@ impl MinFilter {
     }
 }
 
-/// What lies past the edges of a texture.
+/// What lies past the edges of a texture (glTF 2.0, sections 5.26.3 and 5.26.4).
 #[derive(Clone, Copy, Debug, PartialEq, Eq)]
 pub enum WrappingMode {
     /// The texels at the edge.
@@ -226,7 +226,7 @@ impl Choice for WrappingMode {
 }
 
 impl WrappingMode {
-    /// The mode that a number spells.
+    /// The mode that a number spells; `Invalid` where it spells none.
     pub fn from_gl_enum(number: u64) -> Checked<WrappingMode>
         ensures { result ≡ item_spelled wrapping_mode_spelling wrapping_modes (by_number number) }
     {

@@ -121,8 +121,8 @@ impl Drop for View {
             byte_length: _,
             byte_offset: _,
             byte_stride: _,
-            name: _,
             target: _,
+            name: _,
             extensions: _,
             extras: _,
         } = self;

@@ -4,13 +4,6 @@ use Rattle.std.specs.Io.KnownBytes.{Appends, Consumes, IsAtEnd}
 use Rattle.gltf_schema.specs.declared.error.Error.{Error}
 use Rattle.gltf_schema.specs.declared.error.Error.TheVariants as errors
 
--- what a document may have of bytes, and its reader of calls, that of the end among them
-abbrev pub byte_limit : ℕ
-byte_limit = 1073741824
-
-abbrev pub call_limit : ℕ
-call_limit = 2147483648
-
 -- a count that stops at the largest number of 64 bits
 abbrev pub saturated : ℕ → ℕ
 saturated n = min n (2 ^ 64 - 1)

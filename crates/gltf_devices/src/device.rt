@@ -24,8 +24,8 @@ pub trait ByteIn {
     // What the calls so far have shown.
     ghost seen: { Self → Seen };
 
-    /// Reads bytes into the front of `buf` and answers how many. `Ok(0)` for a slice that isn't
-    /// empty is the end.
+    /// Reads bytes into the front of `buf` and answers how many, or that the device refused the
+    /// call. `Ok(0)` for a slice that isn't empty is the end.
     fn read(&mut self, buf: &mut [u8]) -> Result<usize, Failed>
         ensures bound { IfOk result (λ n. n ≤ length buf.new) }
         ensures bytes { ReadConsumes (left self.old) (left self.new) result buf.new }
@@ -48,7 +48,8 @@ pub trait ByteOut {
     // Whether a call has failed.
     ghost has_failed: { Self → Bool };
 
-    /// Takes bytes off the front of `buf` and answers how many: at least one, if there is one.
+    /// Takes bytes off the front of `buf` and answers how many: at least one, if there is one. Or it
+    /// answers that the device refused the call.
     fn write(&mut self, buf: &[u8]) -> Result<usize, Failed>
         ensures bound { IfOk result (λ n. n ≤ length buf.now) }
         ensures some { 0 < length buf.now → IfOk result (λ n. 0 < n) }

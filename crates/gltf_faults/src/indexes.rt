@@ -18,7 +18,7 @@ use gltf_base::{Index, IndexTo, Names};
 use gltf_root::root::{Root, RootItem};
 use gltf_textures::texture::Texture;
 
-/// What is wrong with an index.
+/// What is wrong with an index: `IndexOutOfBounds` where it is past the end of its list in `root`.
 pub fn index_fault<P: Names>(index: &IndexTo<P>, root: &Root) -> Option<Error>
 where
     P::Item: RootItem,
@@ -31,7 +31,8 @@ where
     }
 }
 
-/// What is wrong with the image that a texture names.
+/// What is wrong with the image that a texture names: `Missing` where its number is 4294967295, which
+/// stands for none, else what is wrong with the index.
 pub fn source_fault(texture: &Texture, root: &Root) -> Option<Error>
     ensures { (base : List Step) → found_at result base
         ≡ source_faults (count_in ListName.images (root_tree root.now)) (index_tree texture.now.source) base }
@@ -43,7 +44,8 @@ pub fn source_fault(texture: &Texture, root: &Root) -> Option<Error>
     }
 }
 
-/// What is wrong with the sampler that a channel names.
+/// What is wrong with the sampler that a channel names: `IndexOutOfBounds` where it is past the end of
+/// the animation's own samplers.
 pub fn sampler_fault(channel: &Channel, animation: &Animation) -> Option<Error>
     ensures { (base : List Step) → found_at result base
         ≡ index_faults (sampler_count (closed_object (animation_members animation.now))) (index_tree channel.now.sampler) base }

@@ -9,6 +9,11 @@ ghost use Rattle.gltf_faults.specs.Reports.{reports_of};
 ghost use Rattle.gltf_faults.specs.Places.{reports_by_places};
 ghost use Rattle.gltf_faults.specs.Closed.{IsClosed};
 ghost use Rattle.gltf_data.specs.AccessorTable.{accessor_rows};
+ghost use Rattle.gltf_meshes.specs.MeshTable.{primitive_rows};
+ghost use Rattle.gltf_nodes.specs.CameraTable.{camera_rows};
+ghost use Rattle.gltf_nodes.specs.LightTable.{light_rows};
+ghost use Rattle.gltf_animations.specs.AnimationTable.{animation_rows};
+ghost use Rattle.gltf_root.specs.RootExtensionTable.{lights_rows, root_extension_rows, variants_rows};
 ghost use Rattle.gltf_faults.specs.RowNames.{name_at};
 ghost use Rattle.gltf_root.specs.RootTable.{root_kind, root_rows};
 ghost use Rattle.gltf_root.specs.RootTrees.{root_tree};
@@ -35,13 +40,24 @@ pub fn clean_documents_are_closed()
 {}
 
 /// The rules and the lists find members by their rows' numbers: the rows there are those meant.
+#[tactic(auto, unfolding(gltf_data::specs::AccessorTable::accessor_rows, gltf_meshes::specs::MeshTable::primitive_rows, gltf_nodes::specs::CameraTable::camera_rows, gltf_nodes::specs::LightTable::light_rows, gltf_animations::specs::AnimationTable::animation_rows, gltf_root::specs::RootTable::root_rows, gltf_root::specs::RootExtensionTable::root_extension_rows, gltf_root::specs::RootExtensionTable::lights_rows, gltf_root::specs::RootExtensionTable::variants_rows))]
 pub fn rows_stand_where_rules_look()
     ensures buffer_view { name_at 0 accessor_rows ≡ codes "bufferView" }
     ensures min { name_at 5 accessor_rows ≡ codes "min" }
     ensures max { name_at 6 accessor_rows ≡ codes "max" }
     ensures sparse { name_at 9 accessor_rows ≡ codes "sparse" }
+    ensures orthographic { name_at 1 camera_rows ≡ codes "orthographic" }
+    ensures perspective { name_at 2 camera_rows ≡ codes "perspective" }
+    ensures spot { name_at 6 light_rows ≡ codes "spot" }
+    ensures light_type { name_at 7 light_rows ≡ codes "type" }
+    ensures attributes { name_at 0 primitive_rows ≡ codes "attributes" }
     ensures extensions_required { name_at 9 root_rows ≡ codes "extensionsRequired" }
     ensures extensions { name_at 6 root_rows ≡ codes "extensions" }
+    ensures lights_in_extensions { name_at 0 root_extension_rows ≡ codes "KHR_lights_punctual" }
+    ensures variants_in_extensions { name_at 1 root_extension_rows ≡ codes "KHR_materials_variants" }
+    ensures list_of_lights { name_at 0 lights_rows ≡ codes "lights" }
+    ensures list_of_variants { name_at 0 variants_rows ≡ codes "variants" }
+    ensures samplers_of_an_animation { name_at 0 animation_rows ≡ codes "samplers" }
     ensures list_of_accessors { name_at 0 root_rows ≡ codes "accessors" }
     ensures list_of_animations { name_at 1 root_rows ≡ codes "animations" }
     ensures list_of_buffers { name_at 3 root_rows ≡ codes "buffers" }

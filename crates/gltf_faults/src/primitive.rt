@@ -36,7 +36,9 @@ pub(crate) struct PositionFaults {
 }
 
 /// Goes on with what is wrong with the positions of a primitive, where nothing stopped the walk
-/// before.
+/// before: `Missing` at `attributes["POSITION"]` where there are none; at `min` and at `max` of their
+/// accessor, where it is there, `Missing` or, for what isn't three numbers, `Invalid`. It stops with
+/// `StepsFull` where the path has no room for the three steps, and with `Sink` where the sink refuses.
 pub fn positions<'a, S: Sink>(
     before: Result<(), Stop<S::Refusal>>,
     primitive: &Primitive,

@@ -18,7 +18,10 @@ use gltf_base::{Step, Steps};
 use gltf_root::root::Root;
 use gltf_sinks::{Sink, Stop, told};
 
-/// Goes on with the extensions that a document requires, where nothing stopped the walk before.
+/// Goes on with the extensions that a document requires, where nothing stopped the walk before:
+/// `Unsupported` at each name in `extensionsRequired` that is not in `ENABLED_EXTENSIONS`. It stops
+/// with `StepsFull` where the path has no room for the three steps, and with `Sink` where the sink
+/// refuses.
 #[tactic(auto, unfolding(gltf_root::specs::RootTrees::root_members))]
 pub fn required_extensions<'a, S: Sink>(
     before: Result<(), Stop<S::Refusal>>,

@@ -72,16 +72,20 @@ module _ (input old new : Option (List ℕ)) where
   IsRun-either r failed status told (inl h) = IsRun-refused failed status h
   IsRun-either r failed status told (inr h) = IsRun-read r failed status told h
 
--- where a fresh reader failed there is no output
-pub reading_output-failed : (bytes calls : ℕ) (seen : Seen) (r : Result Root Error) → IsReading bytes calls seen r → seen.has_failed ≡ true → reading_output r ≡ None
-reading_output-failed bytes calls seen (Ok root) h failed = absurd (true≢false (sym failed ∙ h.works))
-reading_output-failed bytes calls seen (Err Json) h failed = absurd (true≢false (sym failed ∙ h.works))
-reading_output-failed bytes calls seen (Err Schema) h failed = absurd (true≢false (sym failed ∙ h.works))
-reading_output-failed bytes calls seen (Err (Memory e)) h failed = refl
-reading_output-failed bytes calls seen (Err Read) h failed = refl
-reading_output-failed bytes calls seen (Err Write) h failed = refl
-reading_output-failed bytes calls seen (Err TooLong) h failed = refl
-reading_output-failed bytes calls seen (Err InvalidItem) h failed = refl
+-- where a fresh reader was not read within the limits there is no output
+pub reading_output-unread : (bytes calls : ℕ) (seen : Seen) (r : Result Root Error) → IsReading bytes calls seen r → (IsWithin bytes calls seen → ⊥) → reading_output r ≡ None
+reading_output-unread bytes calls seen (Ok root) h unread = absurd (unread h)
+reading_output-unread bytes calls seen (Err Json) h unread = absurd (unread h)
+reading_output-unread bytes calls seen (Err Schema) h unread = absurd (unread h)
+reading_output-unread bytes calls seen (Err (Memory e)) h unread = refl
+reading_output-unread bytes calls seen (Err Read) h unread = refl
+reading_output-unread bytes calls seen (Err Write) h unread = refl
+reading_output-unread bytes calls seen (Err TooLong) h unread = refl
+reading_output-unread bytes calls seen (Err InvalidItem) h unread = refl
+
+-- a reader that failed was not read within the limits
+pub failed-unread : (bytes calls : ℕ) (seen : Seen) → seen.has_failed ≡ true → IsWithin bytes calls seen → ⊥
+failed-unread bytes calls seen failed within = true≢false (sym failed ∙ within.works)
 
 -- where there is an output a fresh reader was read within the limits
 pub IsReading-output : (bytes calls : ℕ) (seen : Seen) (r : Result Root Error) → IsReading bytes calls seen r → (reading_output r ≡ None → ⊥) → IsWithin bytes calls seen

@@ -3,8 +3,8 @@ use Rattle.std.specs.Prelude.{◌≡◌, ◌≢◌, ◌⊎◌, ℕ, List, Bool, 
 use Rattle.std.specs.Io.KnownBytes.{Appends}
 use Rattle.gltf_schema.specs.declared.error.Error.{Error}
 use Rattle.gltf_schema.specs.declared.error.Error.TheVariants as errors
-use Rattle.gltf_root.specs.Answer.{no_json, no_document, document}
-use Rattle.gltf_devices.specs.Device.{AppendsFront}
+use Rattle.gltf_root.specs.Answer.{no_json, no_document, document, byte_limit, call_limit}
+use Rattle.gltf_devices.specs.Device.{Seen, IsWithin, AppendsFront}
 use Rattle.gltf_root.specs.RootTrees.{root_tree}
 use Rattle.gltf_root.specs.declared.root.Root.{Root}
 use Rattle.gltf_lines.specs.Output.{Output, answer_output, output, refusal}
@@ -23,6 +23,10 @@ pub record IsRun (input old new : Option (List ℕ)) (failed : Bool) (status : �
 pub record IsWritten (due : Output) (old new : Option (List ℕ)) (failed : Bool) (status : ℕ) : Type 0 where
   pub whole : failed ≡ false → (status ≡ due.status) × Appends old new due.text
   pub front : failed ≡ true → (status ≡ 4) × AppendsFront old new due.text
+
+-- a reader that was fresh gave its end within the limits of a document
+abbrev pub IsReadWhole : Seen → Type 0
+IsReadWhole seen = IsWithin byte_limit call_limit seen
 
 -- the output of a document that was read or refused; none where reading was given up
 abbrev pub reading_output : Result Root Error → Option Output

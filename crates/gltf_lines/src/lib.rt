@@ -2,9 +2,9 @@
 #![tactic(auto)]
 
 ghost use Rattle.std.specs.Prelude.{◌≡◌, ◌≢◌, ◌≤◌, ◌⊎◌, false, true, None, IsSomeAnd};
-ghost use Rattle.gltf_devices.specs.Device.{IsFresh, IsWithin, AppendsFront, byte_limit, call_limit};
+ghost use Rattle.gltf_devices.specs.Device.{IsFresh, AppendsFront};
 ghost use Rattle.gltf_lines.specs.Output.{refusal};
-ghost use Rattle.gltf_lines.specs.Run.{IsRun, IsWritten, reading_output};
+ghost use Rattle.gltf_lines.specs.Run.{IsReadWhole, IsRun, IsWritten, reading_output};
 
 use gltf_json::root::{ByteIn, ByteOut};
 use gltf_json::{Error, Root};
@@ -36,7 +36,9 @@ pub fn run<R: ByteIn, W: ByteOut>(alloc: Global, reader: &mut R, writer: &mut W)
         (W.taken writer.new) (W.has_failed writer.new) result }
     ensures reader_failed { IsFresh (R.seen reader.old) → (R.seen reader.new).has_failed ≡ true
         → (result ≡ 4) × AppendsFront (W.taken writer.old) (W.taken writer.new) refusal.text }
-    ensures within { IsFresh (R.seen reader.old) → result ≢ 4 → IsWithin byte_limit call_limit (R.seen reader.new) }
+    ensures not_read { IsFresh (R.seen reader.old) → ¬ (IsReadWhole (R.seen reader.new))
+        → (result ≡ 4) × AppendsFront (W.taken writer.old) (W.taken writer.new) refusal.text }
+    ensures within { IsFresh (R.seen reader.old) → result ≢ 4 → IsReadWhole (R.seen reader.new) }
 {
     let reading = Root::from_reader(alloc, reader);
     answer(alloc, &reading, writer)

@@ -36,11 +36,11 @@ pub struct Mesh {
 impl Drop for Mesh {
     fn drop(self) {
         let Mesh {
+            name: _,
+            weights: _,
+            primitives: _,
             extensions: _,
             extras: _,
-            name: _,
-            primitives: _,
-            weights: _,
         } = self;
     }
 }

@@ -35,12 +35,12 @@ pub struct Camera {
 impl Drop for Camera {
     fn drop(self) {
         let Camera {
-            name: _,
-            orthographic: _,
-            perspective: _,
             type_: _,
+            name: _,
             extensions: _,
             extras: _,
+            orthographic: _,
+            perspective: _,
         } = self;
     }
 }

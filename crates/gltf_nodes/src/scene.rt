@@ -48,17 +48,17 @@ impl Drop for Node {
     fn drop(self) {
         let Node {
             camera: _,
-            children: _,
             mesh: _,
-            name: _,
             skin: _,
+            name: _,
+            children: _,
             weights: _,
-            extras: _,
-            extensions: _,
             matrix: _,
             rotation: _,
             scale: _,
             translation: _,
+            extensions: _,
+            extras: _,
         } = self;
     }
 }
@@ -149,10 +149,10 @@ pub struct Scene {
 impl Drop for Scene {
     fn drop(self) {
         let Scene {
-            extensions: _,
-            extras: _,
             name: _,
             nodes: _,
+            extensions: _,
+            extras: _,
         } = self;
     }
 }

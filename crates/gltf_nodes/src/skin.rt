@@ -35,12 +35,12 @@ pub struct Skin {
 impl Drop for Skin {
     fn drop(self) {
         let Skin {
+            inverse_bind_matrices: _,
+            skeleton: _,
+            name: _,
+            joints: _,
             extensions: _,
             extras: _,
-            inverse_bind_matrices: _,
-            joints: _,
-            name: _,
-            skeleton: _,
         } = self;
     }
 }

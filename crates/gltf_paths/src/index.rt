@@ -13,6 +13,7 @@ pub trait Listed {
 
 /// What the indexes into a list are written by: a pointer to what the list holds.
 pub trait Names {
+    /// What the list holds.
     type Item;
 
     ghost list: { ListName };

@@ -22,7 +22,7 @@ pub enum Step<'a> {
     Key(&'a str),
     /// To an attribute: the same step as `Key` of its semantic's text.
     Attribute(&'a Checked<Semantic>),
-    /// To a value that is named.
+    /// The value at the place itself, shown behind its path as ` = "text"`.
     Value(&'a str),
 }
 

@@ -9,11 +9,12 @@ use std::fmt::{self, Display, Formatter, Write};
 pub enum Error {
     /// An index past the end of its list.
     IndexOutOfBounds,
-    /// A value that the specification doesn't list.
+    /// A value that the specification doesn't list, a stride that is too short or too long, or a
+    /// bound of positions that isn't three numbers.
     Invalid,
-    /// Data that the specification asks for.
+    /// Data that the specification asks for, and that isn't there.
     Missing,
-    /// A size past what the machine can address.
+    /// A size past what the machine can address. It is never reported, since `usize` has 64 bits.
     Oversize,
     /// An extension that is required and not known.
     Unsupported,

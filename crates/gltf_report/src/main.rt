@@ -4,8 +4,8 @@
 
 ghost use Rattle.std.specs.Prelude.{◌≡◌, ◌≢◌, ◌≤◌, false};
 ghost use Rattle.std.specs.Process.{exit_status};
-ghost use Rattle.gltf_devices.specs.Device.{IsFresh, IsWithin, byte_limit, call_limit};
-ghost use Rattle.gltf_lines.specs.Run.{IsRun};
+ghost use Rattle.gltf_devices.specs.Device.{IsFresh};
+ghost use Rattle.gltf_lines.specs.Run.{IsReadWhole, IsRun};
 
 use gltf_devices::{ByteIn, ByteOut, Watched};
 use std::alloc::Global;
@@ -19,8 +19,7 @@ fn exit_code<R: ByteIn, W: ByteOut>(alloc: Global, reader: &mut R, writer: &mut 
     ensures status { exit_status result ≤ 4 }
     ensures run { W.has_failed writer.old ≡ false → IsRun (R.left reader.old) (W.taken writer.old)
         (W.taken writer.new) (W.has_failed writer.new) (exit_status result) }
-    ensures within { IsFresh (R.seen reader.old) → exit_status result ≢ 4
-        → IsWithin byte_limit call_limit (R.seen reader.new) }
+    ensures within { IsFresh (R.seen reader.old) → exit_status result ≢ 4 → IsReadWhole (R.seen reader.new) }
 {
     ExitCode::from(run(alloc, reader, writer))
 }

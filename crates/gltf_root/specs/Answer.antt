@@ -43,6 +43,13 @@ IsReadAnswer due (Err errors.Read) = Unit {0}
 IsReadAnswer due (Err errors.TooLong) = Unit {0}
 IsReadAnswer due result = IsAnswer due result
 
+-- what a document may have of bytes, and its reader of calls, that of the end among them
+abbrev pub byte_limit : ℕ
+byte_limit = 1073741824
+
+abbrev pub call_limit : ℕ
+call_limit = 2147483648
+
 -- how a reader that was fresh was read: to its end within the limits, or not, for the cause that is answered
 abbrev pub IsReading : ℕ → ℕ → Seen → Result Root Error → Type 0
 IsReading bytes calls seen (Ok root) = IsWithin bytes calls seen

@@ -1,5 +1,5 @@
 -- The lists of a document, and the places in them that indexes name.
-use Rattle.std.specs.Prelude.{ℕ, nat_lt, Bool}
+use Rattle.std.specs.Prelude.{ℕ}
 use Rattle.gltf_paths.specs.Lists.{ListName}
 use Rattle.gltf_schema.specs.Tree.{Tree, Trees, tree_at, count_of, items_in, members_in}
 
@@ -31,10 +31,6 @@ list_in ListName.variants root = list_at 0 (extension_at 1 root)
 
 abbrev pub count_in : ListName → Tree → ℕ
 count_in named root = count_of (list_in named root)
-
--- an index names an item of its list
-abbrev pub resolves : Tree → ListName → ℕ → Bool
-resolves root named n = nat_lt n (count_in named root)
 
 -- the samplers of an animation
 abbrev pub sampler_count : Tree → ℕ

@@ -82,8 +82,8 @@ impl Drop for Root {
             skins: _,
             textures: _,
             asset: _,
-            extras: _,
             extensions: _,
+            extras: _,
         } = self;
     }
 }

@@ -10,11 +10,11 @@ pub enum Error {
     Json,
     /// The JSON is no glTF document.
     Schema,
-    /// An item of a choice was to be written that is none of its values.
+    /// An item of a choice was to be written that is none of its values. No call answers it yet.
     InvalidItem,
     /// The reader failed.
     Read,
-    /// The writer failed, or took no byte.
+    /// The writer failed, or took no byte. No call answers it yet.
     Write,
     /// A growth was refused.
     Memory(AllocError),

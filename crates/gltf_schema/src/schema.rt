@@ -44,7 +44,8 @@ pub trait Object: Drop {
 
     ghost unknown: { Self → Members };
 
-    /// The object of these members.
+    /// The object of these members. `Schema` comes where a row refuses its member or lacks it,
+    /// `Memory` where a growth was refused.
     fn decode_members(alloc: Global, found: Map<String, Value>) -> Result<Self, Error>
         ensures { Reads (λ x. (members x, unknown x)) result
             (take_all rows keeps (members_view found.entries)) };

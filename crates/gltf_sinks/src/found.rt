@@ -9,7 +9,7 @@ use crate::sink::{Sink, Stop};
 use gltf_base::validation::Error;
 use gltf_base::{Step, Steps};
 
-/// Hands over what was found at a place, if anything.
+/// Hands over what was found at a place, if anything. It stops with `Sink` where the sink refuses.
 pub fn tell<S: Sink>(
     path: &Steps<'_>,
     found: Option<Error>,
@@ -26,7 +26,8 @@ pub fn tell<S: Sink>(
     }
 }
 
-/// Goes on with what was found at the place itself, where nothing stopped the walk before.
+/// Goes on with what was found at the place itself, where nothing stopped the walk before. It stops
+/// with `Sink` where the sink refuses.
 pub fn also_told<'a, S: Sink>(
     before: Result<(), Stop<S::Refusal>>,
     found: Option<Error>,
@@ -42,7 +43,9 @@ pub fn also_told<'a, S: Sink>(
     }
 }
 
-/// Goes on with what was found one step further, where nothing stopped the walk before.
+/// Goes on with what was found one step further, where nothing stopped the walk before. It stops with
+/// `StepsFull` where something was found and the path has no room for a step, and with `Sink` where
+/// the sink refuses.
 pub fn told<'a, S: Sink>(
     before: Result<(), Stop<S::Refusal>>,
     found: Option<Error>,

@@ -42,9 +42,9 @@ impl Drop for Sampler {
         let Sampler {
             mag_filter: _,
             min_filter: _,
-            name: _,
             wrap_s: _,
             wrap_t: _,
+            name: _,
             extensions: _,
             extras: _,
         } = self;
@@ -124,10 +124,10 @@ pub struct Texture {
 impl Drop for Texture {
     fn drop(self) {
         let Texture {
-            name: _,
-            sampler: _,
-            extensions: _,
             source: _,
+            sampler: _,
+            name: _,
+            extensions: _,
             extras: _,
         } = self;
     }

@@ -45,7 +45,8 @@ pub trait Validate {
     /// The reports of a type that isn't in the table, against a document's tree, from a base.
     ghost own: { Self → Tree → From } = { no_reports };
 
-    /// The greatest number of steps from a value's place to a member, an item or a report in it.
+    /// A bound on the steps from a value's place to what its walk visits: the members and the items in
+    /// which something can be wrong, and the places of its reports.
     ghost depth: { ℕ } = { 0 };
 
     /// Hands the sink what is wrong in the value, in order, each step list beginning with the steps

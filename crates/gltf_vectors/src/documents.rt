@@ -38,3 +38,11 @@ fn lines_of<'a, T: Validate>(
     }
     Ok(lines)
 }
+
+/// Whether the reports of a document against itself are these lines.
+pub(crate) fn has_lines(alloc: Global, root: &Root, lines: &str) -> bool {
+    match lines_of(alloc, root, root, &mut Steps::new()) {
+        Ok(found) => found.as_str() == lines,
+        Err(_) => false,
+    }
+}

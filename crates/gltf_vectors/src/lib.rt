@@ -13,4 +13,6 @@ mod lines;
 #[cfg(test)]
 mod objects;
 #[cfg(test)]
+mod reading;
+#[cfg(test)]
 mod validation;

@@ -2,6 +2,7 @@
 
 ghost use Rattle.std.specs.Prelude.{ℕ, ◌+◌, ⊤};
 
+use crate::reading::{WAYS, Way, read_by};
 use gltf_base::{Step, Steps};
 use gltf_json::buffer::{Stride, View};
 use gltf_json::validation::{Count, Error, Sink, USize64, Validate};
@@ -82,13 +83,14 @@ fn bounded_lines_of(alloc: Global, root: &Root, limit: u32) -> Result<String, gl
     Ok(sink.lines)
 }
 
-/// The same of a document that is given as a text.
+/// The same of a document that is read.
 pub(super) fn bounded_lines(
     alloc: Global,
+    way: Way,
     document: &str,
     limit: u32,
 ) -> Result<String, gltf_json::Error> {
-    let root = Root::from_str(alloc, document)?;
+    let root = read_by(alloc, way, document)?;
     bounded_lines_of(alloc, &root, limit)
 }
 
@@ -109,9 +111,11 @@ const LIMITS: [Limit; 3] = [
 
 #[test]
 fn stops_where_the_sink_refuses(rt: HostRuntime) -> Result<(), Fail> {
-    for case in LIMITS.iter() {
-        let lines = bounded_lines(rt.alloc(), NO_VIEW_AND_NO_TYPE, case.0)?;
-        assert_eq!(rt; lines.as_str(), case.1);
+    for way in WAYS.iter() {
+        for case in LIMITS.iter() {
+            let lines = bounded_lines(rt.alloc(), *way, NO_VIEW_AND_NO_TYPE, case.0)?;
+            assert_eq!(rt; lines.as_str(), case.1);
+        }
     }
     Ok(())
 }
@@ -139,26 +143,30 @@ fn count_of(alloc: Global, root: &Root, step_count: usize) -> Result<String, glt
 }
 
 /// The same of the document with one fault.
-fn count_from(alloc: Global, step_count: usize) -> Result<String, gltf_json::Error> {
-    let root = Root::from_str(alloc, NO_VIEW)?;
+fn count_from(alloc: Global, way: Way, step_count: usize) -> Result<String, gltf_json::Error> {
+    let root = read_by(alloc, way, NO_VIEW)?;
     count_of(alloc, &root, step_count)
 }
 
 #[test]
 fn counts_from_six_steps(rt: HostRuntime) -> Result<(), Fail> {
-    assert_eq!(rt;
-        count_from(rt.alloc(), 6)?.as_str(),
-        "Ok(()), 1 at [0][1][2][3][4][5]"
-    );
+    for way in WAYS.iter() {
+        assert_eq!(rt;
+            count_from(rt.alloc(), *way, 6)?.as_str(),
+            "Ok(()), 1 at [0][1][2][3][4][5]"
+        );
+    }
     Ok(())
 }
 
 #[test]
 fn stops_where_steps_are_full(rt: HostRuntime) -> Result<(), Fail> {
-    assert_eq!(rt;
-        count_from(rt.alloc(), 16)?.as_str(),
-        "Err(StepsFull), 0 at [0][1][2][3][4][5][6][7][8][9][10][11][12][13][14][15]"
-    );
+    for way in WAYS.iter() {
+        assert_eq!(rt;
+            count_from(rt.alloc(), *way, 16)?.as_str(),
+            "Err(StepsFull), 0 at [0][1][2][3][4][5][6][7][8][9][10][11][12][13][14][15]"
+        );
+    }
     Ok(())
 }
 

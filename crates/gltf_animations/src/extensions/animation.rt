@@ -1,5 +1,5 @@
-//! The extension objects of animations, and of their channels, targets and samplers, of which no
-//! extension is kept.
+//! The extension objects of animations, which keep unknown extensions, and of their channels,
+//! targets and samplers, which keep none.
 
 ghost use Rattle.std.specs.Prelude.{◌≡◌, true, false};
 ghost use Rattle.serde_json.specs.Data.{no_members};

@@ -12,7 +12,7 @@ ghost use Rattle.gltf_nodes.specs.CameraTrees.{camera_members};
 ghost use Rattle.gltf_nodes.specs.LightTrees.{light_members, variant_members};
 ghost use Rattle.gltf_nodes.specs.SceneTrees.{node_members, scene_members, skin_members};
 ghost use Rattle.gltf_animations.specs.AnimationTrees.{animation_members};
-ghost use Rattle.gltf_root.specs.Items.{lights_extended-trees, lights_of, variants_extended-trees, variants_of};
+ghost use Rattle.gltf_root.specs.Items.{lights_of, lights_of-trees, variants_of, variants_of-trees};
 ghost use Rattle.gltf_root.specs.RootTrees.{root_members};
 
 use super::Root;
@@ -191,7 +191,7 @@ impl RootItem for Light {
 
     ghost items = { lights_of };
 
-    ghost lists = { λ r. unfold root_members in lights_extended-trees r.extensions };
+    ghost lists = { λ r. unfold root_members in lights_of-trees r };
 
     /// Those of the extension; none where it is missing.
     fn list_of(root: &Root) -> &[Light] {
@@ -210,7 +210,7 @@ impl RootItem for Variant {
 
     ghost items = { variants_of };
 
-    ghost lists = { λ r. unfold root_members in variants_extended-trees r.extensions };
+    ghost lists = { λ r. unfold root_members in variants_of-trees r };
 
     /// Those of the extension; none where it is missing.
     fn list_of(root: &Root) -> &[Variant] {

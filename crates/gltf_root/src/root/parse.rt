@@ -6,8 +6,8 @@ ghost use Rattle.serde_json.specs.View.{view};
 ghost use Rattle.gltf_schema.specs.Outcome.{Reads};
 ghost use Rattle.gltf_schema.specs.Plain.{is_plain};
 ghost use Rattle.gltf_schema.specs.Read.{read};
-ghost use Rattle.gltf_root.specs.Answer.{IsAnswer, IsReadAnswer, IsReading, answer};
-ghost use Rattle.gltf_devices.specs.Device.{IsFresh, byte_limit, call_limit};
+ghost use Rattle.gltf_root.specs.Answer.{IsAnswer, IsReadAnswer, IsReading, answer, byte_limit, call_limit};
+ghost use Rattle.gltf_devices.specs.Device.{IsFresh};
 ghost use Rattle.gltf_root.specs.RootTable.{root_kind};
 ghost use Rattle.gltf_root.specs.RootTrees.{root_tree};
 

@@ -183,8 +183,8 @@ impl TextureTransform {
 #[derive(Clone, Debug, Default, Drop)]
 pub struct TextureTransformOffset(pub Option<[Real; 2]>);
 
-/// The angle by which the texture is turned round the origin, in radians, against the clock; `None`
-/// stands for 0.
+/// The angle by which the coordinates are turned round the origin, in radians, against the clock;
+/// `None` stands for 0.
 #[derive(Clone, Debug, Default, Drop)]
 pub struct TextureTransformRotation(pub Option<Real>);
 

@@ -27,7 +27,8 @@ impl Validate for Animation {
 
     ghost depth = { 4 };
 
-    /// Reports `IndexOutOfBounds` at the `sampler` of each channel that names none of the animation's own.
+    /// Reports what is wrong in its channels and samplers; at the `sampler` of a channel that names none
+    /// of the animation's own `IndexOutOfBounds`.
     fn validate<'a, S: Sink>(
         &'a self,
         root: &Root,

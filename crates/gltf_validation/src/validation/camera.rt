@@ -29,7 +29,8 @@ impl Validate for Camera {
 
     ghost depth = { 1 };
 
-    /// Reports `Missing` at the camera itself where it has neither projection, whatever its type.
+    /// Reports `Invalid` at a type that is none, and then `Missing` at the camera itself where it has
+    /// neither projection, whatever its type.
     fn validate<'a, S: Sink>(
         &'a self,
         root: &Root,

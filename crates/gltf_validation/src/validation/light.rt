@@ -27,7 +27,7 @@ impl Validate for Light {
 
     ghost depth = { 1 };
 
-    /// Reports `Missing` at `spot` where a spot light has no cone.
+    /// Reports `Invalid` at a type that is none, or `Missing` at `spot` where a spot light has no cone.
     fn validate<'a, S: Sink>(
         &'a self,
         root: &Root,

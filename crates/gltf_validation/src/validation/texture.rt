@@ -54,7 +54,8 @@ impl Validate for Texture {
 
     ghost depth = { 1 };
 
-    /// Reports `Missing` at `source` where it is 4294967295, which stands for no image.
+    /// Reports `IndexOutOfBounds` at a `sampler` or a `source` that names none, and `Missing` at
+    /// `source` where it is 4294967295, which stands for no image.
     fn validate<'a, S: Sink>(
         &'a self,
         root: &Root,

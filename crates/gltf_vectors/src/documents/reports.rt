@@ -1,8 +1,8 @@
 //! What is reported of whole documents, each read from bytes and from a text.
 
-use super::{NO_SOURCE, SOURCE_PAST_END, WITH_SOURCE, WITHOUT_SOURCE, lines_of};
+use super::{NO_SOURCE, SOURCE_PAST_END, WITH_SOURCE, WITHOUT_SOURCE, has_lines};
+use crate::reading::{WAYS, Way, read_by};
 use crate::validation::bounded_lines;
-use gltf_base::Steps;
 use gltf_json::{Error, Root};
 use std::alloc::Global;
 use std::test::Fail;
@@ -85,14 +85,6 @@ const REQUIRED: [Case; 2] = [
     ),
 ];
 
-/// Whether the reports of a document against itself are these lines.
-fn has_lines(alloc: Global, root: &Root, lines: &str) -> bool {
-    match lines_of(alloc, root, root, &mut Steps::new()) {
-        Ok(found) => found.as_str() == lines,
-        Err(_) => false,
-    }
-}
-
 /// Whether a reading tells this: the lines of its reports, or that it was refused.
 fn is_told(alloc: Global, reading: &Result<Root, Error>, told: &str) -> bool {
     match reading {
@@ -102,19 +94,14 @@ fn is_told(alloc: Global, reading: &Result<Root, Error>, told: &str) -> bool {
     }
 }
 
-fn is_told_from_slice(alloc: Global, document: &str, told: &str) -> bool {
-    let reading = Root::from_slice(alloc, document.as_bytes());
-    is_told(alloc, &reading, told)
-}
-
-fn is_told_from_str(alloc: Global, document: &str, told: &str) -> bool {
-    let reading = Root::from_str(alloc, document);
+fn is_told_by(alloc: Global, way: Way, (document, told): &Case) -> bool {
+    let reading = read_by(alloc, way, document);
     is_told(alloc, &reading, told)
 }
 
 /// Whether a document tells what it should, read from bytes and from a text.
-fn is_answered(alloc: Global, (document, told): &Case) -> bool {
-    is_told_from_slice(alloc, document, told) && is_told_from_str(alloc, document, told)
+fn is_answered(alloc: Global, case: &Case) -> bool {
+    is_told_by(alloc, Way::Bytes, case) && is_told_by(alloc, Way::Text, case)
 }
 
 #[test]
@@ -139,22 +126,26 @@ fn has_no_camera(root: &Root) -> bool {
 }
 
 /// Whether a null camera is read as none.
-fn is_null_absent(alloc: Global) -> Result<bool, Error> {
-    let root = Root::from_str(alloc, NULL_CAMERA)?;
+fn is_null_absent(alloc: Global, way: Way) -> Result<bool, Error> {
+    let root = read_by(alloc, way, NULL_CAMERA)?;
     Ok(has_no_camera(&root))
 }
 
 #[test]
 fn null_cameras(rt: HostRuntime) -> Result<(), Fail> {
-    assert!(rt; is_null_absent(rt.alloc())?);
+    for way in WAYS.iter() {
+        assert!(rt; is_null_absent(rt.alloc(), *way)?);
+    }
     Ok(())
 }
 
 #[test]
 fn first_report_alone(rt: HostRuntime) -> Result<(), Fail> {
-    assert_eq!(rt;
-        bounded_lines(rt.alloc(), ANIMATIONS, 1)?.as_str(),
-        "animations[0].channels[0].sampler: Index out of bounds\nErr(Sink(7)), 0 steps\n"
-    );
+    for way in WAYS.iter() {
+        assert_eq!(rt;
+            bounded_lines(rt.alloc(), *way, ANIMATIONS, 1)?.as_str(),
+            "animations[0].channels[0].sampler: Index out of bounds\nErr(Sink(7)), 0 steps\n"
+        );
+    }
     Ok(())
 }

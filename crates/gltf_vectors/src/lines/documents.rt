@@ -1,6 +1,8 @@
 //! Documents, and what is wrong in them.
 
 use super::run_over;
+use crate::documents::has_lines;
+use crate::reading::{Way, read_by};
 use gltf_json::root::Watched;
 use gltf_json::{Error, Root};
 use serde_json::Value;
@@ -127,13 +129,15 @@ fn written_lines(rt: HostRuntime) {
     }
 }
 
-/// Whether a document is read, or refused, as its status says, from bytes and from a reader.
+/// Whether a document is read, or refused, as its status says, from bytes, a text and a reader.
 fn is_answered(alloc: Global, (document, status, _): &Case) -> bool {
     let expected = if *status == 1 { 0 } else { *status };
     let sliced = Root::from_slice(alloc, document.as_bytes());
+    let parsed = Root::from_str(alloc, document);
     let mut reader = Watched::new(document.as_bytes());
     let read = Root::from_reader(alloc, &mut reader);
     status_without_reports(&sliced) == expected
+        && status_without_reports(&parsed) == expected
         && status_without_reports(&read) == expected
         && !reader.failed()
 }
@@ -142,6 +146,25 @@ fn is_answered(alloc: Global, (document, status, _): &Case) -> bool {
 fn answers(rt: HostRuntime) {
     for case in CASES.iter() {
         assert!(rt; is_answered(rt.alloc(), case), "{}", case.0);
+    }
+}
+
+/// Whether a document's reports, collected, are the lines that are written; a document that is
+/// refused has none.
+fn is_collected(alloc: Global, way: Way, (document, status, text): &Case) -> bool {
+    match (read_by(alloc, way, document), status) {
+        (Ok(root), 0) => has_lines(alloc, &root, ""),
+        (Ok(root), 1) => has_lines(alloc, &root, text),
+        (Ok(_), _) => false,
+        (Err(_), status) => *status > 1,
+    }
+}
+
+#[test]
+fn collected_lines(rt: HostRuntime) {
+    for case in CASES.iter() {
+        assert!(rt; is_collected(rt.alloc(), Way::Bytes, case), "{}", case.0);
+        assert!(rt; is_collected(rt.alloc(), Way::Text, case), "{}", case.0);
     }
 }
 

@@ -11,7 +11,7 @@ use gltf_checked::validation::Checked;
 /// The names of the types.
 pub const VALID_TYPES: &[&str] = &["directional", "point", "spot"];
 
-/// How a light shines.
+/// How a light shines (the extension KHR_lights_punctual).
 #[derive(Clone, Copy, Debug, PartialEq, Eq, Hash)]
 pub enum LightType {
     /// From far away, in one direction.
@@ -48,7 +48,7 @@ impl Choice for LightType {
 }
 
 impl LightType {
-    /// The type that a name spells.
+    /// The type that a name spells; `Invalid` where it spells none.
     pub fn from_name(name: &str) -> Checked<LightType>
         ensures { result ≡ item_spelled light_type_spelling light_types (by_name name.now) }
     {

@@ -49,7 +49,7 @@ impl Object for KhrLightsPunctual {
 // What takes longest to drop stands last (docs/DECISIONS.md).
 #[derive(Clone, Debug)]
 pub struct Light {
-    /// From where and where to it shines.
+    /// How it shines: from afar, from a point, or into a cone.
     pub type_: Checked<LightType>,
     pub name: Option<String>,
     /// How bright it is, in candela or, where it is directional, in lux; `None` stands for 1.
@@ -69,14 +69,14 @@ pub struct Light {
 impl Drop for Light {
     fn drop(self) {
         let Light {
+            type_: _,
+            name: _,
+            intensity: _,
+            range: _,
             color: _,
             extensions: _,
             extras: _,
-            intensity: _,
-            name: _,
-            range: _,
             spot: _,
-            type_: _,
         } = self;
     }
 }

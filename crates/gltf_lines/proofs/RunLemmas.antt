@@ -72,28 +72,34 @@ module _ (input old new : Option (List ℕ)) where
   IsRun-either r failed status told (inl h) = IsRun-refused failed status h
   IsRun-either r failed status told (inr h) = IsRun-read r failed status told h
 
+-- there is no output, or a fresh reader was read within the limits
+none-or-read : (bytes calls : ℕ) (seen : Seen) (r : Result Root Error) → IsReading bytes calls seen r → (reading_output r ≡ None) ⊎ IsWithin bytes calls seen
+none-or-read bytes calls seen (Ok root) h = inr h
+none-or-read bytes calls seen (Err Json) h = inr h
+none-or-read bytes calls seen (Err Schema) h = inr h
+none-or-read bytes calls seen (Err (Memory e)) h = inl refl
+none-or-read bytes calls seen (Err Read) h = inl refl
+none-or-read bytes calls seen (Err Write) h = inl refl
+none-or-read bytes calls seen (Err TooLong) h = inl refl
+none-or-read bytes calls seen (Err InvalidItem) h = inl refl
+
+-- of two things one of which holds, the one holds where the other doesn't
+first-of : {A B : Type 0} → A ⊎ B → (B → ⊥) → A
+first-of (inl a) other = a
+first-of (inr b) other = absurd (other b)
+
+second-of : {A B : Type 0} → A ⊎ B → (A → ⊥) → B
+second-of (inl a) other = absurd (other a)
+second-of (inr b) other = b
+
 -- where a fresh reader was not read within the limits there is no output
 pub reading_output-unread : (bytes calls : ℕ) (seen : Seen) (r : Result Root Error) → IsReading bytes calls seen r → (IsWithin bytes calls seen → ⊥) → reading_output r ≡ None
-reading_output-unread bytes calls seen (Ok root) h unread = absurd (unread h)
-reading_output-unread bytes calls seen (Err Json) h unread = absurd (unread h)
-reading_output-unread bytes calls seen (Err Schema) h unread = absurd (unread h)
-reading_output-unread bytes calls seen (Err (Memory e)) h unread = refl
-reading_output-unread bytes calls seen (Err Read) h unread = refl
-reading_output-unread bytes calls seen (Err Write) h unread = refl
-reading_output-unread bytes calls seen (Err TooLong) h unread = refl
-reading_output-unread bytes calls seen (Err InvalidItem) h unread = refl
+reading_output-unread bytes calls seen r h = first-of (none-or-read bytes calls seen r h)
+
+-- where there is an output a fresh reader was read within the limits
+pub IsReading-output : (bytes calls : ℕ) (seen : Seen) (r : Result Root Error) → IsReading bytes calls seen r → (reading_output r ≡ None → ⊥) → IsWithin bytes calls seen
+IsReading-output bytes calls seen r h = second-of (none-or-read bytes calls seen r h)
 
 -- a reader that failed was not read within the limits
 pub failed-unread : (bytes calls : ℕ) (seen : Seen) → seen.has_failed ≡ true → IsWithin bytes calls seen → ⊥
 failed-unread bytes calls seen failed within = true≢false (sym failed ∙ within.works)
-
--- where there is an output a fresh reader was read within the limits
-pub IsReading-output : (bytes calls : ℕ) (seen : Seen) (r : Result Root Error) → IsReading bytes calls seen r → (reading_output r ≡ None → ⊥) → IsWithin bytes calls seen
-IsReading-output bytes calls seen (Ok root) h some = h
-IsReading-output bytes calls seen (Err Json) h some = h
-IsReading-output bytes calls seen (Err Schema) h some = h
-IsReading-output bytes calls seen (Err (Memory e)) h some = absurd (some refl)
-IsReading-output bytes calls seen (Err Read) h some = absurd (some refl)
-IsReading-output bytes calls seen (Err Write) h some = absurd (some refl)
-IsReading-output bytes calls seen (Err TooLong) h some = absurd (some refl)
-IsReading-output bytes calls seen (Err InvalidItem) h some = absurd (some refl)

@@ -14,7 +14,7 @@ use gltf_base::{Index, Listed};
 use gltf_data::accessor::Accessor;
 use gltf_data::extras::Extras;
 use gltf_nodes::scene::Node;
-use gltf_schema::{Blank, Error, Object, Reading};
+use gltf_schema::{Blank, Error, Object, Reading, Writing};
 use serde_json::{Map, Value};
 use std::alloc::Global;
 
@@ -75,6 +75,16 @@ impl Object for Animation {
             extras,
         })
     }
+
+    fn encode_members(&self, alloc: Global) -> Result<Map<String, Value>, Error> {
+        Writing::new(alloc)
+            .list("samplers", &self.samplers)
+            .list("channels", &self.channels)
+            .optional("name", &self.name)
+            .optional("extensions", &self.extensions)
+            .optional("extras", &self.extras)
+            .finish()
+    }
 }
 
 /// A property of a node, and the sampler that it follows.
@@ -114,6 +124,15 @@ impl Object for Channel {
             extras,
         })
     }
+
+    fn encode_members(&self, alloc: Global) -> Result<Map<String, Value>, Error> {
+        Writing::new(alloc)
+            .always("sampler", &self.sampler.number())
+            .always("target", &self.target)
+            .optional("extensions", &self.extensions)
+            .optional("extras", &self.extras)
+            .finish()
+    }
 }
 
 /// A property of a node.
@@ -151,6 +170,15 @@ impl Object for Target {
             extensions,
             extras,
         })
+    }
+
+    fn encode_members(&self, alloc: Global) -> Result<Map<String, Value>, Error> {
+        Writing::new(alloc)
+            .always("node", &self.node)
+            .always("path", &self.path)
+            .optional("extensions", &self.extensions)
+            .optional("extras", &self.extras)
+            .finish()
     }
 }
 
@@ -208,5 +236,15 @@ impl Object for Sampler {
             extensions,
             extras,
         })
+    }
+
+    fn encode_members(&self, alloc: Global) -> Result<Map<String, Value>, Error> {
+        Writing::new(alloc)
+            .always("input", &self.input)
+            .always("interpolation", &self.interpolation)
+            .always("output", &self.output)
+            .optional("extensions", &self.extensions)
+            .optional("extras", &self.extras)
+            .finish()
     }
 }

@@ -34,7 +34,7 @@ pub mod camera {
 
 /// What a choice is.
 pub mod choice {
-    pub use gltf_checked::choice::{Choice, Form, Spelling, item_of};
+    pub use gltf_checked::choice::{Choice, Form, Spelling, is_same, item_of};
 }
 
 /// The choices of extensions, and which extensions a document may require.

@@ -51,8 +51,8 @@ pub trait Choice: Copy + 'static {
     ghost reads_back: { AllByRecursion (λ x. item_spelled spelling listed (spelling x) ≡ Valid x) listed };
 }
 
-/// Whether two spellings are the same.
-fn is_same(a: Spelling<'_>, b: Spelling<'_>) -> bool
+/// Whether two spellings are the same: two numbers, or two names, that are equal.
+pub fn is_same(a: Spelling<'_>, b: Spelling<'_>) -> bool
     ensures { result ≡ is_spelled (spelling_of a.entry) (spelling_of b.entry) }
 {
     match (a, b) {

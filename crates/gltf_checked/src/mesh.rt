@@ -2,6 +2,7 @@
 
 ghost use Rattle.std.specs.Prelude.{◌≡◌, ◌++◌, codes, option_and_then, IsOk, IfOk, OnOk};
 ghost use Rattle.std.specs.Option.{option_copied};
+ghost use Rattle.std.specs.Fmt.{decimal};
 ghost use Rattle.std.specs.String.{string_bytes};
 ghost use Rattle.gltf_checked.specs.Keys.{Key, key_text};
 ghost use Rattle.gltf_checked.specs.Names.{behind, set_number, set_key, plain_key, key_named, IsNamed};
@@ -49,9 +50,10 @@ impl Semantic {
         }
     }
 
-    /// The attribute's name that means the semantic.
+    /// The attribute's name that means the semantic. [`Semantic::checked`] reads it back.
     pub fn to_string(&self, alloc: Global) -> Result<String, AllocError>
-        ensures { IfOk result (λ text. string_bytes text ≡ key_text (semantic_key self.now)) }
+        ensures text { IfOk result (λ text. string_bytes text ≡ key_text (semantic_key self.now)) }
+        ensures named { OnOk result (IsNamed (semantic_key self.now)) }
     {
         let mut text = String::new(alloc);
         write_valid(&mut text, self)?;
@@ -130,18 +132,26 @@ pub fn write_semantic(text: &mut String, semantic: &Checked<Semantic>) -> Result
 }
 
 fn write_valid(text: &mut String, semantic: &Semantic) -> Result<(), AllocError>
-    ensures { OnOk result (string_bytes text.new ≡ string_bytes text.old ++ key_text (semantic_key semantic.now)) }
+    ensures text { OnOk result (string_bytes text.new ≡ string_bytes text.old ++ key_text (semantic_key semantic.now)) }
+    ensures named { IsNamed (semantic_key semantic.now) }
 {
     match semantic {
         Semantic::Extras(name) => write!(text, "_{name}"),
         Semantic::Positions => text.push_str("POSITION"),
         Semantic::Normals => text.push_str("NORMAL"),
         Semantic::Tangents => text.push_str("TANGENT"),
-        Semantic::Colors(set) => write!(text, "COLOR_{set}"),
-        Semantic::TexCoords(set) => write!(text, "TEXCOORD_{set}"),
-        Semantic::Joints(set) => write!(text, "JOINTS_{set}"),
-        Semantic::Weights(set) => write!(text, "WEIGHTS_{set}"),
+        Semantic::Colors(set) => write_set(text, "COLOR_", *set),
+        Semantic::TexCoords(set) => write_set(text, "TEXCOORD_", *set),
+        Semantic::Joints(set) => write_set(text, "JOINTS_", *set),
+        Semantic::Weights(set) => write_set(text, "WEIGHTS_", *set),
     }
+}
+
+/// Appends a prefix and the number of a set.
+fn write_set(text: &mut String, prefix: &str, set: u32) -> Result<(), AllocError>
+    ensures { OnOk result (string_bytes text.new ≡ string_bytes text.old ++ prefix.now ++ decimal set) }
+{
+    write!(text, "{prefix}{set}")
 }
 
 /// The text of each semantic is read as that semantic.

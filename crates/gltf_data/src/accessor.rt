@@ -13,7 +13,7 @@ use crate::extras::Extras;
 use gltf_base::accessor::{AccessorType, GenericComponentType};
 use gltf_base::validation::{Checked, USize64};
 use gltf_base::{Index, Listed};
-use gltf_schema::{Error, Object, Reading};
+use gltf_schema::{Error, Object, Reading, Writing};
 use serde_json::{Map, Value};
 use std::alloc::Global;
 
@@ -111,5 +111,22 @@ impl Object for Accessor {
             extensions,
             extras,
         })
+    }
+
+    fn encode_members(&self, alloc: Global) -> Result<Map<String, Value>, Error> {
+        Writing::new(alloc)
+            .optional("bufferView", &self.buffer_view)
+            .optional("byteOffset", &self.byte_offset)
+            .always("count", &self.count)
+            .always("componentType", &self.component_type)
+            .always("type", &self.type_)
+            .optional("min", &self.min)
+            .optional("max", &self.max)
+            .optional("name", &self.name)
+            .unless("normalized", &self.normalized, false)
+            .optional("sparse", &self.sparse)
+            .optional("extensions", &self.extensions)
+            .optional("extras", &self.extras)
+            .finish()
     }
 }

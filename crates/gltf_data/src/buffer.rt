@@ -12,7 +12,7 @@ use crate::extras::Extras;
 use gltf_base::buffer::Target;
 use gltf_base::validation::{Checked, USize64};
 use gltf_base::{Index, Listed};
-use gltf_schema::{Error, Object, Reading, Schema};
+use gltf_schema::{Error, Object, Reading, Schema, Writing};
 use serde_json::{Map, Value};
 use std::alloc::Global;
 
@@ -32,6 +32,10 @@ impl Schema for Stride {
             Some(n) => Ok(Stride(n as usize)),
             None => Err(Error::Schema),
         }
+    }
+
+    fn encode(&self, _alloc: Global) -> Result<Value, Error> {
+        Ok(Value::from(self.0))
     }
 }
 
@@ -91,6 +95,16 @@ impl Object for Buffer {
             extensions,
             extras,
         })
+    }
+
+    fn encode_members(&self, alloc: Global) -> Result<Map<String, Value>, Error> {
+        Writing::new(alloc)
+            .always("byteLength", &self.byte_length)
+            .optional("name", &self.name)
+            .optional("uri", &self.uri)
+            .optional("extensions", &self.extensions)
+            .optional("extras", &self.extras)
+            .finish()
     }
 }
 
@@ -166,5 +180,18 @@ impl Object for View {
             extensions,
             extras,
         })
+    }
+
+    fn encode_members(&self, alloc: Global) -> Result<Map<String, Value>, Error> {
+        Writing::new(alloc)
+            .always("buffer", &self.buffer)
+            .always("byteLength", &self.byte_length)
+            .optional("byteOffset", &self.byte_offset)
+            .optional("byteStride", &self.byte_stride)
+            .optional("name", &self.name)
+            .optional("target", &self.target)
+            .optional("extensions", &self.extensions)
+            .optional("extras", &self.extras)
+            .finish()
     }
 }

@@ -11,7 +11,7 @@ use crate::buffer::View;
 use crate::extensions;
 use crate::extras::Extras;
 use gltf_base::{Index, Listed};
-use gltf_schema::{Error, Object, Reading, Schema};
+use gltf_schema::{Error, Object, Reading, Schema, Writing};
 use serde_json::{Map, Value};
 use std::alloc::Global;
 
@@ -28,6 +28,10 @@ impl Schema for MimeType {
 
     fn decode(alloc: Global, value: Value) -> Result<MimeType, Error> {
         Ok(MimeType(String::decode(alloc, value)?))
+    }
+
+    fn encode(&self, alloc: Global) -> Result<Value, Error> {
+        self.0.encode(alloc)
     }
 }
 
@@ -92,5 +96,16 @@ impl Object for Image {
             extensions,
             extras,
         })
+    }
+
+    fn encode_members(&self, alloc: Global) -> Result<Map<String, Value>, Error> {
+        Writing::new(alloc)
+            .optional("bufferView", &self.buffer_view)
+            .optional("mimeType", &self.mime_type)
+            .optional("name", &self.name)
+            .optional("uri", &self.uri)
+            .optional("extensions", &self.extensions)
+            .optional("extras", &self.extras)
+            .finish()
     }
 }

@@ -1,8 +1,8 @@
 //! What documents are read from and written to.
 
 ghost use Rattle.std.specs.Prelude.{◌≡◌, ◌+◌, ◌<◌, ◌≤◌, ◌&&◌, ℕ, List, [], Bool, Option, None, true, false, nat_eq, nat_lt, length, IfOk, IfErr, OnOk, OnErr, MatchResult};
-ghost use Rattle.std.specs.Io.KnownBytes.{ReadConsumes, WriteAppends};
-ghost use Rattle.gltf_devices.specs.Device.{Seen, saturated, IsFresh, IsWithin, IsReadToEnd, GaveUp};
+ghost use Rattle.std.specs.Io.KnownBytes.{Appends, ReadConsumes, WriteAppends};
+ghost use Rattle.gltf_devices.specs.Device.{Seen, saturated, IsFresh, IsWithin, IsReadToEnd, GaveUp, AppendsFront};
 
 use gltf_schema::Error as DocumentError;
 use std::alloc::Global;
@@ -105,4 +105,20 @@ fn fill<R: ByteIn>(
         bytes.extend_from_slice(&piece[..count])?;
     }
     Err(DocumentError::TooLong)
+}
+
+/// Writes all bytes, in as many calls as the writer needs. `Err` comes where a call failed, and then a
+/// front of the bytes was taken.
+#[tactic(auto, using(crate::proofs::WriteLemmas::writes))]
+pub fn write_all<W: ByteOut>(writer: &mut W, bytes: &[u8]) -> Result<(), Failed>
+    ensures works { OnOk result (W.has_failed writer.new ≡ W.has_failed writer.old) }
+    ensures breaks { OnErr result (W.has_failed writer.new ≡ true) }
+    ensures front { AppendsFront (W.taken writer.old) (W.taken writer.new) bytes.now }
+    ensures whole { OnOk result (Appends (W.taken writer.old) (W.taken writer.new) bytes.now) }
+{
+    let mut at = 0;
+    while at < bytes.len() {
+        at += writer.write(&bytes[at..])?;
+    }
+    Ok(())
 }

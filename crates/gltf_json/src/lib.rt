@@ -1,5 +1,5 @@
-//! glTF 2.0 documents: read from JSON, and checked against the table of the format. This crate names
-//! what the crates below it hold, under the modules of the format.
+//! glTF 2.0 documents: read from JSON, checked against the table of the format, and written. This
+//! crate names what the crates below it hold, under the modules of the format.
 #![tactic(auto)]
 
 pub use gltf_base::{Index, Path, Real, path};

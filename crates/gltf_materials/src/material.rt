@@ -12,7 +12,7 @@ use gltf_base::material::AlphaMode;
 use gltf_base::validation::Checked;
 use gltf_base::{Index, Listed, Real};
 use gltf_data::extras::Extras;
-use gltf_schema::{Blank, Error, Object, Reading, Schema};
+use gltf_schema::{Blank, Error, Object, Reading, Schema, Writing};
 use gltf_shading::extensions;
 use gltf_shading::material::StrengthFactor;
 use gltf_textures::texture::{Info, Texture};
@@ -131,6 +131,22 @@ impl Object for Material {
             extras,
         })
     }
+
+    fn encode_members(&self, alloc: Global) -> Result<Map<String, Value>, Error> {
+        Writing::new(alloc)
+            .optional("alphaCutoff", &self.alpha_cutoff)
+            .always("alphaMode", &self.alpha_mode)
+            .always("doubleSided", &self.double_sided)
+            .optional("name", &self.name)
+            .always("pbrMetallicRoughness", &self.pbr_metallic_roughness)
+            .optional("normalTexture", &self.normal_texture)
+            .optional("occlusionTexture", &self.occlusion_texture)
+            .optional("emissiveTexture", &self.emissive_texture)
+            .optional("emissiveFactor", &self.emissive_factor.0)
+            .optional("extensions", &self.extensions)
+            .optional("extras", &self.extras)
+            .finish()
+    }
 }
 
 /// The parameters of the metallic-roughness model.
@@ -204,6 +220,18 @@ impl Object for PbrMetallicRoughness {
             extras,
         })
     }
+
+    fn encode_members(&self, alloc: Global) -> Result<Map<String, Value>, Error> {
+        Writing::new(alloc)
+            .optional("baseColorFactor", &self.base_color_factor.0)
+            .optional("baseColorTexture", &self.base_color_texture)
+            .optional("metallicFactor", &self.metallic_factor.0)
+            .optional("roughnessFactor", &self.roughness_factor.0)
+            .optional("metallicRoughnessTexture", &self.metallic_roughness_texture)
+            .optional("extensions", &self.extensions)
+            .optional("extras", &self.extras)
+            .finish()
+    }
 }
 
 impl Blank for PbrMetallicRoughness {
@@ -253,6 +281,16 @@ impl Object for NormalTexture {
             extras,
         })
     }
+
+    fn encode_members(&self, alloc: Global) -> Result<Map<String, Value>, Error> {
+        Writing::new(alloc)
+            .always("index", &self.index)
+            .optional("scale", &self.scale)
+            .always("texCoord", &self.tex_coord)
+            .optional("extensions", &self.extensions)
+            .optional("extras", &self.extras)
+            .finish()
+    }
 }
 
 /// A reference to a texture of occlusion.
@@ -296,6 +334,16 @@ impl Object for OcclusionTexture {
             extras,
         })
     }
+
+    fn encode_members(&self, alloc: Global) -> Result<Map<String, Value>, Error> {
+        Writing::new(alloc)
+            .always("index", &self.index)
+            .optional("strength", &self.strength.0)
+            .always("texCoord", &self.tex_coord)
+            .optional("extensions", &self.extensions)
+            .optional("extras", &self.extras)
+            .finish()
+    }
 }
 
 /// Below which alpha nothing is shown.
@@ -311,6 +359,10 @@ impl Schema for AlphaCutoff {
 
     fn decode(alloc: Global, value: Value) -> Result<AlphaCutoff, Error> {
         Ok(AlphaCutoff(Real::decode(alloc, value)?))
+    }
+
+    fn encode(&self, alloc: Global) -> Result<Value, Error> {
+        self.0.encode(alloc)
     }
 }
 

@@ -14,7 +14,7 @@ use gltf_base::{Index, Listed, Real};
 use gltf_data::accessor::Accessor;
 use gltf_data::extras::Extras;
 use gltf_materials::material::Material;
-use gltf_schema::{Error, Object, Reading};
+use gltf_schema::{Error, Object, Reading, Writing};
 use serde_json::{Map, Value};
 use std::alloc::Global;
 use std::collections::BTreeMap;
@@ -77,6 +77,16 @@ impl Object for Mesh {
             weights,
         })
     }
+
+    fn encode_members(&self, alloc: Global) -> Result<Map<String, Value>, Error> {
+        Writing::new(alloc)
+            .optional("extensions", &self.extensions)
+            .optional("extras", &self.extras)
+            .optional("name", &self.name)
+            .always("primitives", &self.primitives)
+            .optional("weights", &self.weights)
+            .finish()
+    }
 }
 
 /// A part of a mesh: what is drawn at once, with one material.
@@ -128,6 +138,18 @@ impl Object for Primitive {
             targets,
         })
     }
+
+    fn encode_members(&self, alloc: Global) -> Result<Map<String, Value>, Error> {
+        Writing::new(alloc)
+            .always("attributes", &self.attributes)
+            .optional("extensions", &self.extensions)
+            .optional("extras", &self.extras)
+            .optional("indices", &self.indices)
+            .optional("material", &self.material)
+            .unless("mode", &self.mode, Checked::Valid(Mode::Triangles))
+            .optional("targets", &self.targets)
+            .finish()
+    }
 }
 
 /// What a morph target adds to each vertex.
@@ -164,5 +186,13 @@ impl Object for MorphTarget {
             normals,
             tangents,
         })
+    }
+
+    fn encode_members(&self, alloc: Global) -> Result<Map<String, Value>, Error> {
+        Writing::new(alloc)
+            .optional("POSITION", &self.positions)
+            .optional("NORMAL", &self.normals)
+            .optional("TANGENT", &self.tangents)
+            .finish()
     }
 }

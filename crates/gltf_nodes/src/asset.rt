@@ -8,7 +8,7 @@ ghost use Rattle.gltf_nodes.specs.AssetTrees.{asset_members, asset_of_version};
 
 use crate::extensions;
 use gltf_data::extras::Extras;
-use gltf_schema::{Blank, Error, Object, Reading};
+use gltf_schema::{Blank, Error, Object, Reading, Writing};
 use serde_json::{Map, Value};
 use std::alloc::{AllocError, Global};
 
@@ -95,6 +95,17 @@ impl Object for Asset {
             extensions,
             extras,
         })
+    }
+
+    fn encode_members(&self, alloc: Global) -> Result<Map<String, Value>, Error> {
+        Writing::new(alloc)
+            .optional("copyright", &self.copyright)
+            .optional("generator", &self.generator)
+            .optional("minVersion", &self.min_version)
+            .always("version", &self.version)
+            .optional("extensions", &self.extensions)
+            .optional("extras", &self.extras)
+            .finish()
     }
 }
 

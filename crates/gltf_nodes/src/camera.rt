@@ -12,7 +12,7 @@ use gltf_base::camera::CameraType;
 use gltf_base::validation::Checked;
 use gltf_base::{Listed, Real};
 use gltf_data::extras::Extras;
-use gltf_schema::{Error, Object, Reading};
+use gltf_schema::{Error, Object, Reading, Writing};
 use serde_json::{Map, Value};
 use std::alloc::Global;
 
@@ -79,6 +79,17 @@ impl Object for Camera {
             extras,
         })
     }
+
+    fn encode_members(&self, alloc: Global) -> Result<Map<String, Value>, Error> {
+        Writing::new(alloc)
+            .optional("name", &self.name)
+            .optional("orthographic", &self.orthographic)
+            .optional("perspective", &self.perspective)
+            .always("type", &self.type_)
+            .optional("extensions", &self.extensions)
+            .optional("extras", &self.extras)
+            .finish()
+    }
 }
 
 /// A projection without perspective.
@@ -126,6 +137,17 @@ impl Object for Orthographic {
             extras,
         })
     }
+
+    fn encode_members(&self, alloc: Global) -> Result<Map<String, Value>, Error> {
+        Writing::new(alloc)
+            .always("xmag", &self.xmag)
+            .always("ymag", &self.ymag)
+            .always("zfar", &self.zfar)
+            .always("znear", &self.znear)
+            .optional("extensions", &self.extensions)
+            .optional("extras", &self.extras)
+            .finish()
+    }
 }
 
 /// A projection with perspective.
@@ -172,5 +194,16 @@ impl Object for Perspective {
             extensions,
             extras,
         })
+    }
+
+    fn encode_members(&self, alloc: Global) -> Result<Map<String, Value>, Error> {
+        Writing::new(alloc)
+            .optional("aspectRatio", &self.aspect_ratio)
+            .always("yfov", &self.yfov)
+            .optional("zfar", &self.zfar)
+            .always("znear", &self.znear)
+            .optional("extensions", &self.extensions)
+            .optional("extras", &self.extras)
+            .finish()
     }
 }

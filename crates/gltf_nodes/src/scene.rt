@@ -14,7 +14,7 @@ use crate::skin::Skin;
 use gltf_base::{Index, Listed, Real};
 use gltf_data::extras::Extras;
 use gltf_meshes::mesh::Mesh;
-use gltf_schema::{Error, Object, Reading, Schema};
+use gltf_schema::{Error, Object, Reading, Schema, Writing};
 use serde_json::{Map, Value};
 use std::alloc::Global;
 
@@ -132,6 +132,23 @@ impl Object for Node {
             weights,
         })
     }
+
+    fn encode_members(&self, alloc: Global) -> Result<Map<String, Value>, Error> {
+        Writing::new(alloc)
+            .optional("camera", &self.camera)
+            .optional("children", &self.children)
+            .optional("extensions", &self.extensions)
+            .optional("extras", &self.extras)
+            .optional("matrix", &self.matrix)
+            .optional("mesh", &self.mesh)
+            .optional("name", &self.name)
+            .optional("rotation", &self.rotation)
+            .optional("scale", &self.scale)
+            .optional("translation", &self.translation)
+            .optional("skin", &self.skin)
+            .optional("weights", &self.weights)
+            .finish()
+    }
 }
 
 /// The nodes that are shown together.
@@ -187,6 +204,15 @@ impl Object for Scene {
             nodes,
         })
     }
+
+    fn encode_members(&self, alloc: Global) -> Result<Map<String, Value>, Error> {
+        Writing::new(alloc)
+            .optional("extensions", &self.extensions)
+            .optional("extras", &self.extras)
+            .optional("name", &self.name)
+            .list("nodes", &self.nodes)
+            .finish()
+    }
 }
 
 /// A rotation as a quaternion of length 1: x, y, z, w.
@@ -216,5 +242,9 @@ impl Schema for UnitQuaternion {
 
     fn decode(alloc: Global, value: Value) -> Result<UnitQuaternion, Error> {
         Ok(UnitQuaternion(Schema::decode(alloc, value)?))
+    }
+
+    fn encode(&self, alloc: Global) -> Result<Value, Error> {
+        self.0.encode(alloc)
     }
 }

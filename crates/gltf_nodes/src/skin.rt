@@ -12,7 +12,7 @@ use crate::scene::Node;
 use gltf_base::{Index, Listed};
 use gltf_data::accessor::Accessor;
 use gltf_data::extras::Extras;
-use gltf_schema::{Error, Object, Reading};
+use gltf_schema::{Error, Object, Reading, Writing};
 use serde_json::{Map, Value};
 use std::alloc::Global;
 
@@ -78,5 +78,16 @@ impl Object for Skin {
             name,
             skeleton,
         })
+    }
+
+    fn encode_members(&self, alloc: Global) -> Result<Map<String, Value>, Error> {
+        Writing::new(alloc)
+            .optional("extensions", &self.extensions)
+            .optional("extras", &self.extras)
+            .optional("inverseBindMatrices", &self.inverse_bind_matrices)
+            .list("joints", &self.joints)
+            .optional("name", &self.name)
+            .optional("skeleton", &self.skeleton)
+            .finish()
     }
 }

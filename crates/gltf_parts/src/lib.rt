@@ -3,7 +3,7 @@
 //! modules of the format.
 #![tactic(auto)]
 
-pub use gltf_schema::{Blank, Error, Object, Reading, Schema, Unlisted};
+pub use gltf_schema::{Blank, Error, Object, Omittable, Reading, Schema, Unlisted, Writing};
 
 /// Accessors: how the data of a view is read as elements.
 pub mod accessor {

@@ -5,3 +5,4 @@ pub mod RootExtensionTrees
 pub mod Lists
 pub mod Items
 pub mod Answer
+pub mod Written

@@ -1,4 +1,5 @@
-//! Whole glTF 2.0 documents: their lists, and how they are read from bytes and devices.
+//! Whole glTF 2.0 documents: their lists, and how they are read from bytes and devices and written
+//! to them.
 #![tactic(auto)]
 
 pub mod extensions;

@@ -20,7 +20,7 @@ use gltf_nodes::asset::Asset;
 use gltf_nodes::camera::Camera;
 use gltf_nodes::scene::{Node, Scene};
 use gltf_nodes::skin::Skin;
-use gltf_schema::{Error, Object, Reading};
+use gltf_schema::{Error, Object, Reading, Writing};
 use gltf_textures::texture::{self, Texture};
 use serde_json::{Map, Value};
 use std::alloc::{AllocError, Global};
@@ -28,6 +28,7 @@ use std::alloc::{AllocError, Global};
 mod get;
 mod items;
 mod parse;
+mod print;
 
 pub use get::{Get, RootItem};
 
@@ -175,5 +176,29 @@ impl Object for Root {
             skins,
             textures,
         })
+    }
+
+    fn encode_members(&self, alloc: Global) -> Result<Map<String, Value>, Error> {
+        Writing::new(alloc)
+            .list("accessors", &self.accessors)
+            .list("animations", &self.animations)
+            .always("asset", &self.asset)
+            .list("buffers", &self.buffers)
+            .list("bufferViews", &self.buffer_views)
+            .optional("scene", &self.scene)
+            .optional("extensions", &self.extensions)
+            .optional("extras", &self.extras)
+            .list("extensionsUsed", &self.extensions_used)
+            .list("extensionsRequired", &self.extensions_required)
+            .list("cameras", &self.cameras)
+            .list("images", &self.images)
+            .list("materials", &self.materials)
+            .list("meshes", &self.meshes)
+            .list("nodes", &self.nodes)
+            .list("samplers", &self.samplers)
+            .list("scenes", &self.scenes)
+            .list("skins", &self.skins)
+            .list("textures", &self.textures)
+            .finish()
     }
 }

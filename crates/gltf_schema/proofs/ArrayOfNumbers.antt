@@ -1,15 +1,17 @@
--- Numbers read as the items of a list are those of an array.
-use Rattle.std.proofs.Common.{◌≡◌, ◌≢◌, ℕ, nat_eq, length, List, [], ◌∷◌, map, Option, Some, None, option_map, Result, Ok, Err, refl, ap, ◌∙◌, if◌then◌else◌}
+-- Numbers read and written as the items of a list are those of an array.
+use Rattle.std.proofs.Common.{◌≡◌, ◌≢◌, ℕ, nat_eq, length, List, [], ◌∷◌, map, Option, Some, None, option_map, Result, Ok, Err, refl, sym, ap, ◌∙◌, if◌then◌else◌}
 use Rattle.std.proofs.lemmas.Bool.{eq-eqb, ne_eqb}
 use Rattle.std.proofs.lemmas.List.{length-map}
 use Rattle.std.specs.Option.{ok_or}
 use Rattle.std.specs.Result.{MatchResult, result_ok}
-use Rattle.serde_json.specs.Data.{Num, unsigned, Items, no_items, item}
+use Rattle.serde_json.specs.Data.{Num, unsigned, Data, array, Items, no_items, item}
+use Rattle.serde_json.specs.Data as json
 use Rattle.serde_json.specs.Find.{as_number}
 use Rattle.gltf_paths.specs.Reals.{real_number}
 use Rattle.gltf_paths.specs.declared.real.Real.{Real}
 use Rattle.gltf_schema.specs.declared.error.Error.{Error}
 use Rattle.gltf_schema.specs.declared.error.Error.TheVariants as errors
+use Rattle.gltf_schema.specs.Write.{write, write_items, number_items}
 use Rattle.gltf_schema.specs.Outcome.{Reads, Refuses}
 use Rattle.gltf_schema.specs.Maybe.{◌>>=◌}
 use Rattle.gltf_schema.specs.Tree.{Tree, number, numbers, Trees, end, with_tree, trees}
@@ -65,3 +67,14 @@ array_read r ds xs n items h = rw (reals_are_numbers ds xs items, length-map xs 
 pub array_refused : (e : Error) (ds : Items) (n : ℕ) → Refuses e (read_items (read Number) ds)
     → Refuses e (all_numbers ds >>= λ ys. if nat_eq (length ys) n then Some (numbers ys) else None)
 array_refused e ds n h = refused_then e _ (all_numbers ds) (rw (numbers_are_items ds) (refused e numbers_of _ h))
+
+-- reals are written as the array's numbers
+pub reals_written : (xs : List Real) → write_items (write Number) (trees (map real_tree xs)) ≡ Some (number_items (map real_number xs))
+reals_written [] = refl
+reals_written (x ∷ xs) = ap (option_map (item (json.number (real_number x)))) (reals_written xs)
+
+-- an array has as many reals as it has places
+pub array_written : (xs : List Real) (n : ℕ) (ds : Items) → length xs ≡ n → write_items (write Number) (trees (map real_tree xs)) ≡ Some ds
+    → (if nat_eq (length (map real_number xs)) n then Some (array (number_items (map real_number xs))) else None) ≡ Some (array ds)
+array_written xs n ds long h =
+    rw (eq-eqb (length (map real_number xs)) n (length-map xs real_number ∙ long)) (ap (option_map array) (sym (reals_written xs) ∙ h))

@@ -11,7 +11,7 @@ use Rattle.gltf_schema.specs.Read.{choice_among}
 use Rattle.gltf_schema.specs.Leaves.{checked_tree}
 
 -- spellings that are found the same are the same
-same_spelling : (s t : Spelling) → is_spelled s t ≡ true → s ≡ t
+pub same_spelling : (s t : Spelling) → is_spelled s t ≡ true → s ≡ t
 same_spelling (by_number m) (by_number n) h = ap by_number (eqb-true m n h)
 same_spelling (by_number m) (by_name t) h = absurd cc
 same_spelling (by_name s) (by_number n) h = absurd cc

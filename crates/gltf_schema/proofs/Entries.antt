@@ -1,6 +1,7 @@
 -- Entries of attributes, read in turn.
-use Rattle.std.proofs.Common.{◌≡◌, ℕ, List, [], ◌∷◌, map, Option, Some, None, option_map, refl, sym, ap, ◌∙◌, subst, Ordering, Less, Equal, Greater}
+use Rattle.std.proofs.Common.{◌≡◌, ℕ, List, [], ◌∷◌, map, Bool, true, false, ◌&&◌, Option, Some, None, option_map, refl, sym, ap, ◌∙◌, subst, Ordering, Less, Equal, Greater}
 use Rattle.std.specs.BTreeMap.{insert_entry}
+use Rattle.std.specs.List.Sorted.{IsStrictlySortedBy}
 use Rattle.std.specs.Ordering.{match_ordering}
 use Rattle.serde_json.specs.Data.{Data, Members, member}
 use Rattle.gltf_checked.specs.Keys.{Key, key_cmp}
@@ -8,6 +9,7 @@ use Rattle.gltf_checked.specs.Names.{key_named}
 use Rattle.gltf_schema.specs.declared.error.Error.{Error}
 use Rattle.gltf_schema.specs.Tree.{Tree, index}
 use Rattle.gltf_schema.specs.Read.{read_entries, small_number}
+use Rattle.gltf_schema.specs.Write.{are_in_order, is_less}
 use Rattle.gltf_schema.specs.Outcome.{Refuses}
 use Rattle.gltf_schema.proofs.TakingOut.{refused}
 use Rattle.gltf_schema.proofs.RowByRow.{refused_then}
@@ -29,6 +31,21 @@ inserted cmp cmp' key value same [] k v = refl
 inserted cmp cmp' key value same (e ∷ es) k v =
     meant_at (cmp k e.0) key value _ _ _
     ∙ rw (same k e.0, inserted cmp cmp' key value same es k v) refl
+
+both : (a b : Bool) → a ≡ true → b ≡ true → (a && b) ≡ true
+both true b first second = second
+both false b first second = first
+
+-- entries whose keys ascend mean entries in the order of their keys
+pub in_order : {K V : Type 0} (cmp : K → K → Ordering) (key : K → Key) (value : V → ℕ) → ((a b : K) → cmp a b ≡ key_cmp (key a) (key b))
+    → (es : List (K × V)) → IsStrictlySortedBy cmp (map (λ e. e.0) es) → are_in_order (meant key value es) ≡ true
+unfolding IsStrictlySortedBy
+in_order cmp key value same [] h = refl
+in_order cmp key value same (e ∷ []) h = refl
+in_order cmp key value same (e ∷ f ∷ es) h =
+    both (is_less (key_cmp (key e.0) (key f.0))) (are_in_order (meant key value (f ∷ es)))
+    (ap is_less (sym (same e.0 f.0) ∙ h.0.0))
+    (in_order cmp key value same (f ∷ es) h.1)
 
 abbrev number_in : Tree → ℕ
 number_in (index n) = n

@@ -2,6 +2,11 @@ pub mod TakingOut
 pub mod Items
 pub mod Choosing
 pub mod RowByRow
+pub mod Putting
+pub mod RowsWritten
+pub mod PuttingIn
+pub mod AttributesBack
+pub mod ReadBack
 pub mod ArrayOfNumbers
 pub mod ReadPlain
 pub mod Entries

@@ -3,8 +3,9 @@ use Rattle.std.proofs.Common.{◌≡◌, ℕ, List, [], Bool, true, false, ◌&&
 use Rattle.std.specs.List.{list_any}
 use Rattle.serde_json.specs.Data.{Num, Data, null, boolean, number, string, array, object as json_object, Items, no_items, item, Members, no_members, member}
 use Rattle.serde_json.specs.Find.{get_member, as_null, as_bool, as_number, as_str, as_array, as_object}
-use Rattle.gltf_checked.specs.Spelling.{Spelling, is_spelled}
+use Rattle.gltf_checked.specs.Spelling.{Spelling, by_number, by_name, is_spelled}
 use Rattle.gltf_checked.specs.declared.choice.Form.{Form}
+use Rattle.gltf_checked.specs.declared.choice.Form.TheVariants as form
 use Rattle.gltf_schema.specs.declared.error.Error.{Error}
 use Rattle.gltf_schema.specs.Outcome.{Reads}
 use Rattle.gltf_schema.specs.Maybe.{◌>>=◌}
@@ -12,16 +13,16 @@ use Rattle.gltf_schema.specs.Tree as tree
 use Rattle.gltf_schema.specs.Tree.{Tree, Trees, end, with_tree}
 use Rattle.gltf_schema.specs.Kind.{Mark, required, optional, always, unless, sometimes, or_null, Kind, IndexInto, SourceImage, ChannelSampler, U32, U64, Stride, Number, Numbers, Text, Truth, Any, Choice, Attributes, ListOf, Object, Rows, no_rows, row, has_row}
 use Rattle.gltf_schema.specs.Read.{read, read_rows, read_items, read_member, read_entries, choice_among, spelling_in, small_number, whole_number, all_numbers, others, kept}
-use Rattle.gltf_schema.specs.Plain.{is_plain, are_plain, none_named, are_none, all_trees, is_null_kept, is_sound, are_sound, has_plain_default}
+use Rattle.gltf_schema.specs.Plain.{is_of_form, is_plain, are_plain, none_named, are_none, all_trees, is_null, is_null_kept, is_sound, are_sound, has_plain_default}
 use Rattle.gltf_schema.proofs.TakingOut.{sound_row}
 
 -- ---- what an optional step gave
 
-mapped : {A B : Type 0} (f : A → B) (r : Option A) (y : B) → option_map f r ≡ Some y → (x : A) × (r ≡ Some x) × (f x ≡ y)
+pub mapped : {A B : Type 0} (f : A → B) (r : Option A) (y : B) → option_map f r ≡ Some y → (x : A) × (r ≡ Some x) × (f x ≡ y)
 mapped f None y h = absurd cc
 mapped f (Some x) y h = (x, refl, cc)
 
-bound : {A B : Type 0} (r : Option A) (f : A → Option B) (y : B) → (r >>= f) ≡ Some y → (x : A) × (r ≡ Some x) × (f x ≡ Some y)
+pub bound : {A B : Type 0} (r : Option A) (f : A → Option B) (y : B) → (r >>= f) ≡ Some y → (x : A) × (r ≡ Some x) × (f x ≡ Some y)
 bound None f y h = absurd cc
 bound (Some x) f y h = (x, refl, h)
 
@@ -49,12 +50,17 @@ kept_or_none false rows ms = refl
 
 -- ---- marks and leaves
 
-choice_plain_at : (b : Bool) (form : Form) (listed : List Spelling) (s : Spelling) → list_any (λ t. is_spelled t s) listed ≡ b → is_plain (Choice form listed) (cond b (tree.chosen s) tree.invalid) ≡ true
-choice_plain_at true form listed s is = is
-choice_plain_at false form listed s is = refl
+spelled_of_form : (f : Form) (d : Data) (s : Spelling) → spelling_in f d ≡ Some s → is_of_form f s ≡ true
+spelled_of_form form.Number d s h = let n = mapped by_number (whole_number d) s h in rw (← n.2) refl
+spelled_of_form form.Name d s h = let t = mapped by_name (as_str d) s h in rw (← t.2) refl
 
-choice_plain : (form : Form) (listed : List Spelling) (s : Spelling) → is_plain (Choice form listed) (choice_among listed s) ≡ true
-choice_plain form listed s = choice_plain_at _ form listed s refl
+choice_plain_at : (b : Bool) (f : Form) (listed : List Spelling) (s : Spelling) → is_of_form f s ≡ true → list_any (λ t. is_spelled t s) listed ≡ b
+    → is_plain (Choice f listed) (cond b (tree.chosen s) tree.invalid) ≡ true
+choice_plain_at true f listed s of_form is = rw of_form is
+choice_plain_at false f listed s of_form is = refl
+
+choice_plain : (f : Form) (listed : List Spelling) (d : Data) (s : Spelling) → spelling_in f d ≡ Some s → is_plain (Choice f listed) (choice_among listed s) ≡ true
+choice_plain f listed d s h = choice_plain_at _ f listed s (spelled_of_form f d s h) refl
 
 absent_plain : (kind : Kind) → is_plain kind tree.absent ≡ true
 absent_plain (Choice form listed) = refl
@@ -75,14 +81,14 @@ absent_plain (Attributes named) = refl
 
 -- ---- a null that is read is kept nowhere
 
-not_null_from : {A : Type 0} (make : A → Tree) → ((x : A) → is_null_kept optional (make x) ≡ false) → (r : Option A) (t : Tree) → option_map make r ≡ Some t → is_null_kept optional t ≡ false
+not_null_from : {A : Type 0} (make : A → Tree) → ((x : A) → is_null (make x) ≡ false) → (r : Option A) (t : Tree) → option_map make r ≡ Some t → is_null t ≡ false
 not_null_from make h r t e = let x = mapped make r t e in rw (← x.2) (h x.0)
 
-choice_not_null_at : (b : Bool) (s : Spelling) → is_null_kept optional (cond b (tree.chosen s) tree.invalid) ≡ false
+choice_not_null_at : (b : Bool) (s : Spelling) → is_null (cond b (tree.chosen s) tree.invalid) ≡ false
 choice_not_null_at true s = refl
 choice_not_null_at false s = refl
 
-some_not_null : (d : Data) → is_some (as_null d) ≡ false → is_null_kept optional (tree.any d) ≡ false
+some_not_null : (d : Data) → is_some (as_null d) ≡ false → is_null (tree.any d) ≡ false
 some_not_null null h = absurd cc
 some_not_null (boolean b) h = refl
 some_not_null (number x) h = refl
@@ -90,11 +96,11 @@ some_not_null (string s) h = refl
 some_not_null (array ds) h = refl
 some_not_null (json_object ms) h = refl
 
-numbers_not_null : (b : Bool) (xs : List Num) (t : Tree) → cond b (Some (tree.numbers xs)) None ≡ Some t → is_null_kept optional t ≡ false
+numbers_not_null : (b : Bool) (xs : List Num) (t : Tree) → cond b (Some (tree.numbers xs)) None ≡ Some t → is_null t ≡ false
 numbers_not_null true xs t h = let e : tree.numbers xs ≡ t = cc in rw (← e) refl
 numbers_not_null false xs t h = absurd cc
 
-not_null : (kind : Kind) (d : Data) (t : Tree) → is_some (as_null d) ≡ false → read kind d ≡ Some t → is_null_kept optional t ≡ false
+not_null : (kind : Kind) (d : Data) (t : Tree) → is_some (as_null d) ≡ false → read kind d ≡ Some t → is_null t ≡ false
 not_null (IndexInto named) d t some h = not_null_from tree.index (λ x. refl) (small_number d) t h
 not_null SourceImage d t some h = not_null_from tree.index (λ x. refl) (small_number d) t h
 not_null ChannelSampler d t some h = not_null_from tree.index (λ x. refl) (small_number d) t h
@@ -137,15 +143,11 @@ record IsPlainMember (mark : Mark) (kind : Kind) (t : Tree) : Type 0 where
 absent_member : (mark : Mark) (kind : Kind) (t : Tree) → not (is_null_kept mark tree.absent) ≡ true → Some tree.absent ≡ Some t → IsPlainMember mark kind t
 absent_member mark kind t kept h = let e : tree.absent ≡ t = cc in record { seen = rw (← e) kept; plain = rw (← e) (absent_plain kind) }
 
-present_at : (b : Bool) (kind : Kind) (d : Data) (t : Tree) → is_some (as_null d) ≡ b → ((t : Tree) → read kind d ≡ Some t → is_plain kind t ≡ true)
-    → cond b (Some tree.absent) (read kind d) ≡ Some t → IsPlainMember optional kind t
-present_at true kind d t is each h = absent_member optional kind t refl h
-present_at false kind d t is each h = record { seen = rw (not_null kind d t is h) refl; plain = each t h }
-
-present_or_null_at : (b : Bool) (kind : Kind) (d : Data) (t : Tree) → ((t : Tree) → read kind d ≡ Some t → is_plain kind t ≡ true)
-    → cond b (Some tree.absent) (read kind d) ≡ Some t → IsPlainMember or_null kind t
-present_or_null_at true kind d t each h = absent_member or_null kind t refl h
-present_or_null_at false kind d t each h = record { seen = refl; plain = each t h }
+-- where null is read as absent
+present_at : (b : Bool) (mark : Mark) (kind : Kind) (d : Data) (t : Tree) → ((u : Tree) → is_null_kept mark u ≡ is_null u) → is_some (as_null d) ≡ b
+    → ((t : Tree) → read kind d ≡ Some t → is_plain kind t ≡ true) → cond b (Some tree.absent) (read kind d) ≡ Some t → IsPlainMember mark kind t
+present_at true mark kind d t kept is each h = absent_member mark kind t (rw (kept tree.absent) refl) h
+present_at false mark kind d t kept is each h = record { seen = rw (kept t, not_null kind d t is h) refl; plain = each t h }
 
 default_member : (kind : Kind) (default t : Tree) → is_plain kind default ≡ true → Some default ≡ Some t → is_plain kind t ≡ true
 default_member kind default t plain h = let e : default ≡ t = cc in rw (← e) plain
@@ -155,7 +157,7 @@ member_plain : (mark : Mark) (kind : Kind) (m : Option Data) (t : Tree) → has_
 member_plain required kind None t default each h = absurd cc
 member_plain required kind (Some d) t default each h = record { seen = refl; plain = each d t h }
 member_plain optional kind None t default each h = absent_member optional kind t refl h
-member_plain optional kind (Some d) t default each h = present_at _ kind d t refl (each d) h
+member_plain optional kind (Some d) t default each h = present_at _ optional kind d t (λ u. refl) refl (each d) h
 member_plain (always x) kind None t default each h = record { seen = refl; plain = default_member kind x t default h }
 member_plain (always x) kind (Some d) t default each h = record { seen = refl; plain = each d t h }
 member_plain (unless x) kind None t default each h = record { seen = refl; plain = default_member kind x t default h }
@@ -163,7 +165,7 @@ member_plain (unless x) kind (Some d) t default each h = record { seen = refl; p
 member_plain sometimes kind None t default each h = absent_member sometimes kind t refl h
 member_plain sometimes kind (Some d) t default each h = record { seen = refl; plain = each d t h }
 member_plain or_null kind None t default each h = absent_member or_null kind t refl h
-member_plain or_null kind (Some d) t default each h = present_or_null_at _ kind d t (each d) h
+member_plain or_null kind (Some d) t default each h = present_at _ or_null kind d t (λ u. refl) refl (each d) h
 
 mutual
   -- what a sound kind reads is plain
@@ -180,7 +182,7 @@ mutual
   read_plain Truth d t sound h = refl
   read_plain Any d t sound h = refl
   read_plain (Attributes named) d t sound h = refl
-  read_plain (Choice form listed) d t sound h = let s = mapped (choice_among listed) (spelling_in form d) t h in rw (← s.2) (choice_plain form listed s.0)
+  read_plain (Choice f listed) d t sound h = let s = mapped (choice_among listed) (spelling_in f d) t h in rw (← s.2) (choice_plain f listed d s.0 s.1)
   read_plain (ListOf kind) d t sound h =
       let ds = bound (as_array d) _ t h in
       let ts = mapped tree.list (read_items (read kind) ds.0) t ds.2 in

@@ -75,7 +75,7 @@ get_without : (q n : List ℕ) (ms : Members) → bytes_eq q n ≡ false → get
 get_without q n no_members apart = refl
 get_without q n (member m d ms) apart = get_without_at _ q n m d ms refl apart (get_without q n ms apart)
 
-neither : (a b : Bool) → (a || b) ≡ false → (a ≡ false) × (b ≡ false)
+pub neither : (a b : Bool) → (a || b) ≡ false → (a ≡ false) × (b ≡ false)
 neither true b h = absurd (true≢false h)
 neither false b h = (refl, h)
 
@@ -87,7 +87,7 @@ pub second_of_both : (a b : Bool) → (a && b) ≡ true → b ≡ true
 second_of_both true b h = h
 second_of_both false b h = absurd (false≢true h)
 
-not_true : (b : Bool) → not b ≡ true → b ≡ false
+pub not_true : (b : Bool) → not b ≡ true → b ≡ false
 not_true true h = absurd (false≢true h)
 not_true false h = refl
 

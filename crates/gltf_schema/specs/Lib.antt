@@ -2,11 +2,14 @@ pub mod Maybe
 pub mod Tree
 pub mod Kind
 pub mod Read
+pub mod Write
+pub mod Put
 pub mod Plain
 pub mod Outcome
 pub mod ErrorText
 pub mod Taken
 pub mod Readings
+pub mod Writings
 pub mod Leaves
 pub mod Fields
 pub mod Defaults

@@ -1,4 +1,4 @@
--- What a call that reads answers, want of memory aside.
+-- What a call that reads or writes answers, want of memory aside.
 use Rattle.std.specs.Prelude.{◌≡◌, Option, Some, None, Result, Ok, Err}
 use Rattle.gltf_schema.specs.declared.error.Error.{Error}
 use Rattle.gltf_schema.specs.declared.error.Error.TheVariants as errors
@@ -13,3 +13,14 @@ Refuses _ read = ⊥
 abbrev pub Reads : {X Y : Type 0} → (X → Y) → Result X Error → Option Y → Type 0
 Reads view (Ok x) read = read ≡ Some (view x)
 Reads view (Err e) read = Refuses e read
+
+-- only what is not written is refused, and as an invalid item
+abbrev pub Withholds : {Y : Type 0} → Error → Option Y → Type 0
+Withholds (errors.Memory e) written = Unit {0}
+Withholds errors.InvalidItem written = written ≡ None
+Withholds _ written = ⊥
+
+-- the value, seen by view, is what is written
+abbrev pub Writes : {X Y : Type 0} → (X → Y) → Result X Error → Option Y → Type 0
+Writes view (Ok x) written = written ≡ Some (view x)
+Writes view (Err e) written = Withholds e written

@@ -2,14 +2,28 @@
 use Rattle.std.specs.Prelude.{Bool, true, false, not, ◌&&◌, ◌||◌}
 use Rattle.std.specs.List.{list_any}
 use Rattle.serde_json.specs.Data.{null, Members, no_members, member}
-use Rattle.gltf_checked.specs.Spelling.{is_spelled}
+use Rattle.gltf_checked.specs.Spelling.{Spelling, by_number, by_name, is_spelled}
+use Rattle.gltf_checked.specs.declared.choice.Form.{Form}
+use Rattle.gltf_checked.specs.declared.choice.Form.TheVariants as form
 use Rattle.gltf_schema.specs.Tree.{Tree, any, chosen, list, object, Trees, end, with_tree}
-use Rattle.gltf_schema.specs.Kind.{Mark, optional, always, unless, Kind, Choice, ListOf, Object, Rows, no_rows, row, has_row}
+use Rattle.gltf_schema.specs.Kind.{Mark, optional, always, unless, or_null, Kind, Choice, ListOf, Object, Rows, no_rows, row, has_row}
 
--- an optional member that is there and null
+-- a null that is kept as it stands
+abbrev pub is_null : Tree → Bool
+is_null (any null) = true
+is_null _ = false
+
+-- a member that is there and null, though null is read as absent
 abbrev pub is_null_kept : Mark → Tree → Bool
-is_null_kept optional (any null) = true
-is_null_kept _ _ = false
+is_null_kept optional t = is_null t
+is_null_kept or_null t = is_null t
+is_null_kept _ t = false
+
+-- the spelling is of the choice's form
+abbrev pub is_of_form : Form → Spelling → Bool
+is_of_form form.Number (by_number n) = true
+is_of_form form.Name (by_name s) = true
+is_of_form _ _ = false
 
 -- no member has a row's name
 abbrev pub none_named : Rows → Members → Bool
@@ -27,7 +41,7 @@ all_trees p (with_tree t ts) = p t && all_trees p ts
 abbrev mutual
   -- no null where null is absent, no row's name among the others, and each choice one that is read
   pub is_plain : Kind → Tree → Bool
-  is_plain (Choice form listed) (chosen s) = list_any (λ t. is_spelled t s) listed
+  is_plain (Choice form listed) (chosen s) = is_of_form form s && list_any (λ t. is_spelled t s) listed
   is_plain (ListOf kind) (list ts) = all_trees (is_plain kind) ts
   is_plain (Object named rows keeps) (object ts others) = are_plain rows ts && none_named rows others && (keeps || are_none others)
   is_plain _ _ = true

@@ -1,11 +1,14 @@
 //! The attributes of a primitive: an object whose names are semantics and whose values are indexes.
 
-ghost use Rattle.std.specs.Prelude.{[], map, refl};
+ghost use Rattle.std.specs.Prelude.{◌≡◌, [], map, true, OnOk, refl, string_bytes};
+ghost use Rattle.serde_json.specs.Data.{no_members};
 ghost use Rattle.serde_json.specs.View.{members_view};
+ghost use Rattle.gltf_checked.specs.Semantics.{checked_key};
 ghost use Rattle.gltf_schema.specs.Kind.{Attributes};
 ghost use Rattle.gltf_schema.specs.Read.{read_entries};
 ghost use Rattle.gltf_schema.specs.Fields.{entry_of, attributes_tree};
-ghost use Rattle.gltf_schema.specs.Outcome.{Reads};
+ghost use Rattle.gltf_schema.specs.Write.{key_name, are_in_order, write_entries};
+ghost use Rattle.gltf_schema.specs.Outcome.{Reads, Writes};
 
 use crate::error::Error;
 use crate::schema::Schema;
@@ -32,6 +35,10 @@ impl<P: Names> Schema for BTreeMap<Checked<Semantic>, IndexTo<P>> {
         };
         decode_entries(alloc, members)
     }
+
+    fn encode(&self, alloc: Global) -> Result<Value, Error> {
+        Ok(Value::Object(encode_entries(alloc, self)?))
+    }
 }
 
 /// Each member's index under the key that its name means; of names with one key the last one's
@@ -49,4 +56,31 @@ fn decode_entries<P: Names>(
         found.insert(Semantic::checked(alloc, name.as_str())?, index)?;
     }
     Ok(found)
+}
+
+/// Each index under the name of its key.
+fn encode_entries<P: Names>(
+    alloc: Global,
+    attributes: &BTreeMap<Checked<Semantic>, IndexTo<P>>,
+) -> Result<Map<String, Value>, Error>
+    ensures written { Writes (λ m. members_view m.entries) result
+        (write_entries (map entry_of attributes.now.entries) no_members) }
+    ensures in_order { OnOk result (are_in_order (map entry_of attributes.now.entries) ≡ true) }
+{
+    let mut written = Map::new(alloc);
+    for (key, index) in attributes.iter() {
+        let name = name_of(alloc, key)?;
+        drop(written.insert(name, index.encode(alloc)?)?);
+    }
+    Ok(written)
+}
+
+/// The name under which a key is written.
+fn name_of(alloc: Global, key: &Checked<Semantic>) -> Result<String, Error>
+    ensures { Writes string_bytes result (key_name (checked_key key.now)) }
+{
+    match key {
+        Checked::Valid(semantic) => Ok(semantic.to_string(alloc)?),
+        Checked::Invalid => Err(Error::InvalidItem),
+    }
 }

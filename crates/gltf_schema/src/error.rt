@@ -10,11 +10,11 @@ pub enum Error {
     Json,
     /// The JSON is no glTF document.
     Schema,
-    /// An item of a choice was to be written that is none of its values. No call answers it yet.
+    /// An item of a choice, or the key of an attribute, was to be written that is none of its values.
     InvalidItem,
     /// The reader failed.
     Read,
-    /// The writer failed, or took no byte. No call answers it yet.
+    /// The writer failed, or took no byte.
     Write,
     /// A growth was refused.
     Memory(AllocError),

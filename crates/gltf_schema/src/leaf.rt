@@ -8,7 +8,8 @@ ghost use Rattle.gltf_schema.specs.Tree.{whole, number, text, truth, any, index,
 ghost use Rattle.gltf_schema.specs.Kind.{IndexInto, U32, U64, Number, Numbers, Text, Truth, Any, ListOf};
 ghost use Rattle.gltf_schema.specs.Read.{read, read_items, small_number as number_of_32_bits};
 ghost use Rattle.gltf_schema.specs.Fields.{reals_tree};
-ghost use Rattle.gltf_schema.specs.Outcome.{Reads};
+ghost use Rattle.gltf_schema.specs.Write.{write, write_items};
+ghost use Rattle.gltf_schema.specs.Outcome.{Reads, Writes};
 ghost use Rattle.gltf_schema.specs.Leaves.{checked_tree, choice_of, checked_tree-present};
 
 use crate::error::Error;
@@ -29,6 +30,10 @@ impl Schema for u32 {
     fn decode(_alloc: Global, value: Value) -> Result<u32, Error> {
         small_number(&value).ok_or(Error::Schema)
     }
+
+    fn encode(&self, _alloc: Global) -> Result<Value, Error> {
+        Ok(Value::from(*self))
+    }
 }
 
 impl Schema for USize64 {
@@ -43,6 +48,10 @@ impl Schema for USize64 {
             Some(n) => Ok(USize64(n)),
             None => Err(Error::Schema),
         }
+    }
+
+    fn encode(&self, _alloc: Global) -> Result<Value, Error> {
+        Ok(Value::from(self.0))
     }
 }
 
@@ -59,6 +68,10 @@ impl<P: Names> Schema for IndexTo<P> {
             None => Err(Error::Schema),
         }
     }
+
+    fn encode(&self, _alloc: Global) -> Result<Value, Error> {
+        Ok(Value::from(self.number()))
+    }
 }
 
 impl Schema for Real {
@@ -73,6 +86,10 @@ impl Schema for Real {
             Ok(number) => Ok(number),
             Err(_) => Err(Error::Schema),
         }
+    }
+
+    fn encode(&self, _alloc: Global) -> Result<Value, Error> {
+        Ok(self.as_value().clone()?)
     }
 }
 
@@ -90,6 +107,11 @@ impl<const N: usize> Schema for [Real; N] {
         let found: Vec<Real> = decode_items(alloc, items)?;
         <[Real; N]>::try_from(found).ok().ok_or(Error::Schema)
     }
+
+    fn encode(&self, alloc: Global) -> Result<Value, Error> {
+        let numbers: &[Real] = self;
+        Ok(Value::Array(encode_items(alloc, numbers)?))
+    }
 }
 
 impl Schema for bool {
@@ -104,6 +126,10 @@ impl Schema for bool {
             Value::Bool(b) => Ok(b),
             _ => Err(Error::Schema),
         }
+    }
+
+    fn encode(&self, _alloc: Global) -> Result<Value, Error> {
+        Ok(Value::Bool(*self))
     }
 }
 
@@ -120,6 +146,10 @@ impl Schema for String {
             _ => Err(Error::Schema),
         }
     }
+
+    fn encode(&self, _alloc: Global) -> Result<Value, Error> {
+        Ok(Value::String(self.clone()?))
+    }
 }
 
 impl Schema for Value {
@@ -131,6 +161,10 @@ impl Schema for Value {
 
     fn decode(_alloc: Global, value: Value) -> Result<Value, Error> {
         Ok(value)
+    }
+
+    fn encode(&self, _alloc: Global) -> Result<Value, Error> {
+        Ok(self.clone()?)
     }
 }
 
@@ -153,6 +187,16 @@ impl<T: Choice> Schema for Checked<T> {
             },
         }
     }
+
+    fn encode(&self, alloc: Global) -> Result<Value, Error> {
+        let Checked::Valid(item) = self else {
+            return Err(Error::InvalidItem);
+        };
+        match item.spelling() {
+            Spelling::Number(n) => Ok(Value::from(n)),
+            Spelling::Name(name) => Ok(Value::String(String::from_str(alloc, name)?)),
+        }
+    }
 }
 
 impl<T: Schema> Schema for Vec<T> {
@@ -167,6 +211,10 @@ impl<T: Schema> Schema for Vec<T> {
             return Err(Error::Schema);
         };
         decode_items(alloc, items)
+    }
+
+    fn encode(&self, alloc: Global) -> Result<Value, Error> {
+        Ok(Value::Array(encode_items(alloc, self)?))
     }
 }
 
@@ -190,4 +238,16 @@ fn decode_items<T: Schema>(alloc: Global, items: Vec<Value>) -> Result<Vec<T>, E
         found.push(T::decode(alloc, item)?)?;
     }
     Ok(found)
+}
+
+/// Each item, in order.
+fn encode_items<T: Schema>(alloc: Global, items: &[T]) -> Result<Vec<Value>, Error>
+    ensures { Writes (λ v. items_view v.items) result
+        (write_items (write T.kind) (trees (map T.tree items.now))) }
+{
+    let mut written = Vec::with_capacity(alloc, items.len())?;
+    for item in items {
+        written.push(item.encode(alloc)?)?;
+    }
+    Ok(written)
 }

@@ -1,21 +1,23 @@
-//! What is read by the table.
+//! What is read and written by the table.
 
-ghost use Rattle.std.specs.Prelude.{◌≡◌, Bool, true, false, IsTrue, IfOk, Err, refl};
+ghost use Rattle.std.specs.Prelude.{◌≡◌, Bool, true, false, IsTrue, IfOk, Some, Err, refl};
 ghost use Rattle.serde_json.specs.Data.{Members};
 ghost use Rattle.serde_json.specs.View.{view, members_view};
 ghost use Rattle.gltf_schema.specs.Tree.{Tree, Trees, object, is_absent};
 ghost use Rattle.gltf_schema.specs.Kind.{Kind, ObjectName, Rows, Object as object_kind};
 ghost use Rattle.gltf_schema.specs.Read.{read};
+ghost use Rattle.gltf_schema.specs.Write.{write};
+ghost use Rattle.gltf_schema.specs.Put.{put_rows};
 ghost use Rattle.gltf_schema.specs.Plain.{is_plain, are_sound};
 ghost use Rattle.gltf_schema.specs.Taken.{take_all};
 ghost use Rattle.gltf_schema.specs.Leaves.{wants_object};
-ghost use Rattle.gltf_schema.specs.Outcome.{Reads};
+ghost use Rattle.gltf_schema.specs.Outcome.{Reads, Writes};
 
 use crate::error::Error;
 use serde_json::{Map, Value};
 use std::alloc::Global;
 
-/// A type whose values are read as those of a kind of the table.
+/// A type whose values are read and written as those of a kind of the table.
 pub trait Schema: Drop {
     ghost kind: { Kind };
 
@@ -27,6 +29,12 @@ pub trait Schema: Drop {
         ensures by_table { Reads tree result (read kind (view value)) }
         // What is no object needs no memory to be refused.
         ensures no_object { IsTrue (wants_object kind (view value)) → result ≡ Err Error.Schema };
+
+    /// The JSON value that the value is written as. `InvalidItem` comes exactly where an item of a
+    /// choice or the key of an attribute is invalid, here or below; `Memory` may come in place of
+    /// either where a growth was refused.
+    fn encode(&self, alloc: Global) -> Result<Value, Error>
+        ensures { Writes view result (write kind (tree self.now)) };
 
     // What is there is not seen as missing.
     ghost present: { (x : Self) → is_absent (tree x) ≡ false };
@@ -50,6 +58,12 @@ pub trait Object: Drop {
         ensures { Reads (λ x. (members x, unknown x)) result
             (take_all rows keeps (members_view found.entries)) };
 
+    /// The members of this object: each row's onto those that no row names. `InvalidItem` comes where
+    /// a row's member holds an invalid item, `Memory` where a growth was refused.
+    fn encode_members(&self, alloc: Global) -> Result<Map<String, Value>, Error>
+        ensures { Writes (λ m. members_view m.entries) result
+            (put_rows rows (members self.now) (unknown self.now)) };
+
     // No two rows have one name, here and below, and each default is plain.
     ghost sound: { are_sound rows ≡ true };
 }
@@ -71,5 +85,14 @@ impl<T: Object> Schema for T {
             Value::Object(found) => T::decode_members(alloc, found),
             _ => Err(Error::Schema),
         }
+    }
+
+    fn encode(&self, alloc: Global) -> Result<Value, Error>
+        ensures by_table { Writes view result (write (object_kind T.named T.rows T.keeps) (object (T.members self.now) (T.unknown self.now))) }
+        // What a plain value is written as is read back as that value.
+        ensures reads_back { IfOk result (λ v. is_plain (object_kind T.named T.rows T.keeps) (object (T.members self.now) (T.unknown self.now)) ≡ true
+            → read (object_kind T.named T.rows T.keeps) (view v) ≡ Some (object (T.members self.now) (T.unknown self.now))) }
+    {
+        Ok(Value::Object(self.encode_members(alloc)?))
     }
 }

@@ -1,7 +1,8 @@
 //! Extension objects of which no member is known.
 
 ghost use Rattle.std.specs.Prelude.{◌≡◌, Bool, refl};
-ghost use Rattle.serde_json.specs.Data.{Members};
+ghost use Rattle.std.specs.Option.{option_map_or};
+ghost use Rattle.serde_json.specs.Data.{Members, no_members};
 ghost use Rattle.serde_json.specs.View.{members_view};
 ghost use Rattle.gltf_schema.specs.Tree.{end};
 ghost use Rattle.gltf_schema.specs.Kind.{ObjectName, extensions_of, no_rows};
@@ -9,6 +10,7 @@ ghost use Rattle.gltf_schema.specs.Taken.{left};
 
 use crate::error::Error;
 use crate::schema::Object;
+use crate::writing::copied;
 use serde_json::{Map, Value};
 use std::alloc::Global;
 
@@ -23,9 +25,13 @@ pub trait Unlisted: Drop {
     /// The extension object of these members.
     fn from_others(others: Map<String, Value>) -> Self
         ensures { kept result ≡ left is_keeping (members_view others.entries) };
+
+    /// The members that it keeps, or `None` where it drops them all.
+    fn others(&self) -> Option<&Map<String, Value>>
+        ensures { option_map_or (λ m. members_view m.now.entries) result no_members ≡ kept self.now };
 }
 
-#[tactic(auto, unfolding(crate::specs::Taken::take_all, crate::specs::Taken::take_rows))]
+#[tactic(auto, unfolding(crate::specs::Taken::take_all, crate::specs::Taken::take_rows, crate::specs::Put::put_rows))]
 impl<T: Unlisted> Object for T {
     ghost named = { extensions_of T.extends };
 
@@ -41,5 +47,12 @@ impl<T: Unlisted> Object for T {
 
     fn decode_members(_alloc: Global, found: Map<String, Value>) -> Result<T, Error> {
         Ok(T::from_others(found))
+    }
+
+    fn encode_members(&self, alloc: Global) -> Result<Map<String, Value>, Error> {
+        match self.others() {
+            Some(others) => copied(others),
+            None => Ok(Map::new(alloc)),
+        }
     }
 }

@@ -15,7 +15,7 @@ use gltf_base::validation::Checked;
 use gltf_base::{Index, Listed};
 use gltf_data::extras::Extras;
 use gltf_data::image::Image;
-use gltf_schema::{Error, Object, Reading};
+use gltf_schema::{Error, Object, Reading, Writing};
 use serde_json::{Map, Value};
 use std::alloc::Global;
 
@@ -105,6 +105,18 @@ impl Object for Sampler {
             extras,
         })
     }
+
+    fn encode_members(&self, alloc: Global) -> Result<Map<String, Value>, Error> {
+        Writing::new(alloc)
+            .optional("magFilter", &self.mag_filter)
+            .optional("minFilter", &self.min_filter)
+            .optional("name", &self.name)
+            .always("wrapS", &self.wrap_s)
+            .always("wrapT", &self.wrap_t)
+            .optional("extensions", &self.extensions)
+            .optional("extras", &self.extras)
+            .finish()
+    }
 }
 
 /// An image and how it is sampled.
@@ -165,6 +177,16 @@ impl Object for Texture {
             extras,
         })
     }
+
+    fn encode_members(&self, alloc: Global) -> Result<Map<String, Value>, Error> {
+        Writing::new(alloc)
+            .optional("name", &self.name)
+            .optional("sampler", &self.sampler)
+            .optional("extensions", &self.extensions)
+            .unless("source", &self.source, Index::new(u32::MAX))
+            .optional("extras", &self.extras)
+            .finish()
+    }
 }
 
 /// A reference to a texture.
@@ -203,5 +225,14 @@ impl Object for Info {
             extensions,
             extras,
         })
+    }
+
+    fn encode_members(&self, alloc: Global) -> Result<Map<String, Value>, Error> {
+        Writing::new(alloc)
+            .always("index", &self.index)
+            .always("texCoord", &self.tex_coord)
+            .optional("extensions", &self.extensions)
+            .optional("extras", &self.extras)
+            .finish()
     }
 }

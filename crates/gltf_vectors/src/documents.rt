@@ -1,8 +1,11 @@
-//! Whole documents: what is reported of them and of their parts, and their lists.
+//! Whole documents: what is reported of them and of their parts, their lists, and what they are
+//! written as.
 
 mod lists;
+mod made;
 mod reports;
 mod sources;
+mod written;
 
 use gltf_base::Steps;
 use gltf_json::validation::{Collect, Validate};
@@ -12,6 +15,9 @@ use std::fmt::Write;
 
 /// A document with a texture that names no image.
 const WITHOUT_SOURCE: &str = r#"{"asset":{"version":"2.0"},"textures":[{}]}"#;
+
+/// A document with a texture whose image is the number that stands for none.
+const EMPTY_SOURCE: &str = r#"{"asset":{"version":"2.0"},"textures":[{"source":4294967295}]}"#;
 
 const NO_SOURCE: &str = "textures[0].source: Missing data\n";
 

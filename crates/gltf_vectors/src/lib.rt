@@ -16,3 +16,5 @@ mod objects;
 mod reading;
 #[cfg(test)]
 mod validation;
+#[cfg(test)]
+mod writing;

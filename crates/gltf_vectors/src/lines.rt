@@ -5,6 +5,7 @@ mod devices;
 mod documents;
 mod hog;
 mod refusals;
+mod writers;
 
 use gltf_json::root::Watched;
 use gltf_lines::run;

@@ -1,12 +1,16 @@
 //! What no clause says: that calls succeed, printed texts, and what objects given as JSON texts are
-//! read as.
+//! read as, and written as.
 
 mod answers;
 mod kept;
+mod made;
 mod marks;
 mod rows;
 mod scene_answers;
 mod scene_rows;
+mod scene_written;
+mod writing;
+mod written;
 
 use gltf_parts::{Error, Schema};
 use serde_json::Value;

@@ -27,6 +27,10 @@ impl Unlisted for Animation {
     fn from_others(others: Map<String, Value>) -> Animation {
         Animation { others }
     }
+
+    fn others(&self) -> Option<&Map<String, Value>> {
+        Some(&self.others)
+    }
 }
 
 impl Animation {
@@ -54,6 +58,10 @@ impl Unlisted for Channel {
     fn from_others(_others: Map<String, Value>) -> Channel {
         Channel {}
     }
+
+    fn others(&self) -> Option<&Map<String, Value>> {
+        None
+    }
 }
 
 impl Channel {
@@ -77,6 +85,10 @@ impl Unlisted for Target {
     fn from_others(_others: Map<String, Value>) -> Target {
         Target {}
     }
+
+    fn others(&self) -> Option<&Map<String, Value>> {
+        None
+    }
 }
 
 impl Target {
@@ -99,6 +111,10 @@ impl Unlisted for Sampler {
 
     fn from_others(_others: Map<String, Value>) -> Sampler {
         Sampler {}
+    }
+
+    fn others(&self) -> Option<&Map<String, Value>> {
+        None
     }
 }
 

@@ -13,7 +13,7 @@ use crate::extras::Extras;
 use gltf_base::Index;
 use gltf_base::accessor::IndexComponentType;
 use gltf_base::validation::{Checked, USize64};
-use gltf_schema::{Blank, Error, Object, Reading};
+use gltf_schema::{Blank, Error, Object, Reading, Writing};
 use serde_json::{Map, Value};
 use std::alloc::Global;
 
@@ -59,6 +59,16 @@ impl Object for Sparse {
             extras,
         })
     }
+
+    fn encode_members(&self, alloc: Global) -> Result<Map<String, Value>, Error> {
+        Writing::new(alloc)
+            .always("count", &self.count)
+            .always("indices", &self.indices)
+            .always("values", &self.values)
+            .optional("extensions", &self.extensions)
+            .optional("extras", &self.extras)
+            .finish()
+    }
 }
 
 /// Where the numbers of the elements that deviate lie.
@@ -101,6 +111,16 @@ impl Object for Indices {
             extensions,
             extras,
         })
+    }
+
+    fn encode_members(&self, alloc: Global) -> Result<Map<String, Value>, Error> {
+        Writing::new(alloc)
+            .always("bufferView", &self.buffer_view)
+            .always("byteOffset", &self.byte_offset)
+            .always("componentType", &self.component_type)
+            .optional("extensions", &self.extensions)
+            .optional("extras", &self.extras)
+            .finish()
     }
 }
 
@@ -152,6 +172,15 @@ impl Object for Values {
             extensions,
             extras,
         })
+    }
+
+    fn encode_members(&self, alloc: Global) -> Result<Map<String, Value>, Error> {
+        Writing::new(alloc)
+            .always("bufferView", &self.buffer_view)
+            .always("byteOffset", &self.byte_offset)
+            .optional("extensions", &self.extensions)
+            .optional("extras", &self.extras)
+            .finish()
     }
 }
 

@@ -28,6 +28,10 @@ impl Unlisted for Accessor {
     fn from_others(others: Map<String, Value>) -> Accessor {
         Accessor { others }
     }
+
+    fn others(&self) -> Option<&Map<String, Value>> {
+        Some(&self.others)
+    }
 }
 
 impl Accessor {

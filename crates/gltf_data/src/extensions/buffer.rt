@@ -26,6 +26,10 @@ impl Unlisted for Buffer {
     fn from_others(others: Map<String, Value>) -> Buffer {
         Buffer { others }
     }
+
+    fn others(&self) -> Option<&Map<String, Value>> {
+        Some(&self.others)
+    }
 }
 
 impl Buffer {
@@ -55,6 +59,10 @@ impl Unlisted for View {
 
     fn from_others(others: Map<String, Value>) -> View {
         View { others }
+    }
+
+    fn others(&self) -> Option<&Map<String, Value>> {
+        Some(&self.others)
     }
 }
 

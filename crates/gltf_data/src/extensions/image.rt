@@ -26,6 +26,10 @@ impl Unlisted for Image {
     fn from_others(others: Map<String, Value>) -> Image {
         Image { others }
     }
+
+    fn others(&self) -> Option<&Map<String, Value>> {
+        Some(&self.others)
+    }
 }
 
 impl Image {

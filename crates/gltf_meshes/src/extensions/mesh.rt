@@ -9,7 +9,7 @@ ghost use Rattle.gltf_schema.specs.Defaults.{defaults};
 ghost use Rattle.gltf_meshes.specs.MeshTable.{primitive_extension_rows, primitive_extension_sound, variant_mappings_rows, variant_mappings_sound, variant_mapping_rows, variant_mapping_sound};
 ghost use Rattle.gltf_meshes.specs.MeshTrees.{primitive_extension_members, variant_mappings_members, variant_mapping_members};
 
-use gltf_schema::{Error, Object, Reading, Unlisted};
+use gltf_schema::{Error, Object, Reading, Unlisted, Writing};
 use serde_json::{Map, Value};
 use std::alloc::Global;
 
@@ -29,6 +29,10 @@ impl Unlisted for Mesh {
 
     fn from_others(others: Map<String, Value>) -> Mesh {
         Mesh { others }
+    }
+
+    fn others(&self) -> Option<&Map<String, Value>> {
+        Some(&self.others)
     }
 }
 
@@ -74,6 +78,12 @@ impl Object for Primitive {
             others,
         })
     }
+
+    fn encode_members(&self, alloc: Global) -> Result<Map<String, Value>, Error> {
+        Writing::from_others(alloc, &self.others)
+            .optional("KHR_materials_variants", &self.khr_materials_variants)
+            .finish()
+    }
 }
 
 impl Primitive {
@@ -117,6 +127,12 @@ impl Object for KhrMaterialsVariants {
         let mappings = reading.required("mappings");
         reading.finish(KhrMaterialsVariants { mappings })
     }
+
+    fn encode_members(&self, alloc: Global) -> Result<Map<String, Value>, Error> {
+        Writing::new(alloc)
+            .always("mappings", &self.mappings)
+            .finish()
+    }
 }
 
 impl KhrMaterialsVariants {
@@ -158,6 +174,13 @@ impl Object for Mapping {
         let material = reading.required("material");
         let variants = reading.required("variants");
         reading.finish(Mapping { material, variants })
+    }
+
+    fn encode_members(&self, alloc: Global) -> Result<Map<String, Value>, Error> {
+        Writing::new(alloc)
+            .always("material", &self.material)
+            .always("variants", &self.variants)
+            .finish()
     }
 }
 

@@ -21,6 +21,10 @@ impl Unlisted for Asset {
     fn from_others(_others: Map<String, Value>) -> Asset {
         Asset {}
     }
+
+    fn others(&self) -> Option<&Map<String, Value>> {
+        None
+    }
 }
 
 impl Asset {

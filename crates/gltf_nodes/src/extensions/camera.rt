@@ -26,6 +26,10 @@ impl Unlisted for Camera {
     fn from_others(others: Map<String, Value>) -> Camera {
         Camera { others }
     }
+
+    fn others(&self) -> Option<&Map<String, Value>> {
+        Some(&self.others)
+    }
 }
 
 impl Camera {
@@ -56,6 +60,10 @@ impl Unlisted for Orthographic {
     fn from_others(others: Map<String, Value>) -> Orthographic {
         Orthographic { others }
     }
+
+    fn others(&self) -> Option<&Map<String, Value>> {
+        Some(&self.others)
+    }
 }
 
 impl Orthographic {
@@ -85,6 +93,10 @@ impl Unlisted for Perspective {
 
     fn from_others(others: Map<String, Value>) -> Perspective {
         Perspective { others }
+    }
+
+    fn others(&self) -> Option<&Map<String, Value>> {
+        Some(&self.others)
     }
 }
 

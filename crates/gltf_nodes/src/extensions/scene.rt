@@ -8,7 +8,7 @@ ghost use Rattle.gltf_schema.specs.Defaults.{defaults};
 ghost use Rattle.gltf_nodes.specs.SceneTable.{node_extension_rows, node_extension_sound};
 ghost use Rattle.gltf_nodes.specs.SceneTrees.{node_extension_members};
 
-use gltf_schema::{Error, Object, Reading, Unlisted};
+use gltf_schema::{Error, Object, Reading, Unlisted, Writing};
 use serde_json::{Map, Value};
 use std::alloc::Global;
 
@@ -46,6 +46,12 @@ impl Object for Node {
             others,
         })
     }
+
+    fn encode_members(&self, alloc: Global) -> Result<Map<String, Value>, Error> {
+        Writing::from_others(alloc, &self.others)
+            .optional("KHR_lights_punctual", &self.khr_lights_punctual)
+            .finish()
+    }
 }
 
 impl Node {
@@ -78,6 +84,10 @@ impl Unlisted for Scene {
 
     fn from_others(others: Map<String, Value>) -> Scene {
         Scene { others }
+    }
+
+    fn others(&self) -> Option<&Map<String, Value>> {
+        Some(&self.others)
     }
 }
 

@@ -26,6 +26,10 @@ impl Unlisted for Skin {
     fn from_others(others: Map<String, Value>) -> Skin {
         Skin { others }
     }
+
+    fn others(&self) -> Option<&Map<String, Value>> {
+        Some(&self.others)
+    }
 }
 
 impl Skin {

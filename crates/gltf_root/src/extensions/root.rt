@@ -11,7 +11,7 @@ ghost use Rattle.gltf_root.specs.RootExtensionTrees.{root_extension_members, lig
 
 use gltf_nodes::extensions::scene::khr_lights_punctual::Light;
 use gltf_nodes::extensions::scene::khr_materials_variants::Variant;
-use gltf_schema::{Error, Object, Reading};
+use gltf_schema::{Error, Object, Reading, Writing};
 use serde_json::{Map, Value};
 use std::alloc::Global;
 
@@ -49,6 +49,13 @@ impl Object for Root {
             khr_materials_variants,
             others,
         })
+    }
+
+    fn encode_members(&self, alloc: Global) -> Result<Map<String, Value>, Error> {
+        Writing::from_others(alloc, &self.others)
+            .optional("KHR_lights_punctual", &self.khr_lights_punctual)
+            .optional("KHR_materials_variants", &self.khr_materials_variants)
+            .finish()
     }
 }
 
@@ -94,6 +101,10 @@ impl Object for KhrLightsPunctual {
         let lights = reading.required("lights");
         reading.finish(KhrLightsPunctual { lights })
     }
+
+    fn encode_members(&self, alloc: Global) -> Result<Map<String, Value>, Error> {
+        Writing::new(alloc).always("lights", &self.lights).finish()
+    }
 }
 
 impl KhrLightsPunctual {
@@ -134,6 +145,12 @@ impl Object for KhrMaterialsVariants {
         let mut reading = Reading::from_members(alloc, found);
         let variants = reading.required("variants");
         reading.finish(KhrMaterialsVariants { variants })
+    }
+
+    fn encode_members(&self, alloc: Global) -> Result<Map<String, Value>, Error> {
+        Writing::new(alloc)
+            .always("variants", &self.variants)
+            .finish()
     }
 }
 

@@ -12,7 +12,7 @@ ghost use Rattle.gltf_shading.specs.MaterialExtensionTrees.{material_extension_m
 use crate::material::StrengthFactor;
 use gltf_base::Real;
 use gltf_data::extras::Extras;
-use gltf_schema::{Error, Object, Reading, Unlisted};
+use gltf_schema::{Error, Object, Reading, Unlisted, Writing};
 use gltf_textures::texture::Info;
 use serde_json::{Map, Value};
 use std::alloc::Global;
@@ -72,6 +72,21 @@ impl Object for Material {
             others,
         })
     }
+
+    fn encode_members(&self, alloc: Global) -> Result<Map<String, Value>, Error> {
+        Writing::from_others(alloc, &self.others)
+            .optional(
+                "KHR_materials_pbrSpecularGlossiness",
+                &self.pbr_specular_glossiness,
+            )
+            .optional("KHR_materials_unlit", &self.unlit)
+            .optional("KHR_materials_transmission", &self.transmission)
+            .optional("KHR_materials_volume", &self.volume)
+            .optional("KHR_materials_specular", &self.specular)
+            .optional("KHR_materials_ior", &self.ior)
+            .optional("KHR_materials_emissive_strength", &self.emissive_strength)
+            .finish()
+    }
 }
 
 impl Material {
@@ -111,6 +126,10 @@ impl Unlisted for PbrMetallicRoughness {
     fn from_others(others: Map<String, Value>) -> PbrMetallicRoughness {
         PbrMetallicRoughness { others }
     }
+
+    fn others(&self) -> Option<&Map<String, Value>> {
+        Some(&self.others)
+    }
 }
 
 impl PbrMetallicRoughness {
@@ -141,6 +160,10 @@ impl Unlisted for NormalTexture {
     fn from_others(others: Map<String, Value>) -> NormalTexture {
         NormalTexture { others }
     }
+
+    fn others(&self) -> Option<&Map<String, Value>> {
+        Some(&self.others)
+    }
 }
 
 impl NormalTexture {
@@ -170,6 +193,10 @@ impl Unlisted for OcclusionTexture {
 
     fn from_others(others: Map<String, Value>) -> OcclusionTexture {
         OcclusionTexture { others }
+    }
+
+    fn others(&self) -> Option<&Map<String, Value>> {
+        Some(&self.others)
     }
 }
 
@@ -238,6 +265,20 @@ impl Object for PbrSpecularGlossiness {
             others,
         })
     }
+
+    fn encode_members(&self, alloc: Global) -> Result<Map<String, Value>, Error> {
+        Writing::from_others(alloc, &self.others)
+            .optional("diffuseFactor", &self.diffuse_factor.0)
+            .optional("diffuseTexture", &self.diffuse_texture)
+            .optional("specularFactor", &self.specular_factor.0)
+            .optional("glossinessFactor", &self.glossiness_factor.0)
+            .optional(
+                "specularGlossinessTexture",
+                &self.specular_glossiness_texture,
+            )
+            .optional("extras", &self.extras)
+            .finish()
+    }
 }
 
 impl PbrSpecularGlossiness {
@@ -288,6 +329,10 @@ impl Object for Unlit {
     fn decode_members(_alloc: Global, _found: Map<String, Value>) -> Result<Unlit, Error> {
         Ok(Unlit {})
     }
+
+    fn encode_members(&self, alloc: Global) -> Result<Map<String, Value>, Error> {
+        Writing::new(alloc).finish()
+    }
 }
 
 impl Unlit {
@@ -331,6 +376,14 @@ impl Object for Transmission {
             transmission_texture,
             extras,
         })
+    }
+
+    fn encode_members(&self, alloc: Global) -> Result<Map<String, Value>, Error> {
+        Writing::new(alloc)
+            .optional("transmissionFactor", &self.transmission_factor.0)
+            .optional("transmissionTexture", &self.transmission_texture)
+            .optional("extras", &self.extras)
+            .finish()
     }
 }
 
@@ -394,6 +447,16 @@ impl Object for Volume {
             attenuation_color: AttenuationColor(attenuation_color),
             extras,
         })
+    }
+
+    fn encode_members(&self, alloc: Global) -> Result<Map<String, Value>, Error> {
+        Writing::new(alloc)
+            .optional("thicknessFactor", &self.thickness_factor.0)
+            .optional("thicknessTexture", &self.thickness_texture)
+            .optional("attenuationDistance", &self.attenuation_distance.0)
+            .optional("attenuationColor", &self.attenuation_color.0)
+            .optional("extras", &self.extras)
+            .finish()
     }
 }
 
@@ -468,6 +531,16 @@ impl Object for Specular {
             extras,
         })
     }
+
+    fn encode_members(&self, alloc: Global) -> Result<Map<String, Value>, Error> {
+        Writing::new(alloc)
+            .optional("specularFactor", &self.specular_factor.0)
+            .optional("specularTexture", &self.specular_texture)
+            .optional("specularColorFactor", &self.specular_color_factor.0)
+            .optional("specularColorTexture", &self.specular_color_texture)
+            .optional("extras", &self.extras)
+            .finish()
+    }
 }
 
 impl Specular {
@@ -524,6 +597,13 @@ impl Object for Ior {
             extras,
         })
     }
+
+    fn encode_members(&self, alloc: Global) -> Result<Map<String, Value>, Error> {
+        Writing::new(alloc)
+            .optional("ior", &self.ior.0)
+            .optional("extras", &self.extras)
+            .finish()
+    }
 }
 
 impl Ior {
@@ -569,6 +649,12 @@ impl Object for EmissiveStrength {
         reading.finish(EmissiveStrength {
             emissive_strength: EmissiveStrengthFactor(emissive_strength),
         })
+    }
+
+    fn encode_members(&self, alloc: Global) -> Result<Map<String, Value>, Error> {
+        Writing::new(alloc)
+            .optional("emissiveStrength", &self.emissive_strength.0)
+            .finish()
     }
 }
 

@@ -10,7 +10,7 @@ ghost use Rattle.gltf_textures.specs.TextureTrees.{info_extension_members, textu
 
 use gltf_base::Real;
 use gltf_data::extras::Extras;
-use gltf_schema::{Error, Object, Reading, Unlisted};
+use gltf_schema::{Error, Object, Reading, Unlisted, Writing};
 use serde_json::{Map, Value};
 use std::alloc::Global;
 
@@ -30,6 +30,10 @@ impl Unlisted for Sampler {
 
     fn from_others(others: Map<String, Value>) -> Sampler {
         Sampler { others }
+    }
+
+    fn others(&self) -> Option<&Map<String, Value>> {
+        Some(&self.others)
     }
 }
 
@@ -60,6 +64,10 @@ impl Unlisted for Texture {
 
     fn from_others(others: Map<String, Value>) -> Texture {
         Texture { others }
+    }
+
+    fn others(&self) -> Option<&Map<String, Value>> {
+        Some(&self.others)
     }
 }
 
@@ -104,6 +112,12 @@ impl Object for Info {
             texture_transform,
             others,
         })
+    }
+
+    fn encode_members(&self, alloc: Global) -> Result<Map<String, Value>, Error> {
+        Writing::from_others(alloc, &self.others)
+            .optional("KHR_texture_transform", &self.texture_transform)
+            .finish()
     }
 }
 
@@ -160,6 +174,16 @@ impl Object for TextureTransform {
             tex_coord,
             extras,
         })
+    }
+
+    fn encode_members(&self, alloc: Global) -> Result<Map<String, Value>, Error> {
+        Writing::new(alloc)
+            .optional("offset", &self.offset.0)
+            .optional("rotation", &self.rotation.0)
+            .optional("scale", &self.scale.0)
+            .or_null("texCoord", &self.tex_coord)
+            .optional("extras", &self.extras)
+            .finish()
     }
 }
 

@@ -1,8 +1,9 @@
 //! What is reported of whole documents, each read from bytes and from a text.
 
-use super::{NO_SOURCE, SOURCE_PAST_END, WITH_SOURCE, WITHOUT_SOURCE, has_lines};
+use super::{EMPTY_SOURCE, NO_SOURCE, SOURCE_PAST_END, WITH_SOURCE, WITHOUT_SOURCE, has_lines};
 use crate::reading::{WAYS, Way, read_by};
 use crate::validation::bounded_lines;
+use crate::writing::stays;
 use gltf_json::{Error, Root};
 use std::alloc::Global;
 use std::test::Fail;
@@ -21,10 +22,7 @@ const NULL_CAMERA: &str = r#"{"asset":{"version":"2.0"},"nodes":[{"camera":null}
 
 const CASES: [Case; 15] = [
     (WITHOUT_SOURCE, NO_SOURCE),
-    (
-        r#"{"asset":{"version":"2.0"},"textures":[{"source":4294967295}]}"#,
-        NO_SOURCE,
-    ),
+    (EMPTY_SOURCE, NO_SOURCE),
     (
         r#"{"asset":{"version":"2.0"},"textures":[{"source":4294967296}]}"#,
         REFUSED,
@@ -115,6 +113,16 @@ fn collected_lines(rt: HostRuntime) {
 fn root_extensions(rt: HostRuntime) {
     for case in REQUIRED.iter() {
         assert!(rt; is_answered(rt.alloc(), case), "{}", case.0);
+    }
+}
+
+#[test]
+fn readable_documents_stay(rt: HostRuntime) {
+    for case in CASES.iter() {
+        assert!(rt; stays(rt.alloc(), case.0, case.1), "{}", case.0);
+    }
+    for case in REQUIRED.iter() {
+        assert!(rt; stays(rt.alloc(), case.0, case.1), "{}", case.0);
     }
 }
 

@@ -1,6 +1,6 @@
 //! The images that textures name.
 
-use super::{NO_SOURCE, SOURCE_PAST_END, WITH_SOURCE, WITHOUT_SOURCE, lines_of};
+use super::{EMPTY_SOURCE, NO_SOURCE, SOURCE_PAST_END, WITH_SOURCE, WITHOUT_SOURCE, lines_of};
 use crate::objects::read;
 use gltf_base::{Step, Steps};
 use gltf_json::{Error, Root, Texture};
@@ -56,5 +56,25 @@ fn validate_empty_source(rt: HostRuntime) -> Result<(), Fail> {
         texture_lines(rt.alloc(), WITHOUT_SOURCE)?.as_str(),
         NO_SOURCE
     );
+    Ok(())
+}
+
+/// The line that a document is written as.
+fn line_of(alloc: Global, document: &str) -> Result<String, Error> {
+    let root = Root::from_str(alloc, document)?;
+    root.to_string(alloc)
+}
+
+#[test]
+fn serialize_source(rt: HostRuntime) -> Result<(), Fail> {
+    assert_eq!(rt; line_of(rt.alloc(), WITH_SOURCE)?.as_str(), WITH_SOURCE);
+    Ok(())
+}
+
+#[test]
+fn serialize_empty_source(rt: HostRuntime) -> Result<(), Fail> {
+    let alloc = rt.alloc();
+    assert_eq!(rt; line_of(alloc, EMPTY_SOURCE)?.as_str(), WITHOUT_SOURCE);
+    assert_eq!(rt; line_of(alloc, WITHOUT_SOURCE)?.as_str(), WITHOUT_SOURCE);
     Ok(())
 }

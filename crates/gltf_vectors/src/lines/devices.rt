@@ -1,4 +1,5 @@
-//! Devices that give and take one byte a call.
+//! Devices that give and take one byte a call, that take nothing, that are interrupted, and that
+//! count.
 
 use std::io;
 use std::io::{ErrorKind, Read, Write};
@@ -69,6 +70,43 @@ pub struct Wall;
 impl Write for Wall {
     fn write(&mut self, _buf: &[u8]) -> io::Result<usize> {
         Ok(0)
+    }
+
+    fn flush(&mut self) -> io::Result<()> {
+        Ok(())
+    }
+}
+
+/// Takes all bytes, and counts the calls.
+#[derive(Drop)]
+pub struct Counter {
+    pub calls: u32,
+}
+
+impl Write for Counter {
+    fn write(&mut self, buf: &[u8]) -> io::Result<usize> {
+        self.calls = self.calls.saturating_add(1);
+        Ok(buf.len())
+    }
+
+    fn flush(&mut self) -> io::Result<()> {
+        Ok(())
+    }
+}
+
+/// Is interrupted in its first call, takes all bytes in the others, and counts the calls.
+#[derive(Drop)]
+pub struct Interrupted {
+    pub calls: u32,
+}
+
+impl Write for Interrupted {
+    fn write(&mut self, buf: &[u8]) -> io::Result<usize> {
+        self.calls = self.calls.saturating_add(1);
+        if self.calls == 1 {
+            return Err(io::Error::from(ErrorKind::Interrupted));
+        }
+        Ok(buf.len())
     }
 
     fn flush(&mut self) -> io::Result<()> {

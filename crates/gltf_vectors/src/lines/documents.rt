@@ -3,6 +3,7 @@
 use super::run_over;
 use crate::documents::has_lines;
 use crate::reading::{Way, read_by};
+use crate::writing::stays;
 use gltf_json::root::Watched;
 use gltf_json::{Error, Root};
 use serde_json::Value;
@@ -165,6 +166,13 @@ fn collected_lines(rt: HostRuntime) {
     for case in CASES.iter() {
         assert!(rt; is_collected(rt.alloc(), Way::Bytes, case), "{}", case.0);
         assert!(rt; is_collected(rt.alloc(), Way::Text, case), "{}", case.0);
+    }
+}
+
+#[test]
+fn readable_documents_stay(rt: HostRuntime) {
+    for case in CASES.iter() {
+        assert!(rt; stays(rt.alloc(), case.0, case.2), "{}", case.0);
     }
 }
 

@@ -21,6 +21,10 @@ impl Unlisted for Sparse {
     fn from_others(_others: Map<String, Value>) -> Sparse {
         Sparse {}
     }
+
+    fn others(&self) -> Option<&Map<String, Value>> {
+        None
+    }
 }
 
 impl Sparse {
@@ -44,6 +48,10 @@ impl Unlisted for Indices {
     fn from_others(_others: Map<String, Value>) -> Indices {
         Indices {}
     }
+
+    fn others(&self) -> Option<&Map<String, Value>> {
+        None
+    }
 }
 
 impl Indices {
@@ -66,6 +74,10 @@ impl Unlisted for Values {
 
     fn from_others(_others: Map<String, Value>) -> Values {
         Values {}
+    }
+
+    fn others(&self) -> Option<&Map<String, Value>> {
+        None
     }
 }
 

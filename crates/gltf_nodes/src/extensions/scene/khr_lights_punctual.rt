@@ -12,7 +12,7 @@ use gltf_base::extensions::scene::khr_lights_punctual::LightType;
 use gltf_base::validation::Checked;
 use gltf_base::{Index, Listed, Real};
 use gltf_data::extras::Extras;
-use gltf_schema::{Error, Object, Reading};
+use gltf_schema::{Error, Object, Reading, Writing};
 use serde_json::{Map, Value};
 use std::alloc::Global;
 
@@ -42,6 +42,10 @@ impl Object for KhrLightsPunctual {
         let mut reading = Reading::from_members(alloc, found);
         let light = reading.required("light");
         reading.finish(KhrLightsPunctual { light })
+    }
+
+    fn encode_members(&self, alloc: Global) -> Result<Map<String, Value>, Error> {
+        Writing::new(alloc).always("light", &self.light).finish()
     }
 }
 
@@ -119,6 +123,19 @@ impl Object for Light {
             type_,
         })
     }
+
+    fn encode_members(&self, alloc: Global) -> Result<Map<String, Value>, Error> {
+        Writing::new(alloc)
+            .optional("color", &self.color)
+            .optional("extensions", &self.extensions)
+            .optional("extras", &self.extras)
+            .optional("intensity", &self.intensity)
+            .optional("name", &self.name)
+            .optional("range", &self.range)
+            .optional("spot", &self.spot)
+            .always("type", &self.type_)
+            .finish()
+    }
 }
 
 /// The cone in which a light shines.
@@ -151,6 +168,13 @@ impl Object for Spot {
             inner_cone_angle,
             outer_cone_angle,
         })
+    }
+
+    fn encode_members(&self, alloc: Global) -> Result<Map<String, Value>, Error> {
+        Writing::new(alloc)
+            .optional("innerConeAngle", &self.inner_cone_angle)
+            .optional("outerConeAngle", &self.outer_cone_angle)
+            .finish()
     }
 }
 

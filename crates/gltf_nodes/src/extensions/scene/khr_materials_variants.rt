@@ -8,7 +8,7 @@ ghost use Rattle.gltf_nodes.specs.LightTable.{variant_rows, variant_sound};
 ghost use Rattle.gltf_nodes.specs.LightTrees.{variant_members};
 
 use gltf_base::Listed;
-use gltf_schema::{Error, Object, Reading};
+use gltf_schema::{Error, Object, Reading, Writing};
 use serde_json::{Map, Value};
 use std::alloc::Global;
 
@@ -46,5 +46,9 @@ impl Object for Variant {
         let mut reading = Reading::from_members(alloc, found);
         let name = reading.required("name");
         reading.finish(Variant { name })
+    }
+
+    fn encode_members(&self, alloc: Global) -> Result<Map<String, Value>, Error> {
+        Writing::new(alloc).always("name", &self.name).finish()
     }
 }

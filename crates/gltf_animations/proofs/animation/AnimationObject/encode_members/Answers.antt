@@ -1,0 +1,15 @@
+-- Each row is written in the table's order.
+use Rattle.gltf_schema.proofs.RowsWritten.{all_written, write_none, write_row}
+use Rattle.gltf_animations.specs.AnimationTable.{animation_rows}
+use Rattle.gltf_animations.specs.AnimationTrees.{animation_members}
+use Rattle.gltf_animations.proofs.animation.AnimationObject.encode_members.Goals as goal
+
+pub returns : goal.returns
+unfolding animation_rows animation_members
+returns c =
+    all_written _ _ c.new.ensures
+    (write_row c.list.ensures
+    (write_row c.list-2.ensures
+    (write_row c.optional.ensures.optional
+    (write_row c.optional-2.ensures.optional
+    (write_row c.optional-3.ensures.optional write_none))))) c.finish.ensures

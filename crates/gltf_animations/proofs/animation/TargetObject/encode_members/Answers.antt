@@ -1,0 +1,14 @@
+-- Each row is written in the table's order.
+use Rattle.gltf_schema.proofs.RowsWritten.{all_written, write_none, write_row}
+use Rattle.gltf_animations.specs.AnimationTable.{animation_target_rows}
+use Rattle.gltf_animations.specs.AnimationTrees.{animation_target_members}
+use Rattle.gltf_animations.proofs.animation.TargetObject.encode_members.Goals as goal
+
+pub returns : goal.returns
+unfolding animation_target_rows animation_target_members
+returns c =
+    all_written _ _ c.new.ensures
+    (write_row c.always.ensures.required
+    (write_row c.always-2.ensures.required
+    (write_row c.optional.ensures.optional
+    (write_row c.optional-2.ensures.optional write_none)))) c.finish.ensures

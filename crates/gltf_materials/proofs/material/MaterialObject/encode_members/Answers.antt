@@ -1,0 +1,21 @@
+-- Each row is written in the table's order.
+use Rattle.gltf_schema.proofs.RowsWritten.{all_written, write_none, write_row}
+use Rattle.gltf_materials.specs.MaterialTable.{material_rows}
+use Rattle.gltf_materials.specs.MaterialTrees.{material_members}
+use Rattle.gltf_materials.proofs.material.MaterialObject.encode_members.Goals as goal
+
+pub returns : goal.returns
+unfolding material_rows material_members
+returns c =
+    all_written _ _ c.new.ensures
+    (write_row c.optional.ensures.optional
+    (write_row (c.always.ensures.always _)
+    (write_row (c.always-2.ensures.always _)
+    (write_row c.optional-2.ensures.optional
+    (write_row (c.always-3.ensures.always _)
+    (write_row c.optional-3.ensures.optional
+    (write_row c.optional-4.ensures.optional
+    (write_row c.optional-5.ensures.optional
+    (write_row c.optional-6.ensures.sometimes
+    (write_row c.optional-7.ensures.optional
+    (write_row c.optional-8.ensures.optional write_none))))))))))) c.finish.ensures

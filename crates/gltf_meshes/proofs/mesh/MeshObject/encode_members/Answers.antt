@@ -1,0 +1,15 @@
+-- Each row is written in the table's order.
+use Rattle.gltf_schema.proofs.RowsWritten.{all_written, write_none, write_row}
+use Rattle.gltf_meshes.specs.MeshTable.{mesh_rows}
+use Rattle.gltf_meshes.specs.MeshTrees.{mesh_members}
+use Rattle.gltf_meshes.proofs.mesh.MeshObject.encode_members.Goals as goal
+
+pub returns : goal.returns
+unfolding mesh_rows mesh_members
+returns c =
+    all_written _ _ c.new.ensures
+    (write_row c.optional.ensures.optional
+    (write_row c.optional-2.ensures.optional
+    (write_row c.optional-3.ensures.optional
+    (write_row c.always.ensures.required
+    (write_row c.optional-4.ensures.optional write_none))))) c.finish.ensures

@@ -1,0 +1,104 @@
+//! Documents as values, texts and bytes, and into writers.
+
+ghost use Rattle.std.specs.Prelude.{◌≡◌, ◌≢◌, true, Some, IfOk, IfErr, OnOk, Err, string_bytes};
+ghost use Rattle.std.specs.Io.KnownBytes.{Appends};
+ghost use Rattle.serde_json.specs.View.{view};
+ghost use Rattle.gltf_schema.specs.Outcome.{Writes};
+ghost use Rattle.gltf_schema.specs.Plain.{is_plain};
+ghost use Rattle.gltf_schema.specs.Read.{read};
+ghost use Rattle.gltf_schema.specs.Write.{write};
+ghost use Rattle.gltf_devices.specs.Device.{AppendsFront};
+ghost use Rattle.gltf_root.specs.RootTable.{root_kind};
+ghost use Rattle.gltf_root.specs.RootTrees.{root_tree};
+ghost use Rattle.gltf_root.specs.Written.{IsCompact, IsPretty, Prints, IsReadBack, Takes};
+
+use super::Root;
+use gltf_devices::{ByteOut, Failed, write_all};
+use gltf_schema::{Error, Schema};
+use serde_json::Value;
+use std::alloc::Global;
+
+impl Root {
+    /// The JSON value that the document is written as. `InvalidItem` comes exactly where an item of a
+    /// choice or the key of an attribute is invalid; `Memory` may come in place of either where a
+    /// growth was refused. Indexes are written whether or not they name anything.
+    pub fn to_value(&self, alloc: Global) -> Result<Value, Error>
+        ensures by_table { Writes view result (write root_kind (root_tree self.now)) }
+        // A plain document reads back as itself.
+        ensures reads_back { IfOk result (λ v. is_plain root_kind (root_tree self.now) ≡ true
+            → read root_kind (view v) ≡ Some (root_tree self.now)) }
+    {
+        self.encode(alloc)
+    }
+
+    /// The document as JSON in one line, without blanks; errors are those of [`Root::to_value`].
+    pub fn to_vec(&self, alloc: Global) -> Result<Vec<u8>, Error>
+        ensures printed { Prints IsCompact (λ b. b.items) result (write root_kind (root_tree self.now)) }
+        ensures reads_back { IfOk result (λ b. IsReadBack (root_tree self.now) b.items) }
+    {
+        Ok(self.to_value(alloc)?.to_vec(alloc)?)
+    }
+
+    /// The document as JSON in lines, two blanks deeper at each level, without a newline at the end;
+    /// errors are those of [`Root::to_value`].
+    pub fn to_vec_pretty(&self, alloc: Global) -> Result<Vec<u8>, Error>
+        ensures printed { Prints IsPretty (λ b. b.items) result (write root_kind (root_tree self.now)) }
+        ensures reads_back { IfOk result (λ b. IsReadBack (root_tree self.now) b.items) }
+    {
+        Ok(self.to_value(alloc)?.to_vec_pretty(alloc)?)
+    }
+
+    /// The text of [`Root::to_vec`].
+    pub fn to_string(&self, alloc: Global) -> Result<String, Error>
+        ensures printed { Prints IsCompact string_bytes result (write root_kind (root_tree self.now)) }
+        ensures reads_back { IfOk result (λ s. IsReadBack (root_tree self.now) (string_bytes s)) }
+    {
+        Ok(self.to_value(alloc)?.to_string(alloc)?)
+    }
+
+    /// The text of [`Root::to_vec_pretty`].
+    pub fn to_string_pretty(&self, alloc: Global) -> Result<String, Error>
+        ensures printed { Prints IsPretty string_bytes result (write root_kind (root_tree self.now)) }
+        ensures reads_back { IfOk result (λ s. IsReadBack (root_tree self.now) (string_bytes s)) }
+    {
+        Ok(self.to_value(alloc)?.to_string_pretty(alloc)?)
+    }
+
+    /// Writes the bytes of [`Root::to_vec`], which are made before the first of them is written.
+    /// `Write` comes where the writer fails, which then has taken a front of them.
+    pub fn to_writer<W: ByteOut>(&self, alloc: Global, writer: &mut W) -> Result<(), Error>
+        ensures taken { Takes IsCompact (W.taken writer.old) (W.taken writer.new) result
+            (write root_kind (root_tree self.now)) }
+        ensures works { OnOk result (W.has_failed writer.new ≡ W.has_failed writer.old) }
+        ensures breaks { result ≡ Err Error.Write → W.has_failed writer.new ≡ true }
+        ensures untouched { IfErr result (λ e. e ≢ Error.Write → writer.new ≡ writer.old) }
+    {
+        let bytes = self.to_vec(alloc)?;
+        write_out(writer, &bytes)
+    }
+
+    /// Writes the bytes of [`Root::to_vec_pretty`], as [`Root::to_writer`].
+    pub fn to_writer_pretty<W: ByteOut>(&self, alloc: Global, writer: &mut W) -> Result<(), Error>
+        ensures taken { Takes IsPretty (W.taken writer.old) (W.taken writer.new) result
+            (write root_kind (root_tree self.now)) }
+        ensures works { OnOk result (W.has_failed writer.new ≡ W.has_failed writer.old) }
+        ensures breaks { result ≡ Err Error.Write → W.has_failed writer.new ≡ true }
+        ensures untouched { IfErr result (λ e. e ≢ Error.Write → writer.new ≡ writer.old) }
+    {
+        let bytes = self.to_vec_pretty(alloc)?;
+        write_out(writer, &bytes)
+    }
+}
+
+/// Writes bytes, where a writer's failure is the only fault.
+fn write_out<W: ByteOut>(writer: &mut W, bytes: &[u8]) -> Result<(), Error>
+    ensures whole { OnOk result (Appends (W.taken writer.old) (W.taken writer.new) bytes.now) }
+    ensures front { AppendsFront (W.taken writer.old) (W.taken writer.new) bytes.now }
+    ensures works { OnOk result (W.has_failed writer.new ≡ W.has_failed writer.old) }
+    ensures breaks { IfErr result (λ e. (e ≡ Error.Write) × (W.has_failed writer.new ≡ true)) }
+{
+    match write_all(writer, bytes) {
+        Ok(()) => Ok(()),
+        Err(Failed) => Err(Error::Write),
+    }
+}

@@ -1,0 +1,11 @@
+-- Each row is written in the table's order.
+use Rattle.gltf_schema.proofs.RowsWritten.{all_written, write_none, write_row}
+use Rattle.gltf_shading.specs.MaterialExtensionTable.{emissive_strength_rows}
+use Rattle.gltf_shading.specs.MaterialExtensionTrees.{emissive_strength_members}
+use Rattle.gltf_shading.proofs.extensions.material.EmissiveStrengthObject.encode_members.Goals as goal
+
+pub returns : goal.returns
+unfolding emissive_strength_rows emissive_strength_members
+returns c =
+    all_written _ _ c.new.ensures
+    (write_row c.optional.ensures.sometimes write_none) c.finish.ensures

@@ -1,0 +1,16 @@
+-- Each row is written in the table's order.
+use Rattle.gltf_schema.proofs.RowsWritten.{all_written, write_none, write_row}
+use Rattle.gltf_shading.specs.MaterialExtensionTable.{pbr_specular_glossiness_rows}
+use Rattle.gltf_shading.specs.MaterialExtensionTrees.{pbr_specular_glossiness_members}
+use Rattle.gltf_shading.proofs.extensions.material.PbrSpecularGlossinessObject.encode_members.Goals as goal
+
+pub returns : goal.returns
+unfolding pbr_specular_glossiness_rows pbr_specular_glossiness_members
+returns c =
+    all_written _ _ c.from_others.ensures
+    (write_row c.optional.ensures.sometimes
+    (write_row c.optional-2.ensures.optional
+    (write_row c.optional-3.ensures.sometimes
+    (write_row c.optional-4.ensures.sometimes
+    (write_row c.optional-5.ensures.optional
+    (write_row c.optional-6.ensures.optional write_none)))))) c.finish.ensures

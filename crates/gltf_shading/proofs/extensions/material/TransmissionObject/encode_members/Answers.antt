@@ -1,0 +1,13 @@
+-- Each row is written in the table's order.
+use Rattle.gltf_schema.proofs.RowsWritten.{all_written, write_none, write_row}
+use Rattle.gltf_shading.specs.MaterialExtensionTable.{transmission_rows}
+use Rattle.gltf_shading.specs.MaterialExtensionTrees.{transmission_members}
+use Rattle.gltf_shading.proofs.extensions.material.TransmissionObject.encode_members.Goals as goal
+
+pub returns : goal.returns
+unfolding transmission_rows transmission_members
+returns c =
+    all_written _ _ c.new.ensures
+    (write_row c.optional.ensures.sometimes
+    (write_row c.optional-2.ensures.optional
+    (write_row c.optional-3.ensures.optional write_none))) c.finish.ensures

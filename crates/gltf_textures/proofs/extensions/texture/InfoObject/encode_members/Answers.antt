@@ -1,0 +1,11 @@
+-- Each row is written in the table's order.
+use Rattle.gltf_schema.proofs.RowsWritten.{all_written, write_none, write_row}
+use Rattle.gltf_textures.specs.TextureTable.{info_extension_rows}
+use Rattle.gltf_textures.specs.TextureTrees.{info_extension_members}
+use Rattle.gltf_textures.proofs.extensions.texture.InfoObject.encode_members.Goals as goal
+
+pub returns : goal.returns
+unfolding info_extension_rows info_extension_members
+returns c =
+    all_written _ _ c.from_others.ensures
+    (write_row c.optional.ensures.optional write_none) c.finish.ensures

@@ -17,7 +17,7 @@ use Rattle.gltf_devices.specs.Device.{AppendsFront}
 use Rattle.gltf_root.specs.Answer.{answer, document}
 use Rattle.gltf_root.specs.RootTable.{root_kind}
 
--- the bytes print a value in one line: exactly so where it holds no fraction, and otherwise as a text of its tokens
+-- the bytes print a value in one line: exactly so where it holds no float, and otherwise as a text of its tokens
 pub record IsCompact (d : Data) (bytes : List ℕ) : Type 0 where
   pub exact : has_float d ≡ false → bytes ≡ compact_text d
   pub compact : bytes ≡ print (tokens bytes)

@@ -31,7 +31,8 @@ impl Root {
         self.encode(alloc)
     }
 
-    /// The document as JSON in one line, without blanks; errors are those of [`Root::to_value`].
+    /// The document as JSON in one line, without blanks between its tokens; errors are those of
+    /// [`Root::to_value`]. It reads back where it isn't nested deeper than 127 levels.
     pub fn to_vec(&self, alloc: Global) -> Result<Vec<u8>, Error>
         ensures printed { Prints IsCompact (λ b. b.items) result (write root_kind (root_tree self.now)) }
         ensures reads_back { IfOk result (λ b. IsReadBack (root_tree self.now) b.items) }
@@ -65,7 +66,8 @@ impl Root {
     }
 
     /// Writes the bytes of [`Root::to_vec`], which are made before the first of them is written.
-    /// `Write` comes where the writer fails, which then has taken a front of them.
+    /// `Write` comes where the writer fails, which then has taken a front of them; after `InvalidItem`
+    /// or `Memory` it is as it was. Nothing is flushed.
     pub fn to_writer<W: ByteOut>(&self, alloc: Global, writer: &mut W) -> Result<(), Error>
         ensures taken { Takes IsCompact (W.taken writer.old) (W.taken writer.new) result
             (write root_kind (root_tree self.now)) }

@@ -1,5 +1,5 @@
 -- Entries of attributes, read in turn.
-use Rattle.std.proofs.Common.{◌≡◌, ℕ, List, [], ◌∷◌, map, Bool, true, false, ◌&&◌, Option, Some, None, option_map, refl, sym, ap, ◌∙◌, subst, Ordering, Less, Equal, Greater}
+use Rattle.std.proofs.Common.{◌≡◌, ℕ, List, [], ◌∷◌, map, true, Option, Some, None, option_map, refl, sym, ap, ◌∙◌, subst, Ordering, Less, Equal, Greater}
 use Rattle.std.specs.BTreeMap.{insert_entry}
 use Rattle.std.specs.List.Sorted.{IsStrictlySortedBy}
 use Rattle.std.specs.Ordering.{match_ordering}
@@ -11,7 +11,7 @@ use Rattle.gltf_schema.specs.Tree.{Tree, index}
 use Rattle.gltf_schema.specs.Read.{read_entries, small_number}
 use Rattle.gltf_schema.specs.Write.{are_in_order, is_less}
 use Rattle.gltf_schema.specs.Outcome.{Refuses}
-use Rattle.gltf_schema.proofs.TakingOut.{refused}
+use Rattle.gltf_schema.proofs.TakingOut.{refused, both}
 use Rattle.gltf_schema.proofs.RowByRow.{refused_then}
 
 -- entries by what their keys and values mean
@@ -31,10 +31,6 @@ inserted cmp cmp' key value same [] k v = refl
 inserted cmp cmp' key value same (e ∷ es) k v =
     meant_at (cmp k e.0) key value _ _ _
     ∙ rw (same k e.0, inserted cmp cmp' key value same es k v) refl
-
-both : (a b : Bool) → a ≡ true → b ≡ true → (a && b) ≡ true
-both true b first second = second
-both false b first second = first
 
 -- entries whose keys ascend mean entries in the order of their keys
 pub in_order : {K V : Type 0} (cmp : K → K → Ordering) (key : K → Key) (value : V → ℕ) → ((a b : K) → cmp a b ≡ key_cmp (key a) (key b))

@@ -27,6 +27,7 @@ withheld_then errors.Read f written h = h
 withheld_then errors.Write f written h = h
 withheld_then errors.TooLong f written h = h
 
+-- and what is made of it
 pub withheld : {A B : Type 0} (e : Error) (f : A → B) (written : Option A) → Withholds e written → Withholds e (option_map f written)
 withheld (errors.Memory e) f written h = tt
 withheld errors.InvalidItem f written h = ap (option_map f) h
@@ -124,7 +125,3 @@ entry_written e es ms n d name value = rw (name, value) refl
 -- an attribute whose key is invalid is not written
 pub key_withheld : (error : Error) (e : Key × ℕ) (es : List (Key × ℕ)) (ms : Members) → Withholds error (key_name e.0) → Withholds error (write_entries (e ∷ es) ms)
 key_withheld error e es ms h = withheld_then error _ (key_name e.0) h
-
--- nor one whose index is
-pub index_withheld : (error : Error) (e : Key × ℕ) (es : List (Key × ℕ)) (ms : Members) (n : List ℕ) → key_name e.0 ≡ Some n → Withholds error (small_data e.1) → Withholds error (write_entries (e ∷ es) ms)
-index_withheld error e es ms n name h = rw name (withheld_then error _ (small_data e.1) h)

@@ -1,5 +1,5 @@
 -- What is read is plain.
-use Rattle.std.proofs.Common.{◌≡◌, ℕ, List, [], Bool, true, false, ◌&&◌, ◌||◌, not, cond, Option, Some, None, option_map, is_some, refl, length, nat_eq, Result, Ok, Err, IfOk}
+use Rattle.std.proofs.Common.{◌≡◌, ℕ, List, [], Bool, true, false, ◌||◌, not, cond, Option, Some, None, option_map, is_some, refl, length, nat_eq, Result, Ok, Err, IfOk}
 use Rattle.std.specs.List.{list_any}
 use Rattle.serde_json.specs.Data.{Num, Data, null, boolean, number, string, array, object as json_object, Items, no_items, item, Members, no_members, member}
 use Rattle.serde_json.specs.Find.{get_member, as_null, as_bool, as_number, as_str, as_array, as_object}
@@ -14,7 +14,7 @@ use Rattle.gltf_schema.specs.Tree.{Tree, Trees, end, with_tree}
 use Rattle.gltf_schema.specs.Kind.{Mark, required, optional, always, unless, sometimes, or_null, Kind, IndexInto, SourceImage, ChannelSampler, U32, U64, Stride, Number, Numbers, Text, Truth, Any, Choice, Attributes, ListOf, Object, Rows, no_rows, row, has_row}
 use Rattle.gltf_schema.specs.Read.{read, read_rows, read_items, read_member, read_entries, choice_among, spelling_in, small_number, whole_number, all_numbers, others, kept}
 use Rattle.gltf_schema.specs.Plain.{is_of_form, is_plain, are_plain, none_named, are_none, all_trees, is_null, is_null_kept, is_sound, are_sound, has_plain_default}
-use Rattle.gltf_schema.proofs.TakingOut.{sound_row}
+use Rattle.gltf_schema.proofs.TakingOut.{sound_row, both}
 
 -- ---- what an optional step gave
 
@@ -25,9 +25,6 @@ mapped f (Some x) y h = (x, refl, cc)
 pub bound : {A B : Type 0} (r : Option A) (f : A → Option B) (y : B) → (r >>= f) ≡ Some y → (x : A) × (r ≡ Some x) × (f x ≡ Some y)
 bound None f y h = absurd cc
 bound (Some x) f y h = (x, refl, h)
-
-both : (a b : Bool) → a ≡ true → b ≡ true → (a && b) ≡ true
-both a b p q = rw (p, q) refl
 
 -- ---- members
 

@@ -35,9 +35,10 @@ pub record IsWithin (bytes calls : ℕ) (seen : Seen) : Type 0 where
   pub short : seen.given ≤ bytes
   pub soon : seen.calls ≤ calls
 
--- a reader that was fresh gave too many bytes, or not its end in all its calls
+-- a reader that was fresh gave too many bytes, or not its end in all its calls; none was made past them
 pub record IsPastLimit (bytes calls : ℕ) (seen : Seen) : Type 0 where
   pub works : seen.has_failed ≡ false
+  pub soon : seen.calls ≤ calls
   pub past : (bytes < seen.given) ⊎ ((seen.calls ≡ calls) × (seen.has_ended ≡ false))
 
 -- why reading a reader that was fresh was given up

@@ -63,21 +63,25 @@ impl Root {
         ensures fresh { IsFresh (R.seen reader.old) → IsReading byte_limit call_limit (R.seen reader.new) result }
         ensures plain { IfOk result (λ root. is_plain root_kind (root_tree root) ≡ true) }
     {
-        Root::read_within(alloc, reader, MOST_BYTES, MOST_CALLS)
+        Root::from_reader_within(alloc, reader, MOST_BYTES, MOST_CALLS)
     }
 
+    /// The document that a reader gives up to its end, as [`Root::from_reader`] with other limits:
+    /// `TooLong` comes where it gives more than `bytes` bytes, or hasn't given its end in `calls`
+    /// calls, the call at the end among them. With no call allowed the reader isn't touched. It reads
+    /// 65536 bytes a call, so a reader may be asked for some bytes past the limit.
     #[tactic(auto, using(crate::proofs::AnswerLemmas::readings))]
-    fn read_within<R: ByteIn>(
+    pub fn from_reader_within<R: ByteIn>(
         alloc: Global,
         reader: &mut R,
-        most_bytes: u64,
-        most_calls: u64,
+        bytes: u64,
+        calls: u64,
     ) -> Result<Root, Error>
         ensures told { IfSome (R.left reader.old) (λ bytes. IsReadAnswer (answer bytes) result) }
-        ensures fresh { IsFresh (R.seen reader.old) → IsReading most_bytes most_calls (R.seen reader.new) result }
+        ensures fresh { IsFresh (R.seen reader.old) → IsReading bytes calls (R.seen reader.new) result }
         ensures plain { IfOk result (λ root. is_plain root_kind (root_tree root) ≡ true) }
     {
-        let bytes = read_to_end(alloc, reader, most_bytes, most_calls)?;
-        Root::from_slice(alloc, &bytes)
+        let text = read_to_end(alloc, reader, bytes, calls)?;
+        Root::from_slice(alloc, &text)
     }
 }

@@ -1,5 +1,5 @@
-//! Devices that give and take one byte a call, that take nothing, that are interrupted, and that
-//! count.
+//! Devices that give and take one byte a call, that never end, that take nothing, that are
+//! interrupted, and that count.
 
 use std::io;
 use std::io::{ErrorKind, Read, Write};
@@ -35,6 +35,23 @@ impl Read for Giver {
         };
         *first = *byte;
         self.given = self.given.saturating_add(1);
+        Ok(1)
+    }
+}
+
+/// Gives a blank in each call, and counts the calls.
+#[derive(Drop)]
+pub struct Blanks {
+    pub calls: u64,
+}
+
+impl Read for Blanks {
+    fn read(&mut self, buf: &mut [u8]) -> io::Result<usize> {
+        self.calls = self.calls.saturating_add(1);
+        let Some(first) = buf.first_mut() else {
+            return Ok(0);
+        };
+        *first = b' ';
         Ok(1)
     }
 }

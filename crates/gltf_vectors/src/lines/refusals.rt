@@ -1,5 +1,6 @@
 //! Devices that fail, and memory that is refused.
 
+use super::DOCUMENT;
 use super::devices::{Giver, Taker, Wall};
 use super::hog::Hog;
 use gltf_json::root::{ByteIn, Failed, Watched};
@@ -7,8 +8,6 @@ use gltf_json::{Error, Root};
 use gltf_lines::run;
 use std::alloc::Global;
 use std::test::Fail;
-
-const DOCUMENT: &str = r#"{"asset":{"version":"2.0"}}"#;
 
 const FAULTY: &str =
     r#"{"asset":{"version":"2.0"},"accessors":[{"count":1,"componentType":5126,"type":"VEC3"}]}"#;

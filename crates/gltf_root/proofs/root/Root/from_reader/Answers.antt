@@ -2,10 +2,10 @@
 use Rattle.gltf_root.proofs.root.Root.from_reader.Goals as goal
 
 pub returns-clause-told : goal.returns-clause-told
-returns-clause-told g c = c.read_within.ensures.told
+returns-clause-told g c = c.from_reader_within.ensures.told
 
 pub returns-clause-fresh : goal.returns-clause-fresh
-returns-clause-fresh g c = c.read_within.ensures.fresh
+returns-clause-fresh g c = c.from_reader_within.ensures.fresh
 
 pub returns-clause-plain : goal.returns-clause-plain
-returns-clause-plain g c = c.read_within.ensures.plain
+returns-clause-plain g c = c.from_reader_within.ensures.plain

@@ -16,11 +16,11 @@ use Rattle.gltf_faults.specs.Rules.{object_faults}
 use Rattle.gltf_faults.specs.Reports.{animation_below, items_reports, reports, member_reports}
 use Rattle.gltf_faults.specs.Closed.{NamesItem, IsListed, IsKnown, EntriesClosed, EachTree, IsClosed, MembersClosed}
 
-first_none : {A : Type 0} (xs ys : List A) → xs ++ ys ≡ [] → xs ≡ []
+pub first_none : {A : Type 0} (xs ys : List A) → xs ++ ys ≡ [] → xs ≡ []
 first_none [] ys h = refl
 first_none (x ∷ xs) ys h = absurd cc
 
-second_none : {A : Type 0} (xs ys : List A) → xs ++ ys ≡ [] → ys ≡ []
+pub second_none : {A : Type 0} (xs ys : List A) → xs ++ ys ≡ [] → ys ≡ []
 second_none [] ys h = h
 second_none (x ∷ xs) ys h = absurd cc
 

@@ -2,5 +2,13 @@ pub mod Joining
 pub mod ByPlaces
 pub mod CleanIsClosed
 pub mod Resolving
+pub mod Growing
+pub mod Pushes
+pub mod Inserting
+pub mod ClosedAvoids
+pub mod PushesOnto
+pub mod Standing
+pub mod Elsewhere
+pub mod Parting
 pub mod Names
 pub mod Primitives

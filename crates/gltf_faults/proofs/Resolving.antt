@@ -8,7 +8,7 @@ use Rattle.gltf_paths.specs.declared.validation.Error.TheVariants.{IndexOutOfBou
 use Rattle.gltf_schema.specs.Tree.{Tree, count_of, trees}
 use Rattle.gltf_faults.specs.Faults.{number_faults}
 use Rattle.gltf_sinks.specs.Report.{found_at}
-use Rattle.gltf_root.specs.Items.{count_of-trees}
+use Rattle.gltf_root.specs.ItemTrees.{count_of-trees}
 use Rattle.gltf_root.specs.Lists.{list_in, count_in}
 
 -- a list of a document holds as many items as its tree

@@ -4,6 +4,9 @@ pub mod Positions
 pub mod Reports
 pub mod Places
 pub mod Closed
+pub mod Naming
+pub mod Inserted
+pub mod Standing
 pub mod Worked
 pub mod RowNames
 pub mod Silence

@@ -1,15 +1,30 @@
 -- Documents worked by hand, to test the definitions by.
-use Rattle.std.specs.Prelude.{ℕ, List, [], ◌∷◌, codes, Option, option_map}
+use Rattle.std.specs.Prelude.{ℕ, List, [], ◌∷◌, codes, Option, option_map, option_and_then}
 use Rattle.serde_json.specs.Data.{Data, number, unsigned, string, array, object, no_items, item as data_item, Members, no_members, member}
+use Rattle.gltf_paths.specs.Lists.{ListName}
 use Rattle.gltf_paths.specs.Steps.{Step, field, item, key}
 use Rattle.gltf_sinks.specs.Report.{Report}
 use Rattle.gltf_faults.specs.Reports.{reports_of}
+use Rattle.gltf_root.specs.Pushed.{item_kind, pushed}
 use Rattle.gltf_root.specs.RootTable.{root_kind}
 use Rattle.gltf_schema.specs.Read.{read}
+use Rattle.gltf_schema.specs.Tree.{Tree}
+use Rattle.gltf_schema.specs.Write.{write}
 
 -- what is wrong in the document that a JSON value is, if it is one
 abbrev pub reports_in : Data → Option (List Report)
 reports_in d = option_map (λ t. reports_of root_kind t t []) (read root_kind d)
+
+-- what the document that a JSON value is is written as
+abbrev pub written_of : Data → Option Data
+written_of d = option_and_then (write root_kind) (read root_kind d)
+
+-- the document that a JSON value is, with the item that another is at the end of a list, and what is wrong in that
+abbrev pub pushed_in : ListName → Data → Data → Option Tree
+pushed_in named x d = option_and_then (λ t. option_map (λ r. pushed named t r) (read root_kind d)) (read (item_kind named) x)
+
+abbrev pub reports_pushed : ListName → Data → Data → Option (List Report)
+reports_pushed named x d = option_map (λ t. reports_of root_kind t t []) (pushed_in named x d)
 
 abbrev pub whole : ℕ → Data
 whole n = number (unsigned n)
@@ -74,3 +89,13 @@ extended extension name d = member (codes "extensions") (object (member extensio
 
 abbrev pub in_extension : List ℕ → List Step → List Step
 in_extension extension steps = field (codes "extensions") ∷ field extension ∷ steps
+
+-- a light without a range, an extension object of one variant, and a node with one child
+abbrev pub point_light : Data
+point_light = object (member (codes "type") (text (codes "point")) no_members)
+
+abbrev pub listed_variant : Data
+listed_variant = object (member (codes "variants") (one (object (member (codes "name") (text (codes "a")) no_members))) no_members)
+
+abbrev pub node_of : ℕ → Data
+node_of child = object (member (codes "children") (one (whole child)) no_members)

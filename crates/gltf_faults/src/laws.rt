@@ -1,13 +1,17 @@
 //! Laws of the definitions that the contracts of this crate speak by. Each is the contract of a
 //! function that does nothing.
 
-ghost use Rattle.std.specs.Prelude.{◌≡◌, List, [], codes};
+ghost use Rattle.std.specs.Prelude.{◌≡◌, List, [], not, codes};
+ghost use Rattle.std.specs.List.{filter};
 ghost use Rattle.gltf_paths.specs.Steps.{Step};
 ghost use Rattle.gltf_schema.specs.Tree.{Tree, absent};
 ghost use Rattle.gltf_schema.specs.Kind.{Kind};
-ghost use Rattle.gltf_faults.specs.Reports.{reports_of};
+ghost use Rattle.gltf_faults.specs.Inserted.{IsInserted};
+ghost use Rattle.gltf_faults.specs.Naming.{Avoids};
+ghost use Rattle.gltf_faults.specs.Reports.{reports, reports_of};
 ghost use Rattle.gltf_faults.specs.Places.{reports_by_places};
 ghost use Rattle.gltf_faults.specs.Closed.{IsClosed};
+ghost use Rattle.gltf_faults.specs.Standing.{is_below};
 ghost use Rattle.gltf_data.specs.AccessorTable.{accessor_rows};
 ghost use Rattle.gltf_meshes.specs.MeshTable.{primitive_rows};
 ghost use Rattle.gltf_nodes.specs.CameraTable.{camera_rows};
@@ -15,6 +19,9 @@ ghost use Rattle.gltf_nodes.specs.LightTable.{light_rows};
 ghost use Rattle.gltf_animations.specs.AnimationTable.{animation_rows};
 ghost use Rattle.gltf_root.specs.RootExtensionTable.{lights_rows, root_extension_rows, variants_rows};
 ghost use Rattle.gltf_faults.specs.RowNames.{name_at};
+ghost use Rattle.gltf_paths.specs.Lists.{ListName};
+ghost use Rattle.gltf_root.specs.Lists.{count_in};
+ghost use Rattle.gltf_root.specs.Pushed.{item_kind, item_place, pushed};
 ghost use Rattle.gltf_root.specs.RootTable.{root_kind, root_rows};
 ghost use Rattle.gltf_root.specs.RootTrees.{root_tree};
 ghost use Rattle.gltf_sinks.specs.Handed.{run};
@@ -37,6 +44,41 @@ pub fn clean_documents_are_closed()
         → IsClosed root_kind (root_tree r) (root_tree r) absent }
     ensures none_counted { (r : Document) → run one_more 0 (reports_of root_kind (root_tree r) (root_tree r) []) ≡ 0
         → IsClosed root_kind (root_tree r) (root_tree r) absent }
+{}
+
+/// An item more at the end of a list of a document leaves what is wrong in a value as it was, unless
+/// some index in the value is the very number that the item takes.
+pub fn pushes_leave_other_reports()
+    ensures { (r : Document) (named : ListName) (x : Tree) (kind : Kind) (t above : Tree) (base : List Step)
+        → Avoids named (count_in named (root_tree r)) kind t
+        → reports kind t (pushed named x (root_tree r)) above base ≡ reports kind t (root_tree r) above base }
+{}
+
+/// An item more in a document without reports: what is wrong then is what is wrong with the item,
+/// where it stands.
+pub fn pushes_onto_clean_documents()
+    ensures { (r : Document) (named : ListName) (x : Tree)
+        → let new = pushed named x (root_tree r) in
+        reports_of root_kind (root_tree r) (root_tree r) [] ≡ []
+        → reports_of root_kind new new [] ≡ reports_of (item_kind named) x new (item_place named (count_in named (root_tree r))) }
+{}
+
+/// Where no index in a document is the number that the item takes, what is wrong in the longer
+/// document at the item's place or below it is what is wrong with the item, and the rest is what was
+/// wrong before, both in order. The item's stand all together among the others.
+pub fn pushes_add_reports_of_the_item()
+    ensures of_item { (r : Document) (named : ListName) (x : Tree)
+        → let n = count_in named (root_tree r) in let new = pushed named x (root_tree r) in
+        Avoids named n root_kind (root_tree r)
+        → filter (is_below (item_place named n)) (reports_of root_kind new new []) ≡ reports_of (item_kind named) x new (item_place named n) }
+    ensures of_others { (r : Document) (named : ListName) (x : Tree)
+        → let n = count_in named (root_tree r) in let new = pushed named x (root_tree r) in
+        Avoids named n root_kind (root_tree r)
+        → filter (λ q. not (is_below (item_place named n) q)) (reports_of root_kind new new []) ≡ reports_of root_kind (root_tree r) (root_tree r) [] }
+    ensures together { (r : Document) (named : ListName) (x : Tree)
+        → let n = count_in named (root_tree r) in let new = pushed named x (root_tree r) in
+        Avoids named n root_kind (root_tree r)
+        → IsInserted (reports_of root_kind (root_tree r) (root_tree r) []) (reports_of (item_kind named) x new (item_place named n)) (reports_of root_kind new new []) }
 {}
 
 /// The rules and the lists find members by their rows' numbers: the rows there are those meant.

@@ -35,7 +35,10 @@ pub mod extensions {
 
 /// What holds of validation, as contracts of functions that do nothing.
 pub mod laws {
-    pub use gltf_faults::laws::{clean_documents_are_closed, reports_are_the_faults_of_places};
+    pub use gltf_faults::laws::{
+        clean_documents_are_closed, pushes_add_reports_of_the_item, pushes_leave_other_reports,
+        pushes_onto_clean_documents, reports_are_the_faults_of_places,
+    };
 }
 
 /// Whole documents, and the lists in them.

@@ -3,6 +3,9 @@ pub mod RootTrees
 pub mod RootExtensionTable
 pub mod RootExtensionTrees
 pub mod Lists
+pub mod Lending
+pub mod Pushed
 pub mod Items
+pub mod ItemTrees
 pub mod Answer
 pub mod Written

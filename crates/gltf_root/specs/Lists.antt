@@ -1,7 +1,7 @@
 -- The lists of a document, and the places in them that indexes name.
-use Rattle.std.specs.Prelude.{ℕ}
+use Rattle.std.specs.Prelude.{ℕ, Bool, true, not}
 use Rattle.gltf_paths.specs.Lists.{ListName}
-use Rattle.gltf_schema.specs.Tree.{Tree, Trees, tree_at, count_of, items_in, members_in}
+use Rattle.gltf_schema.specs.Tree.{Tree, Trees, is_absent, tree_at, count_of, items_in, members_in}
 
 -- the items of the list that is a document's member at a number
 abbrev pub list_at : ℕ → Tree → Trees
@@ -11,23 +11,35 @@ list_at n root = items_in (tree_at n (members_in root))
 abbrev pub extension_at : ℕ → Tree → Tree
 extension_at n root = tree_at n (members_in (tree_at 6 (members_in root)))
 
--- the items of each list, by its row in the table; none where its extension object is missing
+-- the row that a list stands in: its own, or that of the extensions
+abbrev pub row_of : ListName → ℕ
+row_of ListName.accessors = 0
+row_of ListName.animations = 1
+row_of ListName.buffers = 3
+row_of ListName.buffer_views = 4
+row_of ListName.cameras = 10
+row_of ListName.images = 11
+row_of ListName.materials = 12
+row_of ListName.meshes = 13
+row_of ListName.nodes = 14
+row_of ListName.samplers = 15
+row_of ListName.scenes = 16
+row_of ListName.skins = 17
+row_of ListName.textures = 18
+row_of ListName.lights = 6
+row_of ListName.variants = 6
+
+-- the items of a list; none where its extension object is missing
 abbrev pub list_in : ListName → Tree → Trees
-list_in ListName.accessors root = list_at 0 root
-list_in ListName.animations root = list_at 1 root
-list_in ListName.buffers root = list_at 3 root
-list_in ListName.buffer_views root = list_at 4 root
-list_in ListName.cameras root = list_at 10 root
-list_in ListName.images root = list_at 11 root
-list_in ListName.materials root = list_at 12 root
-list_in ListName.meshes root = list_at 13 root
-list_in ListName.nodes root = list_at 14 root
-list_in ListName.samplers root = list_at 15 root
-list_in ListName.scenes root = list_at 16 root
-list_in ListName.skins root = list_at 17 root
-list_in ListName.textures root = list_at 18 root
 list_in ListName.lights root = list_at 0 (extension_at 0 root)
 list_in ListName.variants root = list_at 0 (extension_at 1 root)
+list_in named root = list_at (row_of named) root
+
+-- whether a list is there, which may be empty: not where its extension object is missing
+abbrev pub is_there : ListName → Tree → Bool
+is_there ListName.lights root = not (is_absent (extension_at 0 root))
+is_there ListName.variants root = not (is_absent (extension_at 1 root))
+is_there named root = true
 
 abbrev pub count_in : ListName → Tree → ℕ
 count_in named root = count_of (list_in named root)

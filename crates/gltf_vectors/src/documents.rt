@@ -1,17 +1,22 @@
 //! Whole documents: what is reported of them and of their parts, their lists, and what they are
 //! written as.
 
+mod built;
 mod lists;
 mod made;
+mod refused_pushes;
 mod reports;
 mod sources;
 mod written;
 
-use gltf_base::Steps;
+use gltf_base::{Step, Steps};
 use gltf_json::validation::{Collect, Validate};
 use gltf_json::{Error, Root};
 use std::alloc::Global;
 use std::fmt::Write;
+
+/// What a new document is written as.
+const NEW: &str = r#"{"asset":{"version":"2.0"}}"#;
 
 /// A document with a texture that names no image.
 const WITHOUT_SOURCE: &str = r#"{"asset":{"version":"2.0"},"textures":[{}]}"#;
@@ -43,6 +48,14 @@ fn lines_of<'a, T: Validate>(
         writeln!(lines, "{place}: {error}")?;
     }
     Ok(lines)
+}
+
+/// The steps to the first item of a list.
+fn first_of<'a>(list: &'a str) -> Steps<'a> {
+    let mut path = Steps::new();
+    path.push(Step::Field(list));
+    path.push(Step::Index(0));
+    path
 }
 
 /// Whether the reports of a document against itself are these lines.

@@ -2,10 +2,13 @@
 
 ghost use Rattle.std.specs.Prelude.{◌≡◌, [], ◌∷◌, Some, None, codes, negsuc};
 ghost use Rattle.serde_json.specs.Data.{no_members, member, number, negative, null, object, array, no_items, item as data_item};
+ghost use Rattle.gltf_paths.specs.Lists.{ListName};
 ghost use Rattle.gltf_paths.specs.Steps.{field, item, value};
 ghost use Rattle.gltf_paths.specs.declared.validation.Error.TheVariants.{IndexOutOfBounds, Invalid, Missing, Unsupported};
 ghost use Rattle.gltf_sinks.specs.Report.{report};
-ghost use Rattle.gltf_faults.specs.Worked.{reports_in, whole, text, one, with_asset, with_accessor, with_view, accessor_of, in_accessor, in_view, with_one, in_one, odd_channel, in_channel, with_attributes, in_attributes, extended, in_extension};
+ghost use Rattle.gltf_root.specs.RootTable.{root_kind};
+ghost use Rattle.gltf_schema.specs.Read.{read};
+ghost use Rattle.gltf_faults.specs.Worked.{reports_in, written_of, pushed_in, reports_pushed, whole, text, one, with_asset, with_accessor, with_view, accessor_of, in_accessor, in_view, with_one, in_one, odd_channel, in_channel, with_attributes, in_attributes, extended, in_extension, point_light, listed_variant, node_of};
 
 /// Documents that are read, with their reports, and documents that are not.
 pub fn worked_documents()
@@ -67,4 +70,41 @@ pub fn worked_documents()
         ∷ report (in_attributes (codes "POSITION") (field (codes "min") ∷ [])) Missing
         ∷ report (in_attributes (codes "POSITION") (field (codes "max") ∷ [])) Invalid ∷ []) }
     ensures unknown_member { reports_in (with_asset (member (codes "zz") (text (codes "x")) no_members)) ≡ Some [] }
+{}
+
+/// What documents are written as.
+#[tactic(auto, unfolding(gltf_root::specs::RootTable::root_rows, gltf_nodes::specs::AssetTable::asset_rows, gltf_data::specs::AccessorTable::accessor_rows, gltf_textures::specs::TextureTable::texture_rows, gltf_nodes::specs::SceneTable::node_rows, gltf_nodes::specs::SceneTable::node_extension_rows, gltf_animations::specs::AnimationTable::animation_rows))]
+pub fn worked_writings()
+    ensures bare { written_of (with_asset no_members) ≡ Some (with_asset no_members) }
+    ensures no_image { written_of (with_one (codes "textures") no_members) ≡ Some (with_one (codes "textures") no_members) }
+    ensures none_is_no_image { written_of (with_one (codes "textures") (member (codes "source") (whole 4294967295) no_members))
+        ≡ Some (with_one (codes "textures") no_members) }
+    ensures first_image { written_of (with_one (codes "textures") (member (codes "source") (whole 0) no_members))
+        ≡ Some (with_one (codes "textures") (member (codes "source") (whole 0) no_members)) }
+    ensures invalid_item { written_of (with_accessor (accessor_of (whole 1) (whole 0) no_members)) ≡ None }
+    ensures empty_lists { written_of (with_asset (member (codes "animations") (one (object no_members)) no_members))
+        ≡ Some (object (member (codes "animations") (one (object no_members)) (member (codes "asset") (object (member (codes "version") (text (codes "2.0")) no_members)) no_members))) }
+    ensures null_is_left_out { written_of (with_one (codes "nodes") (member (codes "camera") null no_members)) ≡ Some (with_one (codes "nodes") no_members) }
+    ensures unknown_extension { written_of (with_one (codes "nodes") (member (codes "extensions") (object (member (codes "EXT_x") (whole 1) no_members)) no_members))
+        ≡ Some (with_one (codes "nodes") (member (codes "extensions") (object (member (codes "EXT_x") (whole 1) no_members)) no_members)) }
+    ensures unknown_member { written_of (with_asset (member (codes "zz") (text (codes "x")) no_members)) ≡ Some (with_asset no_members) }
+{}
+
+/// Documents with an item pushed onto a list, and their reports.
+#[tactic(auto, unfolding(gltf_root::specs::RootTable::root_rows, gltf_root::specs::RootExtensionTable::root_extension_rows, gltf_root::specs::RootExtensionTable::lights_rows, gltf_root::specs::RootExtensionTable::variants_rows, gltf_nodes::specs::AssetTable::asset_rows, gltf_nodes::specs::LightTable::light_rows, gltf_nodes::specs::LightTable::variant_rows, gltf_data::specs::BufferTable::view_rows, gltf_nodes::specs::SceneTable::node_rows))]
+pub fn worked_pushes()
+    // A light makes the objects that it is listed in.
+    ensures first_light { pushed_in ListName.lights point_light (with_asset no_members)
+        ≡ read root_kind (with_asset (extended (codes "KHR_lights_punctual") (codes "lights") (one point_light))) }
+    ensures light_beside_others { pushed_in ListName.lights point_light (with_asset (member (codes "extensions") (object (member (codes "EXT_x") (whole 1) (member (codes "KHR_materials_variants") listed_variant no_members))) no_members))
+        ≡ read root_kind (with_asset (member (codes "extensions") (object (member (codes "EXT_x") (whole 1) (member (codes "KHR_lights_punctual") (object (member (codes "lights") (one point_light) no_members)) (member (codes "KHR_materials_variants") listed_variant no_members)))) no_members)) }
+    ensures second_light { pushed_in ListName.lights point_light (with_asset (extended (codes "KHR_lights_punctual") (codes "lights") (one point_light)))
+        ≡ read root_kind (with_asset (extended (codes "KHR_lights_punctual") (codes "lights") (array (data_item point_light (data_item point_light no_items))))) }
+    ensures view_of_nothing { reports_pushed ListName.buffer_views (object (member (codes "buffer") (whole 0) (member (codes "byteLength") (whole 4) no_members))) (with_asset no_members)
+        ≡ Some (report (in_view (codes "buffer")) IndexOutOfBounds ∷ []) }
+    // A node may name itself by the number that it takes.
+    ensures node_of_itself { reports_pushed ListName.nodes (node_of 0) (with_asset no_members) ≡ Some [] }
+    ensures node_of_none { reports_pushed ListName.nodes (node_of 5) (with_one (codes "bufferViews") (member (codes "buffer") (whole 3) (member (codes "byteLength") (whole 4) no_members)))
+        ≡ Some (report (in_view (codes "buffer")) IndexOutOfBounds
+        ∷ report (in_one (codes "nodes") (field (codes "children") ∷ item 0 ∷ [])) IndexOutOfBounds ∷ []) }
 {}

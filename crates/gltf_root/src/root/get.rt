@@ -1,45 +1,114 @@
 //! The items of a document's lists, by their indexes.
 
-ghost use Rattle.std.specs.Prelude.{◌≡◌, List, slice_get, map};
+ghost use Rattle.std.specs.Prelude.{◌≡◌, ◌↔◌, ◌-◌, ◌^◌, ◌≤◌, ◌++◌, ◌∷◌, [], true, false, None, Err, IfOk, IfErr, OnErr, IfSome, length, List, slice_get, map};
+ghost use Rattle.std.specs.Borrow.{sem};
 ghost use Rattle.std.specs.Option.{option_copied};
 ghost use Rattle.gltf_paths.specs.Indexes.{index_number};
+ghost use Rattle.gltf_paths.specs.Lists.{ListName};
+ghost use Rattle.gltf_paths.specs.Pushes.{IsHandedBack};
 ghost use Rattle.gltf_schema.specs.Tree.{Tree, trees};
-ghost use Rattle.gltf_root.specs.Lists.{list_in};
+ghost use Rattle.gltf_root.specs.Lists.{list_in, is_there};
+ghost use Rattle.gltf_root.specs.Lending.{lends_list};
+ghost use Rattle.gltf_root.specs.Pushed.{pushed, with_list};
 ghost use Rattle.gltf_root.specs.RootTrees.{root_tree};
 ghost use Rattle.gltf_root.specs.declared.root.Root.{Root};
 
 use super::Root;
-use gltf_base::{Index, Listed};
+use gltf_base::{Index, Listed, PushError};
 
 /// A document has a list of `T`.
 pub trait Get<T> {
+    ghost use Rattle.std.specs.declared.vec.Vec.{Vec};
+    ghost use Rattle.std.specs.declared.alloc.Global.{Global};
+
     ghost listed: { Self → List T };
+
+    // The same document with another list of `T`, where it has one.
+    ghost put: { Vec T Global → Self → Self };
+
+    ghost named: { ListName };
+
+    ghost document: { Self → Tree };
+
+    ghost item_tree: { T → Tree };
 
     /// The item that an index names; `None` exactly past the end of the list.
     fn get(&self, index: Index<T>) -> Option<&T>
         ensures { option_copied result ≡ slice_get (listed self.now) (index_number index) };
 
-    /// The list.
+    /// The list; empty where its extension object is missing.
     fn list(&self) -> &[T]
         ensures { result.now ≡ listed self.now };
+
+    /// The list for writing; `None` exactly where its extension object is missing. Nothing is made.
+    fn list_mut(&mut self) -> Option<&mut Vec<T>>
+        ensures* writes_back { sem 𝓛 (lends_list Self.row T.row put self.entry result) }
+        ensures lent { IfSome result (λ list. list.now.items ≡ listed self.old) }
+        ensures missing { (result ≡ None) ↔ (is_there named (document self.old) ≡ false) };
+
+    /// Appends an item to the list, and answers its index. Extension objects that are missing are
+    /// made, empty but for the list, once the list has grown. A list of 4294967295 items or more is
+    /// full, which is told before any memory is taken.
+    fn push(&mut self, item: T) -> Result<Index<T>, PushError<T>>
+        ensures pushed { IfOk result (λ index. (index_number index ≡ length (listed self.old))
+            × (document self.new ≡ pushed named (item_tree item) (document self.old))) }
+        ensures appended { IfOk result (λ _. listed self.new ≡ listed self.old ++ item ∷ []) }
+        ensures full { (result ≡ Err (PushError.Full item)) ↔ (2 ^ 32 - 1 ≤ length (listed self.old)) }
+        ensures handed_back { IfErr result (IsHandedBack item) }
+        ensures unchanged { OnErr result (document self.new ≡ document self.old) };
 }
 
 /// What a document lists: where its list stands in a root.
-pub trait RootItem: Listed {
+pub trait RootItem: Listed + Drop {
+    ghost use Rattle.std.specs.declared.vec.Vec.{Vec};
+    ghost use Rattle.std.specs.declared.alloc.Global.{Global};
+    ghost use Rattle.gltf_root.specs.declared.root.Root.{Root};
+    ghost use Rattle.gltf_root.specs.contracts.root.Root.{the_row};
+
     ghost tree: { Self → Tree };
 
     ghost items: { Root → List Self };
+
+    // The same root with another list, where it has one.
+    ghost put: { Vec Self Global → Root → Root };
 
     /// The list of a root.
     fn list_of(root: &Root) -> &[Self]
         ensures { result.now ≡ items root.now };
 
+    /// The list of a root for writing; `None` exactly where its extension object is missing.
+    fn list_of_mut(root: &mut Root) -> Option<&mut Vec<Self>>
+        ensures* writes_back { sem 𝓛 (lends_list the_row Self.row put root.entry result) }
+        ensures lent { IfSome result (λ list. list.now.items ≡ items root.old) }
+        ensures missing { (result ≡ None) ↔ (is_there Self.list (root_tree root.old) ≡ false) };
+
+    /// Appends an item to the list of a root, and answers its index.
+    fn push_onto(root: &mut Root, item: Self) -> Result<Index<Self>, PushError<Self>>
+        ensures pushed { IfOk result (λ index. (index_number index ≡ length (items root.old))
+            × (root_tree root.new ≡ pushed Self.list (tree item) (root_tree root.old))) }
+        ensures appended { IfOk result (λ _. items root.new ≡ items root.old ++ item ∷ []) }
+        ensures full { (result ≡ Err (PushError.Full item)) ↔ (2 ^ 32 - 1 ≤ length (items root.old)) }
+        ensures handed_back { IfErr result (IsHandedBack item) }
+        ensures unchanged { OnErr result (root_tree root.new ≡ root_tree root.old) };
+
     // The list of the root's tree holds the trees of the items.
     ghost lists: { (r : Root) → list_in Self.list (root_tree r) ≡ trees (map tree (items r)) };
+
+    // A list put in place is the root's, and all else is as it was.
+    ghost puts: { (r : Root) (list : Vec Self Global) → is_there Self.list (root_tree r) ≡ true
+        → (items (put list r) ≡ list.items) × (root_tree (put list r) ≡ with_list Self.list (trees (map tree list.items)) (root_tree r)) };
 }
 
 impl<T: RootItem> Get<T> for Root {
     ghost listed = { T.items };
+
+    ghost put = { T.put };
+
+    ghost named = { T.list };
+
+    ghost document = { root_tree };
+
+    ghost item_tree = { T.tree };
 
     fn get(&self, index: Index<T>) -> Option<&T>
         ensures { option_copied result ≡ slice_get (T.items self.now) (index_number index) }
@@ -52,6 +121,14 @@ impl<T: RootItem> Get<T> for Root {
     {
         T::list_of(self)
     }
+
+    fn list_mut(&mut self) -> Option<&mut Vec<T>> {
+        T::list_of_mut(self)
+    }
+
+    fn push(&mut self, item: T) -> Result<Index<T>, PushError<T>> {
+        T::push_onto(self, item)
+    }
 }
 
 impl Root {
@@ -62,5 +139,19 @@ impl Root {
         ensures { option_copied result ≡ slice_get (⟦<Root as Get<T>>⟧.listed self.now) (index_number index) }
     {
         Get::<T>::get(self, index)
+    }
+
+    /// Appends an item to its list, and answers its index, as `Get::push` does.
+    pub fn push<T>(&mut self, item: T) -> Result<Index<T>, PushError<T>>
+    where
+        Root: Get<T>,
+        ensures pushed { IfOk result (λ index. (index_number index ≡ length (⟦<Root as Get<T>>⟧.listed self.old))
+            × (⟦<Root as Get<T>>⟧.document self.new ≡ pushed ⟦<Root as Get<T>>⟧.named (⟦<Root as Get<T>>⟧.item_tree item) (⟦<Root as Get<T>>⟧.document self.old))) }
+        ensures appended { IfOk result (λ _. ⟦<Root as Get<T>>⟧.listed self.new ≡ ⟦<Root as Get<T>>⟧.listed self.old ++ item ∷ []) }
+        ensures full { (result ≡ Err (PushError.Full item)) ↔ (2 ^ 32 - 1 ≤ length (⟦<Root as Get<T>>⟧.listed self.old)) }
+        ensures handed_back { IfErr result (IsHandedBack item) }
+        ensures unchanged { OnErr result (⟦<Root as Get<T>>⟧.document self.new ≡ ⟦<Root as Get<T>>⟧.document self.old) }
+    {
+        Get::<T>::push(self, item)
     }
 }

@@ -1,5 +1,7 @@
 //! Where the list of each type stands in a document.
 
+#![tactic(auto, using(crate::proofs::Pushing::trees_push), unfolding(crate::specs::RootTrees::root_members))]
+
 ghost use Rattle.std.specs.Prelude.{refl};
 ghost use Rattle.gltf_schema.specs.Fields.{closed_object};
 ghost use Rattle.gltf_data.specs.AccessorTrees.{accessor_members};
@@ -12,12 +14,16 @@ ghost use Rattle.gltf_nodes.specs.CameraTrees.{camera_members};
 ghost use Rattle.gltf_nodes.specs.LightTrees.{light_members, variant_members};
 ghost use Rattle.gltf_nodes.specs.SceneTrees.{node_members, scene_members, skin_members};
 ghost use Rattle.gltf_animations.specs.AnimationTrees.{animation_members};
-ghost use Rattle.gltf_root.specs.Items.{lights_of, lights_of-trees, variants_of, variants_of-trees};
+ghost use Rattle.gltf_root.specs.Items.{lights_of, put_lights, put_variants, variants_of};
+ghost use Rattle.gltf_root.specs.ItemTrees.{lights_of-trees, put_lights-trees, put_variants-trees, variants_of-trees};
 ghost use Rattle.gltf_root.specs.RootTrees.{root_members};
 
 use super::Root;
 use super::get::RootItem;
+use crate::extensions;
+use crate::extensions::root::{KhrLightsPunctual, KhrMaterialsVariants};
 use gltf_animations::animation::Animation;
+use gltf_base::{Index, PushError};
 use gltf_data::accessor::Accessor;
 use gltf_data::buffer::{Buffer, View};
 use gltf_data::image::Image;
@@ -35,10 +41,22 @@ impl RootItem for Accessor {
 
     ghost items = { λ r. r.accessors.items };
 
+    ghost put = { λ list r. record r { accessors = list } };
+
     ghost lists = { λ r. unfold root_members in refl };
+
+    ghost puts = { λ r list there. unfold root_members in (refl, refl) };
 
     fn list_of(root: &Root) -> &[Accessor] {
         root.accessors.as_slice()
+    }
+
+    fn list_of_mut(root: &mut Root) -> Option<&mut Vec<Accessor>> {
+        Some(&mut root.accessors)
+    }
+
+    fn push_onto(root: &mut Root, item: Accessor) -> Result<Index<Accessor>, PushError<Accessor>> {
+        Index::push(&mut root.accessors, item)
     }
 }
 
@@ -47,10 +65,25 @@ impl RootItem for Animation {
 
     ghost items = { λ r. r.animations.items };
 
+    ghost put = { λ list r. record r { animations = list } };
+
     ghost lists = { λ r. unfold root_members in refl };
+
+    ghost puts = { λ r list there. unfold root_members in (refl, refl) };
 
     fn list_of(root: &Root) -> &[Animation] {
         root.animations.as_slice()
+    }
+
+    fn list_of_mut(root: &mut Root) -> Option<&mut Vec<Animation>> {
+        Some(&mut root.animations)
+    }
+
+    fn push_onto(
+        root: &mut Root,
+        item: Animation,
+    ) -> Result<Index<Animation>, PushError<Animation>> {
+        Index::push(&mut root.animations, item)
     }
 }
 
@@ -59,10 +92,22 @@ impl RootItem for Buffer {
 
     ghost items = { λ r. r.buffers.items };
 
+    ghost put = { λ list r. record r { buffers = list } };
+
     ghost lists = { λ r. unfold root_members in refl };
+
+    ghost puts = { λ r list there. unfold root_members in (refl, refl) };
 
     fn list_of(root: &Root) -> &[Buffer] {
         root.buffers.as_slice()
+    }
+
+    fn list_of_mut(root: &mut Root) -> Option<&mut Vec<Buffer>> {
+        Some(&mut root.buffers)
+    }
+
+    fn push_onto(root: &mut Root, item: Buffer) -> Result<Index<Buffer>, PushError<Buffer>> {
+        Index::push(&mut root.buffers, item)
     }
 }
 
@@ -71,10 +116,22 @@ impl RootItem for View {
 
     ghost items = { λ r. r.buffer_views.items };
 
+    ghost put = { λ list r. record r { buffer_views = list } };
+
     ghost lists = { λ r. unfold root_members in refl };
+
+    ghost puts = { λ r list there. unfold root_members in (refl, refl) };
 
     fn list_of(root: &Root) -> &[View] {
         root.buffer_views.as_slice()
+    }
+
+    fn list_of_mut(root: &mut Root) -> Option<&mut Vec<View>> {
+        Some(&mut root.buffer_views)
+    }
+
+    fn push_onto(root: &mut Root, item: View) -> Result<Index<View>, PushError<View>> {
+        Index::push(&mut root.buffer_views, item)
     }
 }
 
@@ -83,10 +140,22 @@ impl RootItem for Camera {
 
     ghost items = { λ r. r.cameras.items };
 
+    ghost put = { λ list r. record r { cameras = list } };
+
     ghost lists = { λ r. unfold root_members in refl };
+
+    ghost puts = { λ r list there. unfold root_members in (refl, refl) };
 
     fn list_of(root: &Root) -> &[Camera] {
         root.cameras.as_slice()
+    }
+
+    fn list_of_mut(root: &mut Root) -> Option<&mut Vec<Camera>> {
+        Some(&mut root.cameras)
+    }
+
+    fn push_onto(root: &mut Root, item: Camera) -> Result<Index<Camera>, PushError<Camera>> {
+        Index::push(&mut root.cameras, item)
     }
 }
 
@@ -95,10 +164,22 @@ impl RootItem for Image {
 
     ghost items = { λ r. r.images.items };
 
+    ghost put = { λ list r. record r { images = list } };
+
     ghost lists = { λ r. unfold root_members in refl };
+
+    ghost puts = { λ r list there. unfold root_members in (refl, refl) };
 
     fn list_of(root: &Root) -> &[Image] {
         root.images.as_slice()
+    }
+
+    fn list_of_mut(root: &mut Root) -> Option<&mut Vec<Image>> {
+        Some(&mut root.images)
+    }
+
+    fn push_onto(root: &mut Root, item: Image) -> Result<Index<Image>, PushError<Image>> {
+        Index::push(&mut root.images, item)
     }
 }
 
@@ -107,10 +188,22 @@ impl RootItem for Material {
 
     ghost items = { λ r. r.materials.items };
 
+    ghost put = { λ list r. record r { materials = list } };
+
     ghost lists = { λ r. unfold root_members in refl };
+
+    ghost puts = { λ r list there. unfold root_members in (refl, refl) };
 
     fn list_of(root: &Root) -> &[Material] {
         root.materials.as_slice()
+    }
+
+    fn list_of_mut(root: &mut Root) -> Option<&mut Vec<Material>> {
+        Some(&mut root.materials)
+    }
+
+    fn push_onto(root: &mut Root, item: Material) -> Result<Index<Material>, PushError<Material>> {
+        Index::push(&mut root.materials, item)
     }
 }
 
@@ -119,10 +212,22 @@ impl RootItem for Mesh {
 
     ghost items = { λ r. r.meshes.items };
 
+    ghost put = { λ list r. record r { meshes = list } };
+
     ghost lists = { λ r. unfold root_members in refl };
+
+    ghost puts = { λ r list there. unfold root_members in (refl, refl) };
 
     fn list_of(root: &Root) -> &[Mesh] {
         root.meshes.as_slice()
+    }
+
+    fn list_of_mut(root: &mut Root) -> Option<&mut Vec<Mesh>> {
+        Some(&mut root.meshes)
+    }
+
+    fn push_onto(root: &mut Root, item: Mesh) -> Result<Index<Mesh>, PushError<Mesh>> {
+        Index::push(&mut root.meshes, item)
     }
 }
 
@@ -131,10 +236,22 @@ impl RootItem for Node {
 
     ghost items = { λ r. r.nodes.items };
 
+    ghost put = { λ list r. record r { nodes = list } };
+
     ghost lists = { λ r. unfold root_members in refl };
+
+    ghost puts = { λ r list there. unfold root_members in (refl, refl) };
 
     fn list_of(root: &Root) -> &[Node] {
         root.nodes.as_slice()
+    }
+
+    fn list_of_mut(root: &mut Root) -> Option<&mut Vec<Node>> {
+        Some(&mut root.nodes)
+    }
+
+    fn push_onto(root: &mut Root, item: Node) -> Result<Index<Node>, PushError<Node>> {
+        Index::push(&mut root.nodes, item)
     }
 }
 
@@ -143,10 +260,22 @@ impl RootItem for Sampler {
 
     ghost items = { λ r. r.samplers.items };
 
+    ghost put = { λ list r. record r { samplers = list } };
+
     ghost lists = { λ r. unfold root_members in refl };
+
+    ghost puts = { λ r list there. unfold root_members in (refl, refl) };
 
     fn list_of(root: &Root) -> &[Sampler] {
         root.samplers.as_slice()
+    }
+
+    fn list_of_mut(root: &mut Root) -> Option<&mut Vec<Sampler>> {
+        Some(&mut root.samplers)
+    }
+
+    fn push_onto(root: &mut Root, item: Sampler) -> Result<Index<Sampler>, PushError<Sampler>> {
+        Index::push(&mut root.samplers, item)
     }
 }
 
@@ -155,10 +284,22 @@ impl RootItem for Scene {
 
     ghost items = { λ r. r.scenes.items };
 
+    ghost put = { λ list r. record r { scenes = list } };
+
     ghost lists = { λ r. unfold root_members in refl };
+
+    ghost puts = { λ r list there. unfold root_members in (refl, refl) };
 
     fn list_of(root: &Root) -> &[Scene] {
         root.scenes.as_slice()
+    }
+
+    fn list_of_mut(root: &mut Root) -> Option<&mut Vec<Scene>> {
+        Some(&mut root.scenes)
+    }
+
+    fn push_onto(root: &mut Root, item: Scene) -> Result<Index<Scene>, PushError<Scene>> {
+        Index::push(&mut root.scenes, item)
     }
 }
 
@@ -167,10 +308,22 @@ impl RootItem for Skin {
 
     ghost items = { λ r. r.skins.items };
 
+    ghost put = { λ list r. record r { skins = list } };
+
     ghost lists = { λ r. unfold root_members in refl };
+
+    ghost puts = { λ r list there. unfold root_members in (refl, refl) };
 
     fn list_of(root: &Root) -> &[Skin] {
         root.skins.as_slice()
+    }
+
+    fn list_of_mut(root: &mut Root) -> Option<&mut Vec<Skin>> {
+        Some(&mut root.skins)
+    }
+
+    fn push_onto(root: &mut Root, item: Skin) -> Result<Index<Skin>, PushError<Skin>> {
+        Index::push(&mut root.skins, item)
     }
 }
 
@@ -179,19 +332,36 @@ impl RootItem for Texture {
 
     ghost items = { λ r. r.textures.items };
 
+    ghost put = { λ list r. record r { textures = list } };
+
     ghost lists = { λ r. unfold root_members in refl };
+
+    ghost puts = { λ r list there. unfold root_members in (refl, refl) };
 
     fn list_of(root: &Root) -> &[Texture] {
         root.textures.as_slice()
     }
+
+    fn list_of_mut(root: &mut Root) -> Option<&mut Vec<Texture>> {
+        Some(&mut root.textures)
+    }
+
+    fn push_onto(root: &mut Root, item: Texture) -> Result<Index<Texture>, PushError<Texture>> {
+        Index::push(&mut root.textures, item)
+    }
 }
 
+#[tactic(auto, using(crate::proofs::Pushing::trees_push), unfolding(crate::specs::RootTrees::root_members, crate::specs::RootExtensionTrees::root_extension_members, crate::specs::RootExtensionTrees::lights_members, crate::specs::RootExtensionTable::root_extension_rows))]
 impl RootItem for Light {
     ghost tree = { λ x. closed_object (light_members x) };
 
     ghost items = { lights_of };
 
+    ghost put = { put_lights };
+
     ghost lists = { λ r. unfold root_members in lights_of-trees r };
+
+    ghost puts = { λ r list there. put_lights-trees r list there };
 
     /// Those of the extension; none where it is missing.
     fn list_of(root: &Root) -> &[Light] {
@@ -203,14 +373,44 @@ impl RootItem for Light {
             None => &[],
         }
     }
+
+    fn list_of_mut(root: &mut Root) -> Option<&mut Vec<Light>> {
+        let extensions = root.extensions.as_mut()?;
+        let found = extensions.khr_lights_punctual.as_mut()?;
+        Some(&mut found.lights)
+    }
+
+    fn push_onto(root: &mut Root, item: Light) -> Result<Index<Light>, PushError<Light>> {
+        if let Some(lights) = Light::list_of_mut(root) {
+            return Index::push(lights, item);
+        }
+        let alloc = *root.nodes.allocator();
+        let mut lights = Vec::new(alloc);
+        let index = Index::push(&mut lights, item)?;
+        let found = Some(KhrLightsPunctual { lights });
+        match &mut root.extensions {
+            Some(extensions) => extensions.khr_lights_punctual = found,
+            None => {
+                let mut made = extensions::root::Root::new(alloc);
+                made.khr_lights_punctual = found;
+                root.extensions = Some(made);
+            }
+        }
+        Ok(index)
+    }
 }
 
+#[tactic(auto, using(crate::proofs::Pushing::trees_push), unfolding(crate::specs::RootTrees::root_members, crate::specs::RootExtensionTrees::root_extension_members, crate::specs::RootExtensionTrees::variants_members, crate::specs::RootExtensionTable::root_extension_rows))]
 impl RootItem for Variant {
     ghost tree = { λ x. closed_object (variant_members x) };
 
     ghost items = { variants_of };
 
+    ghost put = { put_variants };
+
     ghost lists = { λ r. unfold root_members in variants_of-trees r };
+
+    ghost puts = { λ r list there. put_variants-trees r list there };
 
     /// Those of the extension; none where it is missing.
     fn list_of(root: &Root) -> &[Variant] {
@@ -221,5 +421,30 @@ impl RootItem for Variant {
             Some(found) => found.variants.as_slice(),
             None => &[],
         }
+    }
+
+    fn list_of_mut(root: &mut Root) -> Option<&mut Vec<Variant>> {
+        let extensions = root.extensions.as_mut()?;
+        let found = extensions.khr_materials_variants.as_mut()?;
+        Some(&mut found.variants)
+    }
+
+    fn push_onto(root: &mut Root, item: Variant) -> Result<Index<Variant>, PushError<Variant>> {
+        if let Some(variants) = Variant::list_of_mut(root) {
+            return Index::push(variants, item);
+        }
+        let alloc = *root.nodes.allocator();
+        let mut variants = Vec::new(alloc);
+        let index = Index::push(&mut variants, item)?;
+        let found = Some(KhrMaterialsVariants { variants });
+        match &mut root.extensions {
+            Some(extensions) => extensions.khr_materials_variants = found,
+            None => {
+                let mut made = extensions::root::Root::new(alloc);
+                made.khr_materials_variants = found;
+                root.extensions = Some(made);
+            }
+        }
+        Ok(index)
     }
 }

@@ -18,7 +18,7 @@ const ONE_OF_EACH: &str =
     r#"{"asset":{"version":"2.0"},"accessors":[{"count":1,"componentType":5126,"type":"SCALAR"}],"animations":[{}],"buffers":[{}],"bufferViews":[{"buffer":0,"byteLength":1}],"extensions":{"KHR_lights_punctual":{"lights":[{"type":"point"}]},"KHR_materials_variants":{"variants":[{"name":"a"}]}},"cameras":[{"type":"perspective"}],"images":[{}],"materials":[{}],"meshes":[{"primitives":[]}],"nodes":[{}],"samplers":[{}],"scenes":[{}],"skins":[{}],"textures":[{}]}"#;
 
 /// Whether a document lists one item of a type, and an index names it alone.
-fn has_one<T>(root: &Root) -> bool
+pub(super) fn has_one<T>(root: &Root) -> bool
 where
     Root: Get<T>,
 {
@@ -28,7 +28,7 @@ where
 }
 
 /// Whether a document lists no item of a type, and no index names one.
-fn has_none<T>(root: &Root) -> bool
+pub(super) fn has_none<T>(root: &Root) -> bool
 where
     Root: Get<T>,
 {

@@ -1,11 +1,10 @@
 //! What documents that are made by hand are written as.
 
+use super::NEW;
 use crate::writing::{Layout, by_value, is_line, is_text};
 use gltf_json::{Error, Material, Root, Value};
 use std::alloc::Global;
 use std::test::Fail;
-
-const NEW: &str = r#"{"asset":{"version":"2.0"}}"#;
 
 const NEW_IN_LINES: &str = "{\n  \"asset\": {\n    \"version\": \"2.0\"\n  }\n}";
 

@@ -1,8 +1,9 @@
 //! The images that textures name.
 
-use super::{EMPTY_SOURCE, NO_SOURCE, SOURCE_PAST_END, WITH_SOURCE, WITHOUT_SOURCE, lines_of};
+use super::{
+    EMPTY_SOURCE, NO_SOURCE, SOURCE_PAST_END, WITH_SOURCE, WITHOUT_SOURCE, first_of, lines_of,
+};
 use crate::objects::read;
-use gltf_base::{Step, Steps};
 use gltf_json::{Error, Root, Texture};
 use std::alloc::Global;
 use std::test::Fail;
@@ -26,9 +27,7 @@ fn deserialize_empty_source(rt: HostRuntime) -> Result<(), Fail> {
 
 /// What is wrong in the first texture, a line for each report.
 fn lines_of_first(alloc: Global, root: &Root) -> Result<String, Error> {
-    let mut path = Steps::new();
-    path.push(Step::Field("textures"));
-    path.push(Step::Index(0));
+    let mut path = first_of("textures");
     match root.textures.first() {
         Some(texture) => lines_of(alloc, texture, root, &mut path),
         None => Ok(String::new(alloc)),

@@ -1,6 +1,6 @@
 //! What documents are written as, each read from bytes and from a text.
 
-use super::{EMPTY_SOURCE, WITH_SOURCE, WITHOUT_SOURCE};
+use super::{EMPTY_SOURCE, NEW, WITH_SOURCE, WITHOUT_SOURCE};
 use crate::reading::{WAYS, Way, read_by};
 use crate::writing::{Layout, is_invalid_in, is_line_twice};
 use gltf_json::{Error, Root};
@@ -9,8 +9,6 @@ use std::test::Fail;
 
 /// A document, and the line that it is written as.
 type Case = (&'static str, &'static str);
-
-const NEW: &str = r#"{"asset":{"version":"2.0"}}"#;
 
 const CASES: [Case; 16] = [
     (NEW, NEW),

@@ -1,0 +1,84 @@
+-- The lists of a document with one more item in one of them.
+use Rattle.std.proofs.Common.{◌≡◌, ◌⊎◌, ℕ, inl, inr, Option, Some, None, refl}
+use Rattle.gltf_paths.specs.Lists.{ListName}
+use Rattle.gltf_schema.specs.Tree.{Tree, list, Trees, end, with_tree, tree_at, tree_or_absent, members_in}
+use Rattle.gltf_schema.specs.Fields.{closed_object}
+use Rattle.gltf_root.specs.Lists.{list_at, list_in}
+use Rattle.gltf_root.specs.Pushed.{with_last, with_extension_list, with_extended_list, pushed}
+use Rattle.gltf_root.specs.RootExtensionTrees.{root_extensions, root_extension_members, lights_members, variants_members}
+use Rattle.gltf_root.specs.RootTrees.{root_members, root_tree}
+use Rattle.gltf_root.specs.declared.root.Root.{Root}
+use Rattle.gltf_root.specs.declared.extensions.root.Root.{Root as RootExtensions}
+
+-- ---- the two in the extensions
+
+-- an extension object with another item in its list, and extensions with the one at a number so
+abbrev pub with_extension_item : Tree → Tree → Tree
+with_extension_item x extension = with_extension_list (with_last x (list_at 0 extension)) extension
+
+abbrev pub with_extended_item : ℕ → Tree → Tree → Tree
+with_extended_item n x extensions = with_extended_list n (with_last x (list_at 0 (tree_at n (members_in extensions)))) extensions
+
+-- an extension object of one list, which may be missing
+one_longer : {V : Type 0} (x : Tree) (items : V → Trees) (found : Option V)
+    → list_at 0 (with_extension_item x (tree_or_absent (λ v. closed_object (with_tree (list (items v)) end)) found))
+    ≡ with_last x (list_at 0 (tree_or_absent (λ v. closed_object (with_tree (list (items v)) end)) found))
+one_longer x items None = refl
+one_longer x items (Some v) = refl
+
+lights_extended : (x : Tree) (found : Option RootExtensions)
+    → list_at 0 (tree_at 0 (members_in (with_extended_item 0 x (tree_or_absent root_extensions found))))
+    ≡ with_last x (list_at 0 (tree_at 0 (members_in (tree_or_absent root_extensions found))))
+unfolding root_extension_members lights_members
+lights_extended x None = refl
+lights_extended x (Some e) = one_longer x (λ v. list_at 0 (closed_object (lights_members v))) e.khr_lights_punctual
+
+variants_extended : (x : Tree) (found : Option RootExtensions)
+    → list_at 0 (tree_at 1 (members_in (with_extended_item 1 x (tree_or_absent root_extensions found))))
+    ≡ with_last x (list_at 0 (tree_at 1 (members_in (tree_or_absent root_extensions found))))
+unfolding root_extension_members variants_members
+variants_extended x None = refl
+variants_extended x (Some e) = one_longer x (λ v. list_at 0 (closed_object (variants_members v))) e.khr_materials_variants
+
+-- each leaves the other as it was
+lights_kept : (x : Tree) (found : Option RootExtensions)
+    → list_at 0 (tree_at 0 (members_in (with_extended_item 1 x (tree_or_absent root_extensions found)))) ≡ list_at 0 (tree_at 0 (members_in (tree_or_absent root_extensions found)))
+unfolding root_extension_members
+lights_kept x None = refl
+lights_kept x (Some e) = refl
+
+variants_kept : (x : Tree) (found : Option RootExtensions)
+    → list_at 0 (tree_at 1 (members_in (with_extended_item 0 x (tree_or_absent root_extensions found)))) ≡ list_at 0 (tree_at 1 (members_in (tree_or_absent root_extensions found)))
+unfolding root_extension_members
+variants_kept x None = refl
+variants_kept x (Some e) = refl
+
+-- ---- the lists of a document
+
+-- a list of two documents: it has an item more at its end where it has the name, or is the same
+abbrev pub GrowsAt : ListName → ListName → Tree → Tree → Tree → Type 0
+GrowsAt other named x old new = ((other ≡ named) × (list_in other new ≡ with_last x (list_in other old))) ⊎ (list_in other new ≡ list_in other old)
+
+abbrev pub Grows : ListName → Tree → Tree → Tree → Type 0
+Grows named x old new = (other : ListName) → GrowsAt other named x old new
+
+pub grows : (named : ListName) (x : Tree) (r : Root) → Grows named x (root_tree r) (pushed named x (root_tree r))
+unfolding root_members
+grows ListName.accessors x r ListName.accessors = inl (refl, refl)
+grows ListName.animations x r ListName.animations = inl (refl, refl)
+grows ListName.buffers x r ListName.buffers = inl (refl, refl)
+grows ListName.buffer_views x r ListName.buffer_views = inl (refl, refl)
+grows ListName.cameras x r ListName.cameras = inl (refl, refl)
+grows ListName.images x r ListName.images = inl (refl, refl)
+grows ListName.materials x r ListName.materials = inl (refl, refl)
+grows ListName.meshes x r ListName.meshes = inl (refl, refl)
+grows ListName.nodes x r ListName.nodes = inl (refl, refl)
+grows ListName.samplers x r ListName.samplers = inl (refl, refl)
+grows ListName.scenes x r ListName.scenes = inl (refl, refl)
+grows ListName.skins x r ListName.skins = inl (refl, refl)
+grows ListName.textures x r ListName.textures = inl (refl, refl)
+grows ListName.lights x r ListName.lights = inl (refl, lights_extended x r.extensions)
+grows ListName.variants x r ListName.variants = inl (refl, variants_extended x r.extensions)
+grows ListName.lights x r ListName.variants = inr (variants_kept x r.extensions)
+grows ListName.variants x r ListName.lights = inr (lights_kept x r.extensions)
+grows named x r other = inr refl

@@ -1,0 +1,8 @@
+use Rattle.gltf_root.specs.Pushed.{pushed}
+use Rattle.gltf_root.specs.RootTrees.{root_tree}
+use Rattle.gltf_faults.proofs.Growing.{grows}
+use Rattle.gltf_faults.proofs.Pushes.{reports_same}
+use Rattle.gltf_faults.proofs.laws.pushes_leave_other_reports.Goals as goal
+
+pub returns : goal.returns
+returns c r named x kind t above base off = reports_same named x (root_tree r) (pushed named x (root_tree r)) (grows named x r) kind t above base off

@@ -1,0 +1,105 @@
+-- That the lists in the extensions of a document stand in its tree where the table lists them, also
+-- where another is put there: what the implementations for lights and variants promise.
+use Rattle.std.proofs.Common.{◌≡◌, List, [], ◌∷◌, true, not, length, suc, map, option_map, Option, Some, None, refl, ap}
+use Rattle.std.specs.declared.alloc.Global.{Global}
+use Rattle.std.specs.declared.vec.Vec.{Vec}
+use Rattle.serde_json.specs.View.{members_view}
+use Rattle.gltf_paths.specs.Lists.{ListName}
+use Rattle.gltf_schema.specs.Tree.{Tree, Trees, absent, is_absent, object, count_of, end, trees, tree_at, tree_or_absent, members_in}
+use Rattle.gltf_schema.specs.Fields.{closed_object}
+use Rattle.gltf_nodes.specs.LightTrees.{light_members, variant_members}
+use Rattle.gltf_nodes.specs.declared.extensions.scene.khr_lights_punctual.Light.{Light}
+use Rattle.gltf_nodes.specs.declared.extensions.scene.khr_materials_variants.Variant.{Variant}
+use Rattle.gltf_root.specs.Items.{listed_in, lights_in, lights_of, lights_put, lights_put_in, put_lights, variants_in, variants_of, variants_put, variants_put_in, put_variants}
+use Rattle.gltf_root.specs.Lists.{list_at, is_there}
+use Rattle.gltf_root.specs.Pushed.{with_extension_list, with_extended_list, with_list}
+use Rattle.gltf_root.specs.RootExtensionTrees.{root_extensions, root_extension_members, lights_members, variants_members}
+use Rattle.gltf_root.specs.RootTrees.{root_members, root_tree, put_at}
+use Rattle.gltf_root.specs.declared.root.Root.{Root}
+use Rattle.gltf_root.specs.declared.extensions.root.KhrLightsPunctual.{KhrLightsPunctual}
+use Rattle.gltf_root.specs.declared.extensions.root.KhrMaterialsVariants.{KhrMaterialsVariants}
+use Rattle.gltf_root.specs.declared.extensions.root.Root.{Root as RootExtensions}
+
+-- a list of trees is as long as the list that it is of
+pub count_of-trees : {X : Type 0} (tree : X → Tree) (xs : List X) → count_of (trees (map tree xs)) ≡ length xs
+count_of-trees tree [] = refl
+count_of-trees tree (x ∷ xs) = ap (λ n. suc n) (count_of-trees tree xs)
+
+-- ---- where they stand
+
+-- the trees of a list in an object stand where those of the object have them, if nothing stands there in what is absent
+listed_in-trees : {O X : Type 0} {tree : O → Tree} (items : O → List X) (item : X → Tree) (place : Tree → Trees)
+    → place absent ≡ end → ((found : O) → place (tree found) ≡ trees (map item (items found)))
+    → (found : Option O) → place (tree_or_absent tree found) ≡ trees (map item (listed_in items found))
+listed_in-trees items item place missing stands None = missing
+listed_in-trees items item place missing stands (Some found) = stands found
+
+pub lights_of-trees : (r : Root)
+    → list_at 0 (tree_at 0 (members_in (tree_or_absent root_extensions r.extensions))) ≡ trees (map (λ x. closed_object (light_members x)) (lights_of r))
+unfolding root_extension_members lights_members
+lights_of-trees r = listed_in-trees lights_in (λ x. closed_object (light_members x)) (λ t. list_at 0 (tree_at 0 (members_in t))) refl
+    (λ e. listed_in-trees (λ found. found.lights.items) (λ x. closed_object (light_members x)) (list_at 0) refl (λ found. refl) e.khr_lights_punctual) r.extensions
+
+pub variants_of-trees : (r : Root)
+    → list_at 0 (tree_at 1 (members_in (tree_or_absent root_extensions r.extensions))) ≡ trees (map (λ x. closed_object (variant_members x)) (variants_of r))
+unfolding root_extension_members variants_members
+variants_of-trees r = listed_in-trees variants_in (λ x. closed_object (variant_members x)) (λ t. list_at 0 (tree_at 1 (members_in t))) refl
+    (λ e. listed_in-trees (λ found. found.variants.items) (λ x. closed_object (variant_members x)) (list_at 0) refl (λ found. refl) e.khr_materials_variants) r.extensions
+
+-- ---- where those stand that are put there
+
+lights_found : (items : Vec Light Global) (found : Option KhrLightsPunctual)
+    → not (is_absent (tree_or_absent (λ v. closed_object (lights_members v)) found)) ≡ true
+    → (listed_in (λ v. v.lights.items) (option_map (lights_put items) found) ≡ items.items)
+    × (tree_or_absent (λ v. closed_object (lights_members v)) (option_map (lights_put items) found)
+    ≡ with_extension_list (trees (map (λ x. closed_object (light_members x)) items.items)) (tree_or_absent (λ v. closed_object (lights_members v)) found))
+unfolding lights_members
+lights_found items None there = absurd cc
+lights_found items (Some v) there = (refl, refl)
+
+variants_found : (items : Vec Variant Global) (found : Option KhrMaterialsVariants)
+    → not (is_absent (tree_or_absent (λ v. closed_object (variants_members v)) found)) ≡ true
+    → (listed_in (λ v. v.variants.items) (option_map (variants_put items) found) ≡ items.items)
+    × (tree_or_absent (λ v. closed_object (variants_members v)) (option_map (variants_put items) found)
+    ≡ with_extension_list (trees (map (λ x. closed_object (variant_members x)) items.items)) (tree_or_absent (λ v. closed_object (variants_members v)) found))
+unfolding variants_members
+variants_found items None there = absurd cc
+variants_found items (Some v) there = (refl, refl)
+
+lights_extended : (items : Vec Light Global) (found : Option RootExtensions)
+    → not (is_absent (tree_at 0 (members_in (tree_or_absent root_extensions found)))) ≡ true
+    → (listed_in lights_in (option_map (lights_put_in items) found) ≡ items.items)
+    × (tree_or_absent root_extensions (option_map (lights_put_in items) found)
+    ≡ with_extended_list 0 (trees (map (λ x. closed_object (light_members x)) items.items)) (tree_or_absent root_extensions found))
+unfolding root_extension_members
+lights_extended items None there = absurd cc
+lights_extended items (Some e) there =
+    let put = lights_found items e.khr_lights_punctual there in
+    (put.0, ap (λ t. object (put_at 0 t (root_extension_members e)) (members_view e.others.entries)) put.1)
+
+variants_extended : (items : Vec Variant Global) (found : Option RootExtensions)
+    → not (is_absent (tree_at 1 (members_in (tree_or_absent root_extensions found)))) ≡ true
+    → (listed_in variants_in (option_map (variants_put_in items) found) ≡ items.items)
+    × (tree_or_absent root_extensions (option_map (variants_put_in items) found)
+    ≡ with_extended_list 1 (trees (map (λ x. closed_object (variant_members x)) items.items)) (tree_or_absent root_extensions found))
+unfolding root_extension_members
+variants_extended items None there = absurd cc
+variants_extended items (Some e) there =
+    let put = variants_found items e.khr_materials_variants there in
+    (put.0, ap (λ t. object (put_at 1 t (root_extension_members e)) (members_view e.others.entries)) put.1)
+
+pub put_lights-trees : (r : Root) (items : Vec Light Global) → is_there ListName.lights (root_tree r) ≡ true
+    → (lights_of (put_lights items r) ≡ items.items)
+    × (root_tree (put_lights items r) ≡ with_list ListName.lights (trees (map (λ x. closed_object (light_members x)) items.items)) (root_tree r))
+unfolding root_members
+put_lights-trees r items there =
+    let put = lights_extended items r.extensions there in
+    (put.0, ap (λ t. closed_object (put_at 6 t (root_members r))) put.1)
+
+pub put_variants-trees : (r : Root) (items : Vec Variant Global) → is_there ListName.variants (root_tree r) ≡ true
+    → (variants_of (put_variants items r) ≡ items.items)
+    × (root_tree (put_variants items r) ≡ with_list ListName.variants (trees (map (λ x. closed_object (variant_members x)) items.items)) (root_tree r))
+unfolding root_members
+put_variants-trees r items there =
+    let put = variants_extended items r.extensions there in
+    (put.0, ap (λ t. closed_object (put_at 6 t (root_members r))) put.1)

@@ -1,0 +1,253 @@
+//! Documents that are built: items that are pushed onto their lists.
+
+use super::lists::{has_none, has_one};
+use super::{first_of, has_lines, lines_of};
+use crate::objects::read;
+use crate::writing::is_line;
+use gltf_json::buffer::View;
+use gltf_json::extensions::scene::khr_lights_punctual::Light;
+use gltf_json::extensions::scene::khr_materials_variants::Variant;
+use gltf_json::root::Get;
+use gltf_json::texture::Sampler;
+use gltf_json::validation::USize64;
+use gltf_json::{
+    Accessor, Animation, Buffer, Camera, Error, Image, Index, Material, Mesh, Node, Root, Scene,
+    Schema, Skin, Texture,
+};
+use std::alloc::Global;
+use std::fmt::Debug;
+use std::test::Fail;
+
+/// A light that shines from a point, and says nothing else.
+pub(super) const POINT: &str = r#"{"type":"point"}"#;
+
+/// What a document with that light alone is written as.
+pub(super) const ONE_LIGHT: &str =
+    r#"{"asset":{"version":"2.0"},"extensions":{"KHR_lights_punctual":{"lights":[{"type":"point"}]}}}"#;
+
+/// Reads an item, and pushes it onto a document.
+fn push_read<T: Schema + Debug>(
+    alloc: Global,
+    root: &mut Root,
+    item: &str,
+) -> Result<Index<T>, Fail>
+where
+    Root: Get<T>,
+{
+    Ok(root.push(read::<T>(alloc, item)?)?)
+}
+
+/// A new document with an item that is read.
+fn new_with<T: Schema + Debug>(alloc: Global, item: &str) -> Result<Root, Fail>
+where
+    Root: Get<T>,
+{
+    let mut root = Root::new(alloc)?;
+    push_read::<T>(alloc, &mut root, item)?;
+    Ok(root)
+}
+
+/// How many items the list has that is lent for writing, where there is one.
+fn lent_count<T>(root: &mut Root) -> Option<usize>
+where
+    Root: Get<T>,
+{
+    let list = Get::<T>::list_mut(root)?;
+    Some(list.len())
+}
+
+/// Whether an item that is pushed onto a new document is the first and only one of its list.
+fn is_first<T: Schema + Debug>(alloc: Global, item: &str) -> Result<bool, Fail>
+where
+    Root: Get<T>,
+{
+    let mut root = Root::new(alloc)?;
+    let index = push_read::<T>(alloc, &mut root, item)?;
+    Ok(index == Index::new(0) && has_one::<T>(&root))
+}
+
+/// For each type that is listed, whether an item of it becomes the first and only one.
+fn are_first(alloc: Global) -> Result<[bool; 15], Fail> {
+    Ok([
+        is_first::<Accessor>(alloc, r#"{"count":1,"componentType":5126,"type":"SCALAR"}"#)?,
+        is_first::<Animation>(alloc, "{}")?,
+        is_first::<Buffer>(alloc, "{}")?,
+        is_first::<View>(alloc, VIEW)?,
+        is_first::<Camera>(alloc, r#"{"type":"perspective"}"#)?,
+        is_first::<Image>(alloc, "{}")?,
+        is_first::<Material>(alloc, "{}")?,
+        is_first::<Mesh>(alloc, r#"{"primitives":[]}"#)?,
+        is_first::<Node>(alloc, "{}")?,
+        is_first::<Sampler>(alloc, "{}")?,
+        is_first::<Scene>(alloc, "{}")?,
+        is_first::<Skin>(alloc, "{}")?,
+        is_first::<Texture>(alloc, "{}")?,
+        is_first::<Light>(alloc, POINT)?,
+        is_first::<Variant>(alloc, r#"{"name":"a"}"#)?,
+    ])
+}
+
+#[test]
+fn first_items(rt: HostRuntime) -> Result<(), Fail> {
+    assert_eq!(rt; are_first(rt.alloc())?, [true; 15]);
+    Ok(())
+}
+
+fn buffer() -> Buffer {
+    Buffer {
+        byte_length: USize64(1),
+        name: None,
+        uri: None,
+        extensions: None,
+        extras: None,
+    }
+}
+
+/// The places of two buffers that are pushed onto a new document.
+fn buffer_places(alloc: Global) -> Result<[usize; 2], Fail> {
+    let mut root = Root::new(alloc)?;
+    let first = root.push(buffer())?;
+    let second = root.push(buffer())?;
+    Ok([first.value(), second.value()])
+}
+
+#[test]
+fn root_push(rt: HostRuntime) -> Result<(), Fail> {
+    assert_eq!(rt; buffer_places(rt.alloc())?, [0, 1]);
+    Ok(())
+}
+
+/// Whether the lights of a new document are lent for writing only once one was pushed.
+fn are_lights_made(alloc: Global) -> Result<bool, Fail> {
+    let mut root = Root::new(alloc)?;
+    let is_missing = has_none::<Light>(&root) && lent_count::<Light>(&mut root).is_none();
+    let index = push_read::<Light>(alloc, &mut root, POINT)?;
+    let is_lent = has_one::<Light>(&root) && lent_count::<Light>(&mut root) == Some(1);
+    Ok(is_missing && index == Index::new(0) && is_lent && is_line(alloc, &root, ONE_LIGHT)?)
+}
+
+#[test]
+fn first_light_makes_its_extension(rt: HostRuntime) -> Result<(), Fail> {
+    assert!(rt; are_lights_made(rt.alloc())?);
+    Ok(())
+}
+
+/// Whether a document that is read is written as a line with an item more.
+fn is_line_with<T: Schema + Debug>(
+    alloc: Global,
+    document: &str,
+    item: &str,
+    line: &str,
+) -> Result<bool, Fail>
+where
+    Root: Get<T>,
+{
+    let mut root = Root::from_str(alloc, document)?;
+    push_read::<T>(alloc, &mut root, item)?;
+    is_line(alloc, &root, line)
+}
+
+#[test]
+fn lights_stand_beside_other_extensions(rt: HostRuntime) -> Result<(), Fail> {
+    assert!(rt;
+        is_line_with::<Light>(
+            rt.alloc(),
+            r#"{"asset":{"version":"2.0"},"extensions":{"EXT_x":1,"KHR_materials_variants":{"variants":[{"name":"a"}]}}}"#,
+            POINT,
+            r#"{"asset":{"version":"2.0"},"extensions":{"EXT_x":1,"KHR_lights_punctual":{"lights":[{"type":"point"}]},"KHR_materials_variants":{"variants":[{"name":"a"}]}}}"#
+        )?
+    );
+    Ok(())
+}
+
+#[test]
+fn variants_stand_beside_other_extensions(rt: HostRuntime) -> Result<(), Fail> {
+    assert!(rt;
+        is_line_with::<Variant>(
+            rt.alloc(),
+            r#"{"asset":{"version":"2.0"},"extensions":{"EXT_x":1,"KHR_lights_punctual":{"lights":[{"type":"point"}]}}}"#,
+            r#"{"name":"b"}"#,
+            r#"{"asset":{"version":"2.0"},"extensions":{"EXT_x":1,"KHR_lights_punctual":{"lights":[{"type":"point"}]},"KHR_materials_variants":{"variants":[{"name":"b"}]}}}"#
+        )?
+    );
+    Ok(())
+}
+
+/// A view of the first buffer.
+const VIEW: &str = r#"{"buffer":0,"byteLength":4}"#;
+
+const NO_BUFFER: &str = "bufferViews[0].buffer: Index out of bounds\n";
+
+/// What is wrong in the first view, a line for each report.
+fn lines_of_view(alloc: Global, root: &Root) -> Result<String, Error> {
+    let mut path = first_of("bufferViews");
+    match root.buffer_views.first() {
+        Some(view) => lines_of(alloc, view, root, &mut path),
+        None => Ok(String::new(alloc)),
+    }
+}
+
+/// Whether a view of no buffer is told of in a new document, and by itself at its place.
+fn is_view_told(alloc: Global) -> Result<bool, Fail> {
+    let root = new_with::<View>(alloc, VIEW)?;
+    let lines = lines_of_view(alloc, &root)?;
+    Ok(has_lines(alloc, &root, NO_BUFFER) && lines.as_str() == NO_BUFFER)
+}
+
+#[test]
+fn views_are_told_as_in_their_document(rt: HostRuntime) -> Result<(), Fail> {
+    assert!(rt; is_view_told(rt.alloc())?);
+    Ok(())
+}
+
+/// Whether nothing is told of a node that is its own child.
+fn is_own_child_clean(alloc: Global) -> Result<bool, Fail> {
+    let root = new_with::<Node>(alloc, r#"{"children":[0]}"#)?;
+    Ok(has_lines(alloc, &root, ""))
+}
+
+#[test]
+fn nodes_may_name_themselves(rt: HostRuntime) -> Result<(), Fail> {
+    assert!(rt; is_own_child_clean(rt.alloc())?);
+    Ok(())
+}
+
+const VIEW_OF_NO_BUFFER: &str =
+    r#"{"asset":{"version":"2.0"},"bufferViews":[{"buffer":3,"byteLength":4}]}"#;
+
+/// Whether the report of a document stays, and that of a node comes behind it, once it is pushed.
+fn is_report_kept(alloc: Global) -> Result<bool, Fail> {
+    let mut root = Root::from_str(alloc, VIEW_OF_NO_BUFFER)?;
+    let was_told = has_lines(alloc, &root, NO_BUFFER);
+    push_read::<Node>(alloc, &mut root, r#"{"children":[5]}"#)?;
+    let lines =
+        "bufferViews[0].buffer: Index out of bounds\nnodes[0].children[0]: Index out of bounds\n";
+    Ok(was_told && has_lines(alloc, &root, lines))
+}
+
+#[test]
+fn reports_stay_in_front(rt: HostRuntime) -> Result<(), Fail> {
+    assert!(rt; is_report_kept(rt.alloc())?);
+    Ok(())
+}
+
+/// Pushes a node onto the list of nodes that is lent for writing.
+fn push_lent(root: &mut Root) -> Result<(), Fail> {
+    let nodes = Get::<Node>::list_mut(root).ok_or("no list")?;
+    nodes.push(Node::new())?;
+    Ok(())
+}
+
+/// Whether a node that is pushed onto the lent list is the document's.
+fn is_lent_list_own(alloc: Global) -> Result<bool, Fail> {
+    let mut root = Root::new(alloc)?;
+    push_lent(&mut root)?;
+    let line = r#"{"asset":{"version":"2.0"},"nodes":[{}]}"#;
+    Ok(has_one::<Node>(&root) && is_line(alloc, &root, line)?)
+}
+
+#[test]
+fn lent_lists_are_the_documents(rt: HostRuntime) -> Result<(), Fail> {
+    assert!(rt; is_lent_list_own(rt.alloc())?);
+    Ok(())
+}

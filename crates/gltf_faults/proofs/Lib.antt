@@ -12,3 +12,4 @@ pub mod Elsewhere
 pub mod Parting
 pub mod Names
 pub mod Primitives
+pub mod DefaultsWritten

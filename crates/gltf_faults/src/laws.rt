@@ -1,10 +1,14 @@
 //! Laws of the definitions that the contracts of this crate speak by. Each is the contract of a
 //! function that does nothing.
 
-ghost use Rattle.std.specs.Prelude.{◌≡◌, List, [], not, codes};
+ghost use Rattle.std.specs.Prelude.{◌≡◌, ◌↔◌, List, [], true, not, codes, Some, None};
 ghost use Rattle.std.specs.List.{filter};
 ghost use Rattle.gltf_paths.specs.Steps.{Step};
+ghost use Rattle.serde_json.specs.Data.{Data};
+ghost use Rattle.gltf_schema.specs.Invalid.{holds_invalid};
+ghost use Rattle.gltf_schema.specs.Read.{read};
 ghost use Rattle.gltf_schema.specs.Tree.{Tree, absent};
+ghost use Rattle.gltf_schema.specs.Write.{write};
 ghost use Rattle.gltf_schema.specs.Kind.{Kind};
 ghost use Rattle.gltf_faults.specs.Inserted.{IsInserted};
 ghost use Rattle.gltf_faults.specs.Naming.{Avoids};
@@ -79,6 +83,12 @@ pub fn pushes_add_reports_of_the_item()
         → let n = count_in named (root_tree r) in let new = pushed named x (root_tree r) in
         Avoids named n root_kind (root_tree r)
         → IsInserted (reports_of root_kind (root_tree r) (root_tree r) []) (reports_of (item_kind named) x new (item_place named n)) (reports_of root_kind new new []) }
+{}
+
+/// A document that was read is refused for writing exactly where an item of a choice or the key of an
+/// attribute in it is invalid.
+pub fn read_documents_are_refused_where_invalid()
+    ensures { (d : Data) (t : Tree) → read root_kind d ≡ Some t → (write root_kind t ≡ None) ↔ (holds_invalid t ≡ true) }
 {}
 
 /// The rules and the lists find members by their rows' numbers: the rows there are those meant.

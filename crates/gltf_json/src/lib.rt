@@ -37,7 +37,8 @@ pub mod extensions {
 pub mod laws {
     pub use gltf_faults::laws::{
         clean_documents_are_closed, pushes_add_reports_of_the_item, pushes_leave_other_reports,
-        pushes_onto_clean_documents, reports_are_the_faults_of_places,
+        pushes_onto_clean_documents, read_documents_are_refused_where_invalid,
+        reports_are_the_faults_of_places,
     };
 }
 

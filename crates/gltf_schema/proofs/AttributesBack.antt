@@ -48,7 +48,7 @@ as_numbers unknown unknown = refl
 as_numbers _ _ = refl
 
 -- the order of keys is total
-keys_total : IsTotalOrder key_cmp
+pub keys_total : IsTotalOrder key_cmp
 keys_total = subst (λ R. IsTotalOrder R) (λ i a b. as_numbers a b i) (on_total key_numbers nat_list_cmp_total)
 
 -- ---- entries of two keys are inserted in either order
@@ -177,7 +177,7 @@ next_before e (f ∷ es) n d ms ordered named before =
     let less = is_less_from (key_cmp e.0 f.0) (first_of_both _ (are_in_order (f ∷ es)) ordered) in
     before_put f.0 n d ms (ap (λ k. key_cmp k f.0) named ∙ less) (before_later e.0 f.0 ms less before)
 
-tail_in_order : (e : Key × ℕ) (es : List (Key × ℕ)) → are_in_order (e ∷ es) ≡ true → are_in_order es ≡ true
+pub tail_in_order : (e : Key × ℕ) (es : List (Key × ℕ)) → are_in_order (e ∷ es) ≡ true → are_in_order es ≡ true
 tail_in_order e [] ordered = refl
 tail_in_order e (f ∷ es) ordered = second_of_both (is_less (key_cmp e.0 f.0)) _ ordered
 

@@ -10,3 +10,5 @@ pub mod ReadBack
 pub mod ArrayOfNumbers
 pub mod ReadPlain
 pub mod Entries
+pub mod AttributesRead
+pub mod RefusedWhereInvalid

@@ -21,11 +21,11 @@ use Rattle.gltf_schema.proofs.AttributesBack.{small_back, attributes_back}
 
 -- ---- what an optional step gave
 
-inside : {A : Type 0} (x y : A) → Some x ≡ Some y → x ≡ y
+pub inside : {A : Type 0} (x y : A) → Some x ≡ Some y → x ≡ y
 inside x y h = cc
 
 -- a test held, and then there was a value
-allowed : {A : Type 0} (b : Bool) (r : Option A) (y : A) → cond b r None ≡ Some y → (b ≡ true) × (r ≡ Some y)
+pub allowed : {A : Type 0} (b : Bool) (r : Option A) (y : A) → cond b r None ≡ Some y → (b ≡ true) × (r ≡ Some y)
 allowed true r y h = (refl, h)
 allowed false r y h = absurd cc
 
@@ -88,7 +88,7 @@ written_some _ _ d h some = absurd cc
 
 -- ---- one row's member
 
-absent_is : (t : Tree) → is_absent t ≡ true → t ≡ tree.absent
+pub absent_is : (t : Tree) → is_absent t ≡ true → t ≡ tree.absent
 absent_is tree.absent h = refl
 absent_is _ h = absurd (false≢true h)
 

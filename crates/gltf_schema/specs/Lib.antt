@@ -5,6 +5,7 @@ pub mod Read
 pub mod Write
 pub mod Put
 pub mod Plain
+pub mod Invalid
 pub mod Outcome
 pub mod ErrorText
 pub mod Taken

@@ -2,8 +2,11 @@
 //! written as.
 
 mod built;
+mod hostile;
 mod lists;
 mod made;
+mod other_roots;
+mod refused_growths;
 mod refused_pushes;
 mod reports;
 mod sources;
@@ -31,8 +34,31 @@ const WITH_SOURCE: &str = r#"{"asset":{"version":"2.0"},"textures":[{"source":0}
 
 const SOURCE_PAST_END: &str = "textures[0].source: Index out of bounds\n";
 
+/// A document with a spot light that has no cone, and a node whose light is none of the list.
+const WRONG_LIGHTS: &str =
+    r#"{"asset":{"version":"2.0"},"extensions":{"KHR_lights_punctual":{"lights":[{"type":"spot"}]}},"nodes":[{"extensions":{"KHR_lights_punctual":{"light":1}}}]}"#;
+
+/// A document with an extension that is null.
+const NULL_LIGHTS: &str =
+    r#"{"asset":{"version":"2.0"},"extensions":{"KHR_lights_punctual":null}}"#;
+
+/// What that document is written as.
+const NO_EXTENSIONS: &str = r#"{"asset":{"version":"2.0"},"extensions":{}}"#;
+
+/// A document with one accessor, in which what is missing is its view.
+pub(crate) const FAULTY: &str =
+    r#"{"asset":{"version":"2.0"},"accessors":[{"count":1,"componentType":5126,"type":"VEC3"}]}"#;
+
+/// A document of six reports.
+pub(crate) const SIX: &str =
+    r#"{"asset":{"version":"2.0"},"accessors":[{"count":1,"componentType":5126,"type":"VEC3","max":[1,2]}],"meshes":[{"primitives":[{"attributes":{"FOO":9,"POSITION":0,"_x":9}}]}]}"#;
+
+/// The lines of the six.
+pub(crate) const SIX_LINES: &str =
+    "accessors[0].bufferView: Missing data\nmeshes[0].primitives[0].attributes[\"_x\"]: Index out of bounds\nmeshes[0].primitives[0].attributes[\"<invalid semantic name>\"]: Invalid value\nmeshes[0].primitives[0].attributes[\"<invalid semantic name>\"]: Index out of bounds\nmeshes[0].primitives[0].attributes[\"POSITION\"].min: Missing data\nmeshes[0].primitives[0].attributes[\"POSITION\"].max: Invalid value\n";
+
 /// What is wrong in a part of a document, a line for each report.
-fn lines_of<'a, T: Validate>(
+pub(crate) fn lines_of<'a, T: Validate>(
     alloc: Global,
     part: &'a T,
     root: &Root,

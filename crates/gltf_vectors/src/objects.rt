@@ -3,12 +3,15 @@
 
 mod answers;
 mod kept;
+mod kinds;
 mod made;
 mod marks;
 mod rows;
 mod scene_answers;
 mod scene_rows;
 mod scene_written;
+mod tables;
+mod trials;
 mod writing;
 mod written;
 

@@ -2,6 +2,9 @@
 
 ghost use Rattle.std.specs.Prelude.{ℕ, ◌+◌, ⊤};
 
+mod users;
+
+use crate::documents::{FAULTY, SIX, SIX_LINES};
 use crate::reading::{WAYS, Way, read_by};
 use gltf_base::{Step, Steps};
 use gltf_json::buffer::{Stride, View};
@@ -11,11 +14,7 @@ use std::alloc::{AllocError, Global};
 use std::fmt::Write;
 use std::test::Fail;
 
-/// A document with one accessor, in which what is missing is its view.
-const NO_VIEW: &str =
-    r#"{"asset":{"version":"2.0"},"accessors":[{"count":1,"componentType":5126,"type":"VEC3"}]}"#;
-
-/// The same with a type that isn't listed.
+/// A document with one accessor, without a view, and of a type that isn't listed.
 const NO_VIEW_AND_NO_TYPE: &str =
     r#"{"asset":{"version":"2.0"},"accessors":[{"count":1,"componentType":5126,"type":"foo"}]}"#;
 
@@ -120,6 +119,43 @@ fn stops_where_the_sink_refuses(rt: HostRuntime) -> Result<(), Fail> {
     Ok(())
 }
 
+/// Whether lines are so many of the first of the six reports, and then tell how validation ended.
+fn are_first_lines(lines: &str, count: usize, ended: &str) -> bool {
+    match lines.strip_suffix(ended) {
+        Some(front) => SIX_LINES.starts_with(front) && line_count(front) == count,
+        None => false,
+    }
+}
+
+/// How many lines a text has, each with its end.
+fn line_count(text: &str) -> usize {
+    let mut count: usize = 0;
+    for byte in text.as_bytes() {
+        if *byte == b'\n' {
+            count = count.saturating_add(1);
+        }
+    }
+    count
+}
+
+/// Whether a sink that takes so many reports holds the first of the six, and validation ends so.
+fn holds_first(alloc: Global, limit: u32, ended: &str) -> Result<bool, gltf_json::Error> {
+    let lines = bounded_lines(alloc, Way::Bytes, SIX, limit)?;
+    Ok(are_first_lines(lines.as_str(), limit as usize, ended))
+}
+
+#[test]
+fn holds_the_first_of_six(rt: HostRuntime) -> Result<(), Fail> {
+    for limit in 0..6 {
+        assert!(rt;
+            holds_first(rt.alloc(), limit, "Err(Sink(7)), 0 steps\n")?,
+            "{limit}"
+        );
+    }
+    assert!(rt; holds_first(rt.alloc(), 6, "Ok(()), 0 steps\n")?);
+    Ok(())
+}
+
 /// So many steps.
 fn steps<'a>(count: usize) -> Steps<'a> {
     let mut path = Steps::new();
@@ -142,19 +178,52 @@ fn count_of(alloc: Global, root: &Root, step_count: usize) -> Result<String, glt
     Ok(format!(in alloc; "{ended:?}, {count} at {place}")?)
 }
 
-/// The same of the document with one fault.
-fn count_from(alloc: Global, way: Way, step_count: usize) -> Result<String, gltf_json::Error> {
-    let root = read_by(alloc, way, NO_VIEW)?;
+/// The same of a document that is read.
+fn count_from(
+    alloc: Global,
+    way: Way,
+    document: &str,
+    step_count: usize,
+) -> Result<String, gltf_json::Error> {
+    let root = read_by(alloc, way, document)?;
     count_of(alloc, &root, step_count)
 }
+
+/// A document with a primitive without positions, and with a mapping, which is deeper.
+const MAPPED: &str =
+    r#"{"asset":{"version":"2.0"},"meshes":[{"primitives":[{"attributes":{},"extensions":{"KHR_materials_variants":{"mappings":[{"material":0,"variants":[0]}]}}}]}]}"#;
 
 #[test]
 fn counts_from_six_steps(rt: HostRuntime) -> Result<(), Fail> {
     for way in WAYS.iter() {
-        assert_eq!(rt;
-            count_from(rt.alloc(), *way, 6)?.as_str(),
-            "Ok(()), 1 at [0][1][2][3][4][5]"
-        );
+        for document in [FAULTY, MAPPED] {
+            assert_eq!(rt;
+                count_from(rt.alloc(), *way, document, 6)?.as_str(),
+                "Ok(()), 1 at [0][1][2][3][4][5]"
+            );
+        }
+    }
+    Ok(())
+}
+
+/// How a walk from seven steps may end. It stops only where a path may have no room for the deepest
+/// place of a document, wherever its faults are.
+const FROM_SEVEN: [&str; 3] = [
+    "Ok(()), 1 at [0][1][2][3][4][5][6]",
+    "Err(StepsFull), 0 at [0][1][2][3][4][5][6]",
+    "Err(StepsFull), 1 at [0][1][2][3][4][5][6]",
+];
+
+/// Whether a walk from seven steps ends as it may.
+fn ends_from_seven(alloc: Global, way: Way) -> Result<bool, gltf_json::Error> {
+    let ended = count_from(alloc, way, FAULTY, 7)?;
+    Ok(FROM_SEVEN.contains(&ended.as_str()))
+}
+
+#[test]
+fn counts_or_stops_from_seven_steps(rt: HostRuntime) -> Result<(), Fail> {
+    for way in WAYS.iter() {
+        assert!(rt; ends_from_seven(rt.alloc(), *way)?);
     }
     Ok(())
 }
@@ -163,7 +232,7 @@ fn counts_from_six_steps(rt: HostRuntime) -> Result<(), Fail> {
 fn stops_where_steps_are_full(rt: HostRuntime) -> Result<(), Fail> {
     for way in WAYS.iter() {
         assert_eq!(rt;
-            count_from(rt.alloc(), *way, 16)?.as_str(),
+            count_from(rt.alloc(), *way, FAULTY, 16)?.as_str(),
             "Err(StepsFull), 0 at [0][1][2][3][4][5][6][7][8][9][10][11][12][13][14][15]"
         );
     }

@@ -23,7 +23,7 @@ fn text_of(alloc: Global, root: &Root, layout: Layout) -> Result<String, Error> 
 }
 
 /// A document as bytes.
-fn bytes_of(alloc: Global, root: &Root, layout: Layout) -> Result<Vec<u8>, Error> {
+pub(crate) fn bytes_of(alloc: Global, root: &Root, layout: Layout) -> Result<Vec<u8>, Error> {
     match layout {
         Layout::InOneLine => root.to_vec(alloc),
         Layout::InLines => root.to_vec_pretty(alloc),

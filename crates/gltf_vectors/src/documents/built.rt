@@ -176,7 +176,7 @@ fn variants_stand_beside_other_extensions(rt: HostRuntime) -> Result<(), Fail> {
 /// A view of the first buffer.
 const VIEW: &str = r#"{"buffer":0,"byteLength":4}"#;
 
-const NO_BUFFER: &str = "bufferViews[0].buffer: Index out of bounds\n";
+pub(super) const NO_BUFFER: &str = "bufferViews[0].buffer: Index out of bounds\n";
 
 /// What is wrong in the first view, a line for each report.
 fn lines_of_view(alloc: Global, root: &Root) -> Result<String, Error> {

@@ -1,6 +1,9 @@
 //! What is reported of whole documents, each read from bytes and from a text.
 
-use super::{EMPTY_SOURCE, NO_SOURCE, SOURCE_PAST_END, WITH_SOURCE, WITHOUT_SOURCE, has_lines};
+use super::{
+    EMPTY_SOURCE, NO_SOURCE, SIX, SIX_LINES, SOURCE_PAST_END, WITH_SOURCE, WITHOUT_SOURCE,
+    WRONG_LIGHTS, has_lines,
+};
 use crate::reading::{WAYS, Way, read_by};
 use crate::validation::bounded_lines;
 use crate::writing::stays;
@@ -32,16 +35,13 @@ const CASES: [Case; 15] = [
         ANIMATIONS,
         "animations[0].channels[0].sampler: Index out of bounds\nanimations[0].channels[0].target.node: Index out of bounds\nanimations[0].channels[0].target.path: Invalid value\n",
     ),
-    (
-        r#"{"asset":{"version":"2.0"},"accessors":[{"count":1,"componentType":5126,"type":"VEC3","max":[1,2]}],"meshes":[{"primitives":[{"attributes":{"FOO":9,"POSITION":0,"_x":9}}]}]}"#,
-        "accessors[0].bufferView: Missing data\nmeshes[0].primitives[0].attributes[\"_x\"]: Index out of bounds\nmeshes[0].primitives[0].attributes[\"<invalid semantic name>\"]: Invalid value\nmeshes[0].primitives[0].attributes[\"<invalid semantic name>\"]: Index out of bounds\nmeshes[0].primitives[0].attributes[\"POSITION\"].min: Missing data\nmeshes[0].primitives[0].attributes[\"POSITION\"].max: Invalid value\n",
-    ),
+    (SIX, SIX_LINES),
     (
         r#"{"asset":{"version":"2.0"},"cameras":[{"type":"foo"}]}"#,
         "cameras[0].type: Invalid value\ncameras[0]: Missing data\n",
     ),
     (
-        r#"{"asset":{"version":"2.0"},"extensions":{"KHR_lights_punctual":{"lights":[{"type":"spot"}]}},"nodes":[{"extensions":{"KHR_lights_punctual":{"light":1}}}]}"#,
+        WRONG_LIGHTS,
         "extensions.KHR_lights_punctual.lights[0].spot: Missing data\nnodes[0].extensions.KHR_lights_punctual.light: Index out of bounds\n",
     ),
     (NULL_CAMERA, ""),

@@ -1,6 +1,6 @@
 //! What documents are written as, each read from bytes and from a text.
 
-use super::{EMPTY_SOURCE, NEW, WITH_SOURCE, WITHOUT_SOURCE};
+use super::{EMPTY_SOURCE, NEW, NO_EXTENSIONS, NULL_LIGHTS, WITH_SOURCE, WITHOUT_SOURCE};
 use crate::reading::{WAYS, Way, read_by};
 use crate::writing::{Layout, is_invalid_in, is_line_twice};
 use gltf_json::{Error, Root};
@@ -51,10 +51,7 @@ const CASES: [Case; 16] = [
         r#"{"asset":{"version":"2.0"},"meshes":[{"primitives":[{"attributes":{"COLOR_+1":0,"COLOR_01":1,"COLOR_1":2}}]}]}"#,
         r#"{"asset":{"version":"2.0"},"meshes":[{"primitives":[{"attributes":{"COLOR_1":2}}]}]}"#,
     ),
-    (
-        r#"{"asset":{"version":"2.0"},"extensions":{"KHR_lights_punctual":null}}"#,
-        r#"{"asset":{"version":"2.0"},"extensions":{}}"#,
-    ),
+    (NULL_LIGHTS, NO_EXTENSIONS),
     (
         r#"{"asset":{"version":"2.0"},"extensions":{"KHR_materials_variants":{"variants":[]},"EXT_x":null}}"#,
         r#"{"asset":{"version":"2.0"},"extensions":{"EXT_x":null,"KHR_materials_variants":{"variants":[]}}}"#,

@@ -176,16 +176,6 @@ fn readable_documents_stay(rt: HostRuntime) {
     }
 }
 
-/// Whether bytes are refused as no JSON.
-fn is_no_json(alloc: Global, bytes: &[u8]) -> bool {
-    matches!(Root::from_slice(alloc, bytes), Err(Error::Json))
-}
-
-#[test]
-fn bytes_that_are_no_text(rt: HostRuntime) {
-    assert!(rt; is_no_json(rt.alloc(), b"{\"asset\":{\"version\":\"\xff\"}}"));
-}
-
 /// Whether a reading is a document of version 2.0.
 fn is_second_version(reading: &Result<Root, Error>) -> bool {
     match reading {

@@ -1,9 +1,13 @@
 //! Want of memory.
 
 use std::alloc::{AllocError, Global};
+use std::test::Fail;
 
 /// Bytes that are given back at a time.
 const PEBBLE_LEN: usize = 64;
+
+/// How often something is tried at most.
+const TRIES: usize = 4096;
 
 /// Holds all memory that the process can have, so that growths are refused.
 #[derive(Drop)]
@@ -38,4 +42,37 @@ impl Hog {
     pub fn give_back(&mut self) -> bool {
         self.pebbles.pop().is_some()
     }
+}
+
+/// How a try ends.
+#[derive(Clone, Copy)]
+pub(crate) enum End {
+    /// As it does where there is memory.
+    Whole,
+    /// For want of memory, and as it should then.
+    Refused,
+    /// As it never should.
+    Wrong,
+}
+
+/// What is tried where memory is refused.
+pub(crate) trait Tried {
+    /// Tries it, and judges how it ended. That takes no memory.
+    fn attempt(&mut self, alloc: Global) -> End;
+}
+
+/// How often something is refused that is tried without memory, and each time with a pebble more,
+/// until it is whole.
+pub(crate) fn refusal_count<T: Tried>(alloc: Global, tried: &mut T) -> Result<usize, Fail> {
+    let mut hog = Hog::take_all(alloc, TRIES)?;
+    for refusals in 0..TRIES {
+        match tried.attempt(alloc) {
+            End::Whole => return Ok(refusals),
+            End::Wrong => return Err(Fail::from("neither whole nor refused")),
+            End::Refused => {
+                hog.give_back();
+            }
+        }
+    }
+    Err(Fail::from("never whole"))
 }

@@ -1,7 +1,11 @@
 //! The rows of accessors, buffers, images, textures and materials.
 
+use super::kinds::Kind::{
+    Any, Index, Named, Numbered, Object, Pair, Quadruple, Real, Stride, Text, Triple, Truth, U32,
+    U64,
+};
 use super::marks::Mark::{Defaulted, Optional, Required};
-use super::marks::obeys;
+use super::tables::{obeys, obeys_and_keeps};
 use gltf_parts::accessor::{Accessor, sparse};
 use gltf_parts::buffer::{Buffer, View};
 use gltf_parts::extensions;
@@ -17,18 +21,18 @@ fn of_accessors(rt: HostRuntime) -> Result<(), Fail> {
         alloc,
         r#"{"count":1,"componentType":5126,"type":"VEC3"}"#,
         &[
-            ("bufferView", Optional),
-            ("byteOffset", Optional),
-            ("count", Required),
-            ("componentType", Required),
-            ("type", Required),
-            ("min", Optional),
-            ("max", Optional),
-            ("name", Optional),
-            ("normalized", Defaulted),
-            ("sparse", Optional),
-            ("extensions", Optional),
-            ("extras", Optional),
+            ("bufferView", Optional, Index),
+            ("byteOffset", Optional, U64),
+            ("count", Required, U64),
+            ("componentType", Required, Numbered),
+            ("type", Required, Named),
+            ("min", Optional, Any),
+            ("max", Optional, Any),
+            ("name", Optional, Text),
+            ("normalized", Defaulted, Truth),
+            ("sparse", Optional, Object),
+            ("extensions", Optional, Object),
+            ("extras", Optional, Any),
         ],
     )?;
     Ok(())
@@ -41,32 +45,32 @@ fn of_sparse_storage(rt: HostRuntime) -> Result<(), Fail> {
         alloc,
         r#"{"count":1,"indices":{"bufferView":0,"componentType":5123},"values":{"bufferView":0}}"#,
         &[
-            ("count", Required),
-            ("indices", Required),
-            ("values", Required),
-            ("extensions", Optional),
-            ("extras", Optional),
+            ("count", Required, U64),
+            ("indices", Required, Object),
+            ("values", Required, Object),
+            ("extensions", Optional, Object),
+            ("extras", Optional, Any),
         ],
     )?;
     obeys::<sparse::Indices>(
         alloc,
         r#"{"bufferView":0,"componentType":5123}"#,
         &[
-            ("bufferView", Required),
-            ("byteOffset", Defaulted),
-            ("componentType", Required),
-            ("extensions", Optional),
-            ("extras", Optional),
+            ("bufferView", Required, Index),
+            ("byteOffset", Defaulted, U64),
+            ("componentType", Required, Numbered),
+            ("extensions", Optional, Object),
+            ("extras", Optional, Any),
         ],
     )?;
     obeys::<sparse::Values>(
         alloc,
         r#"{"bufferView":0}"#,
         &[
-            ("bufferView", Required),
-            ("byteOffset", Defaulted),
-            ("extensions", Optional),
-            ("extras", Optional),
+            ("bufferView", Required, Index),
+            ("byteOffset", Defaulted, U64),
+            ("extensions", Optional, Object),
+            ("extras", Optional, Any),
         ],
     )?;
     Ok(())
@@ -79,37 +83,37 @@ fn of_buffers_and_images(rt: HostRuntime) -> Result<(), Fail> {
         alloc,
         "{}",
         &[
-            ("byteLength", Defaulted),
-            ("name", Optional),
-            ("uri", Optional),
-            ("extensions", Optional),
-            ("extras", Optional),
+            ("byteLength", Defaulted, U64),
+            ("name", Optional, Text),
+            ("uri", Optional, Text),
+            ("extensions", Optional, Object),
+            ("extras", Optional, Any),
         ],
     )?;
     obeys::<View>(
         alloc,
         r#"{"buffer":0,"byteLength":1}"#,
         &[
-            ("buffer", Required),
-            ("byteLength", Required),
-            ("byteOffset", Optional),
-            ("byteStride", Optional),
-            ("name", Optional),
-            ("target", Optional),
-            ("extensions", Optional),
-            ("extras", Optional),
+            ("buffer", Required, Index),
+            ("byteLength", Required, U64),
+            ("byteOffset", Optional, U64),
+            ("byteStride", Optional, Stride),
+            ("name", Optional, Text),
+            ("target", Optional, Numbered),
+            ("extensions", Optional, Object),
+            ("extras", Optional, Any),
         ],
     )?;
     obeys::<Image>(
         alloc,
         "{}",
         &[
-            ("bufferView", Optional),
-            ("mimeType", Optional),
-            ("name", Optional),
-            ("uri", Optional),
-            ("extensions", Optional),
-            ("extras", Optional),
+            ("bufferView", Optional, Index),
+            ("mimeType", Optional, Text),
+            ("name", Optional, Text),
+            ("uri", Optional, Text),
+            ("extensions", Optional, Object),
+            ("extras", Optional, Any),
         ],
     )?;
     Ok(())
@@ -122,24 +126,24 @@ fn of_textures(rt: HostRuntime) -> Result<(), Fail> {
         alloc,
         "{}",
         &[
-            ("magFilter", Optional),
-            ("minFilter", Optional),
-            ("name", Optional),
-            ("wrapS", Defaulted),
-            ("wrapT", Defaulted),
-            ("extensions", Optional),
-            ("extras", Optional),
+            ("magFilter", Optional, Numbered),
+            ("minFilter", Optional, Numbered),
+            ("name", Optional, Text),
+            ("wrapS", Defaulted, Numbered),
+            ("wrapT", Defaulted, Numbered),
+            ("extensions", Optional, Object),
+            ("extras", Optional, Any),
         ],
     )?;
     obeys::<Texture>(
         alloc,
         "{}",
         &[
-            ("name", Optional),
-            ("sampler", Optional),
-            ("extensions", Optional),
-            ("source", Defaulted),
-            ("extras", Optional),
+            ("name", Optional, Text),
+            ("sampler", Optional, Index),
+            ("extensions", Optional, Object),
+            ("source", Defaulted, Index),
+            ("extras", Optional, Any),
         ],
     )?;
     Ok(())
@@ -152,32 +156,32 @@ fn of_references_to_textures(rt: HostRuntime) -> Result<(), Fail> {
         alloc,
         r#"{"index":0}"#,
         &[
-            ("index", Required),
-            ("texCoord", Defaulted),
-            ("extensions", Optional),
-            ("extras", Optional),
+            ("index", Required, Index),
+            ("texCoord", Defaulted, U32),
+            ("extensions", Optional, Object),
+            ("extras", Optional, Any),
         ],
     )?;
     obeys::<NormalTexture>(
         alloc,
         r#"{"index":0}"#,
         &[
-            ("index", Required),
-            ("scale", Defaulted),
-            ("texCoord", Defaulted),
-            ("extensions", Optional),
-            ("extras", Optional),
+            ("index", Required, Index),
+            ("scale", Defaulted, Real),
+            ("texCoord", Defaulted, U32),
+            ("extensions", Optional, Object),
+            ("extras", Optional, Any),
         ],
     )?;
     obeys::<OcclusionTexture>(
         alloc,
         r#"{"index":0}"#,
         &[
-            ("index", Required),
-            ("strength", Defaulted),
-            ("texCoord", Defaulted),
-            ("extensions", Optional),
-            ("extras", Optional),
+            ("index", Required, Index),
+            ("strength", Defaulted, Real),
+            ("texCoord", Defaulted, U32),
+            ("extensions", Optional, Object),
+            ("extras", Optional, Any),
         ],
     )?;
     Ok(())
@@ -190,30 +194,30 @@ fn of_materials(rt: HostRuntime) -> Result<(), Fail> {
         alloc,
         "{}",
         &[
-            ("alphaCutoff", Optional),
-            ("alphaMode", Defaulted),
-            ("doubleSided", Defaulted),
-            ("name", Optional),
-            ("pbrMetallicRoughness", Defaulted),
-            ("normalTexture", Optional),
-            ("occlusionTexture", Optional),
-            ("emissiveTexture", Optional),
-            ("emissiveFactor", Defaulted),
-            ("extensions", Optional),
-            ("extras", Optional),
+            ("alphaCutoff", Optional, Real),
+            ("alphaMode", Defaulted, Named),
+            ("doubleSided", Defaulted, Truth),
+            ("name", Optional, Text),
+            ("pbrMetallicRoughness", Defaulted, Object),
+            ("normalTexture", Optional, Object),
+            ("occlusionTexture", Optional, Object),
+            ("emissiveTexture", Optional, Object),
+            ("emissiveFactor", Defaulted, Triple),
+            ("extensions", Optional, Object),
+            ("extras", Optional, Any),
         ],
     )?;
     obeys::<PbrMetallicRoughness>(
         alloc,
         "{}",
         &[
-            ("baseColorFactor", Defaulted),
-            ("baseColorTexture", Optional),
-            ("metallicFactor", Defaulted),
-            ("roughnessFactor", Defaulted),
-            ("metallicRoughnessTexture", Optional),
-            ("extensions", Optional),
-            ("extras", Optional),
+            ("baseColorFactor", Defaulted, Quadruple),
+            ("baseColorTexture", Optional, Object),
+            ("metallicFactor", Defaulted, Real),
+            ("roughnessFactor", Defaulted, Real),
+            ("metallicRoughnessTexture", Optional, Object),
+            ("extensions", Optional, Object),
+            ("extras", Optional, Any),
         ],
     )?;
     Ok(())
@@ -222,18 +226,22 @@ fn of_materials(rt: HostRuntime) -> Result<(), Fail> {
 #[test]
 fn of_extensions_of_objects(rt: HostRuntime) -> Result<(), Fail> {
     let alloc = rt.alloc();
-    obeys::<extensions::texture::Info>(alloc, "{}", &[("KHR_texture_transform", Optional)])?;
-    obeys::<extensions::material::Material>(
+    obeys_and_keeps::<extensions::texture::Info>(
+        alloc,
+        "{}",
+        &[("KHR_texture_transform", Optional, Object)],
+    )?;
+    obeys_and_keeps::<extensions::material::Material>(
         alloc,
         "{}",
         &[
-            ("KHR_materials_pbrSpecularGlossiness", Optional),
-            ("KHR_materials_unlit", Optional),
-            ("KHR_materials_transmission", Optional),
-            ("KHR_materials_volume", Optional),
-            ("KHR_materials_specular", Optional),
-            ("KHR_materials_ior", Optional),
-            ("KHR_materials_emissive_strength", Optional),
+            ("KHR_materials_pbrSpecularGlossiness", Optional, Object),
+            ("KHR_materials_unlit", Optional, Object),
+            ("KHR_materials_transmission", Optional, Object),
+            ("KHR_materials_volume", Optional, Object),
+            ("KHR_materials_specular", Optional, Object),
+            ("KHR_materials_ior", Optional, Object),
+            ("KHR_materials_emissive_strength", Optional, Object),
         ],
     )?;
     Ok(())
@@ -246,23 +254,23 @@ fn of_texture_extensions(rt: HostRuntime) -> Result<(), Fail> {
         alloc,
         "{}",
         &[
-            ("offset", Defaulted),
-            ("rotation", Defaulted),
-            ("scale", Defaulted),
-            ("texCoord", Optional),
-            ("extras", Optional),
+            ("offset", Defaulted, Pair),
+            ("rotation", Defaulted, Real),
+            ("scale", Defaulted, Pair),
+            ("texCoord", Optional, U32),
+            ("extras", Optional, Any),
         ],
     )?;
-    obeys::<extensions::material::PbrSpecularGlossiness>(
+    obeys_and_keeps::<extensions::material::PbrSpecularGlossiness>(
         alloc,
         "{}",
         &[
-            ("diffuseFactor", Defaulted),
-            ("diffuseTexture", Optional),
-            ("specularFactor", Defaulted),
-            ("glossinessFactor", Defaulted),
-            ("specularGlossinessTexture", Optional),
-            ("extras", Optional),
+            ("diffuseFactor", Defaulted, Quadruple),
+            ("diffuseTexture", Optional, Object),
+            ("specularFactor", Defaulted, Triple),
+            ("glossinessFactor", Defaulted, Real),
+            ("specularGlossinessTexture", Optional, Object),
+            ("extras", Optional, Any),
         ],
     )?;
     Ok(())
@@ -275,31 +283,31 @@ fn of_light_and_bodies(rt: HostRuntime) -> Result<(), Fail> {
         alloc,
         "{}",
         &[
-            ("transmissionFactor", Defaulted),
-            ("transmissionTexture", Optional),
-            ("extras", Optional),
+            ("transmissionFactor", Defaulted, Real),
+            ("transmissionTexture", Optional, Object),
+            ("extras", Optional, Any),
         ],
     )?;
     obeys::<extensions::material::Volume>(
         alloc,
         "{}",
         &[
-            ("thicknessFactor", Defaulted),
-            ("thicknessTexture", Optional),
-            ("attenuationDistance", Defaulted),
-            ("attenuationColor", Defaulted),
-            ("extras", Optional),
+            ("thicknessFactor", Defaulted, Real),
+            ("thicknessTexture", Optional, Object),
+            ("attenuationDistance", Defaulted, Real),
+            ("attenuationColor", Defaulted, Triple),
+            ("extras", Optional, Any),
         ],
     )?;
     obeys::<extensions::material::Specular>(
         alloc,
         "{}",
         &[
-            ("specularFactor", Defaulted),
-            ("specularTexture", Optional),
-            ("specularColorFactor", Defaulted),
-            ("specularColorTexture", Optional),
-            ("extras", Optional),
+            ("specularFactor", Defaulted, Real),
+            ("specularTexture", Optional, Object),
+            ("specularColorFactor", Defaulted, Triple),
+            ("specularColorTexture", Optional, Object),
+            ("extras", Optional, Any),
         ],
     )?;
     Ok(())
@@ -308,11 +316,15 @@ fn of_light_and_bodies(rt: HostRuntime) -> Result<(), Fail> {
 #[test]
 fn of_small_extensions(rt: HostRuntime) -> Result<(), Fail> {
     let alloc = rt.alloc();
-    obeys::<extensions::material::Ior>(alloc, "{}", &[("ior", Defaulted), ("extras", Optional)])?;
+    obeys::<extensions::material::Ior>(
+        alloc,
+        "{}",
+        &[("ior", Defaulted, Real), ("extras", Optional, Any)],
+    )?;
     obeys::<extensions::material::EmissiveStrength>(
         alloc,
         "{}",
-        &[("emissiveStrength", Defaulted)],
+        &[("emissiveStrength", Defaulted, Real)],
     )?;
     obeys::<extensions::material::Unlit>(alloc, "{}", &[])?;
     obeys::<extensions::accessor::sparse::Sparse>(alloc, "{}", &[])?;

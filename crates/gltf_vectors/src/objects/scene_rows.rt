@@ -1,8 +1,11 @@
 //! The rows of meshes, nodes, scenes and animations, of a document's own description, and of whole
 //! documents.
 
+use super::kinds::Kind::{
+    Any, Index, List, Matrix, Named, Numbered, Object, Quadruple, Real, Text, Triple, U32,
+};
 use super::marks::Mark::{Defaulted, Optional, Required};
-use super::marks::obeys;
+use super::tables::{obeys, obeys_and_keeps};
 use gltf_json::{Root, extensions as all_extensions};
 use gltf_scene::animation::{Animation, Channel, Sampler, Target};
 use gltf_scene::asset::Asset;
@@ -24,12 +27,12 @@ fn of_documents(rt: HostRuntime) -> Result<(), Fail> {
         rt.alloc(),
         DOCUMENT,
         &[
-            ("asset", Required),
-            ("scene", Optional),
-            ("extensions", Optional),
-            ("extras", Optional),
-            ("extensionsUsed", Defaulted),
-            ("extensionsRequired", Defaulted),
+            ("asset", Required, Object),
+            ("scene", Optional, Index),
+            ("extensions", Optional, Object),
+            ("extras", Optional, Any),
+            ("extensionsUsed", Defaulted, List),
+            ("extensionsRequired", Defaulted, List),
         ],
     )?;
     Ok(())
@@ -41,19 +44,19 @@ fn of_lists_of_documents(rt: HostRuntime) -> Result<(), Fail> {
         rt.alloc(),
         DOCUMENT,
         &[
-            ("accessors", Defaulted),
-            ("animations", Defaulted),
-            ("buffers", Defaulted),
-            ("bufferViews", Defaulted),
-            ("cameras", Defaulted),
-            ("images", Defaulted),
-            ("materials", Defaulted),
-            ("meshes", Defaulted),
-            ("nodes", Defaulted),
-            ("samplers", Defaulted),
-            ("scenes", Defaulted),
-            ("skins", Defaulted),
-            ("textures", Defaulted),
+            ("accessors", Defaulted, List),
+            ("animations", Defaulted, List),
+            ("buffers", Defaulted, List),
+            ("bufferViews", Defaulted, List),
+            ("cameras", Defaulted, List),
+            ("images", Defaulted, List),
+            ("materials", Defaulted, List),
+            ("meshes", Defaulted, List),
+            ("nodes", Defaulted, List),
+            ("samplers", Defaulted, List),
+            ("scenes", Defaulted, List),
+            ("skins", Defaulted, List),
+            ("textures", Defaulted, List),
         ],
     )?;
     Ok(())
@@ -66,12 +69,12 @@ fn of_assets(rt: HostRuntime) -> Result<(), Fail> {
         alloc,
         r#"{"version":"2.0"}"#,
         &[
-            ("copyright", Optional),
-            ("generator", Optional),
-            ("minVersion", Optional),
-            ("version", Required),
-            ("extensions", Optional),
-            ("extras", Optional),
+            ("copyright", Optional, Text),
+            ("generator", Optional, Text),
+            ("minVersion", Optional, Text),
+            ("version", Required, Text),
+            ("extensions", Optional, Object),
+            ("extras", Optional, Any),
         ],
     )?;
     Ok(())
@@ -84,22 +87,22 @@ fn of_animations(rt: HostRuntime) -> Result<(), Fail> {
         alloc,
         "{}",
         &[
-            ("samplers", Defaulted),
-            ("channels", Defaulted),
-            ("name", Optional),
-            ("extensions", Optional),
-            ("extras", Optional),
+            ("samplers", Defaulted, List),
+            ("channels", Defaulted, List),
+            ("name", Optional, Text),
+            ("extensions", Optional, Object),
+            ("extras", Optional, Any),
         ],
     )?;
     obeys::<Sampler>(
         alloc,
         r#"{"input":0,"output":1}"#,
         &[
-            ("input", Required),
-            ("interpolation", Defaulted),
-            ("output", Required),
-            ("extensions", Optional),
-            ("extras", Optional),
+            ("input", Required, Index),
+            ("interpolation", Defaulted, Named),
+            ("output", Required, Index),
+            ("extensions", Optional, Object),
+            ("extras", Optional, Any),
         ],
     )?;
     Ok(())
@@ -112,20 +115,20 @@ fn of_channels(rt: HostRuntime) -> Result<(), Fail> {
         alloc,
         r#"{"sampler":0,"target":{"node":0,"path":"scale"}}"#,
         &[
-            ("sampler", Required),
-            ("target", Required),
-            ("extensions", Optional),
-            ("extras", Optional),
+            ("sampler", Required, Index),
+            ("target", Required, Object),
+            ("extensions", Optional, Object),
+            ("extras", Optional, Any),
         ],
     )?;
     obeys::<Target>(
         alloc,
         r#"{"node":0,"path":"scale"}"#,
         &[
-            ("node", Required),
-            ("path", Required),
-            ("extensions", Optional),
-            ("extras", Optional),
+            ("node", Required, Index),
+            ("path", Required, Named),
+            ("extensions", Optional, Object),
+            ("extras", Optional, Any),
         ],
     )?;
     Ok(())
@@ -138,36 +141,36 @@ fn of_cameras(rt: HostRuntime) -> Result<(), Fail> {
         alloc,
         r#"{"type":"perspective"}"#,
         &[
-            ("name", Optional),
-            ("orthographic", Optional),
-            ("perspective", Optional),
-            ("type", Required),
-            ("extensions", Optional),
-            ("extras", Optional),
+            ("name", Optional, Text),
+            ("orthographic", Optional, Object),
+            ("perspective", Optional, Object),
+            ("type", Required, Named),
+            ("extensions", Optional, Object),
+            ("extras", Optional, Any),
         ],
     )?;
     obeys::<Orthographic>(
         alloc,
         r#"{"xmag":1,"ymag":1,"zfar":2,"znear":1}"#,
         &[
-            ("xmag", Required),
-            ("ymag", Required),
-            ("zfar", Required),
-            ("znear", Required),
-            ("extensions", Optional),
-            ("extras", Optional),
+            ("xmag", Required, Real),
+            ("ymag", Required, Real),
+            ("zfar", Required, Real),
+            ("znear", Required, Real),
+            ("extensions", Optional, Object),
+            ("extras", Optional, Any),
         ],
     )?;
     obeys::<Perspective>(
         alloc,
         r#"{"yfov":1,"znear":1}"#,
         &[
-            ("aspectRatio", Optional),
-            ("yfov", Required),
-            ("zfar", Optional),
-            ("znear", Required),
-            ("extensions", Optional),
-            ("extras", Optional),
+            ("aspectRatio", Optional, Real),
+            ("yfov", Required, Real),
+            ("zfar", Optional, Real),
+            ("znear", Required, Real),
+            ("extensions", Optional, Object),
+            ("extras", Optional, Any),
         ],
     )?;
     Ok(())
@@ -180,33 +183,33 @@ fn of_meshes(rt: HostRuntime) -> Result<(), Fail> {
         alloc,
         r#"{"primitives":[]}"#,
         &[
-            ("extensions", Optional),
-            ("extras", Optional),
-            ("name", Optional),
-            ("primitives", Required),
-            ("weights", Optional),
+            ("extensions", Optional, Object),
+            ("extras", Optional, Any),
+            ("name", Optional, Text),
+            ("primitives", Required, List),
+            ("weights", Optional, List),
         ],
     )?;
     obeys::<Primitive>(
         alloc,
         r#"{"attributes":{}}"#,
         &[
-            ("attributes", Required),
-            ("extensions", Optional),
-            ("extras", Optional),
-            ("indices", Optional),
-            ("material", Optional),
-            ("mode", Defaulted),
-            ("targets", Optional),
+            ("attributes", Required, Object),
+            ("extensions", Optional, Object),
+            ("extras", Optional, Any),
+            ("indices", Optional, Index),
+            ("material", Optional, Index),
+            ("mode", Defaulted, Numbered),
+            ("targets", Optional, List),
         ],
     )?;
     obeys::<MorphTarget>(
         alloc,
         "{}",
         &[
-            ("POSITION", Optional),
-            ("NORMAL", Optional),
-            ("TANGENT", Optional),
+            ("POSITION", Optional, Index),
+            ("NORMAL", Optional, Index),
+            ("TANGENT", Optional, Index),
         ],
     )?;
     Ok(())
@@ -219,18 +222,18 @@ fn of_nodes(rt: HostRuntime) -> Result<(), Fail> {
         alloc,
         "{}",
         &[
-            ("camera", Optional),
-            ("children", Optional),
-            ("extensions", Optional),
-            ("extras", Optional),
-            ("matrix", Optional),
-            ("mesh", Optional),
-            ("name", Optional),
-            ("rotation", Optional),
-            ("scale", Optional),
-            ("translation", Optional),
-            ("skin", Optional),
-            ("weights", Optional),
+            ("camera", Optional, Index),
+            ("children", Optional, List),
+            ("extensions", Optional, Object),
+            ("extras", Optional, Any),
+            ("matrix", Optional, Matrix),
+            ("mesh", Optional, Index),
+            ("name", Optional, Text),
+            ("rotation", Optional, Quadruple),
+            ("scale", Optional, Triple),
+            ("translation", Optional, Triple),
+            ("skin", Optional, Index),
+            ("weights", Optional, List),
         ],
     )?;
     Ok(())
@@ -243,22 +246,22 @@ fn of_scenes_and_skins(rt: HostRuntime) -> Result<(), Fail> {
         alloc,
         "{}",
         &[
-            ("extensions", Optional),
-            ("extras", Optional),
-            ("name", Optional),
-            ("nodes", Defaulted),
+            ("extensions", Optional, Object),
+            ("extras", Optional, Any),
+            ("name", Optional, Text),
+            ("nodes", Defaulted, List),
         ],
     )?;
     obeys::<Skin>(
         alloc,
         "{}",
         &[
-            ("extensions", Optional),
-            ("extras", Optional),
-            ("inverseBindMatrices", Optional),
-            ("joints", Defaulted),
-            ("name", Optional),
-            ("skeleton", Optional),
+            ("extensions", Optional, Object),
+            ("extras", Optional, Any),
+            ("inverseBindMatrices", Optional, Index),
+            ("joints", Defaulted, List),
+            ("name", Optional, Text),
+            ("skeleton", Optional, Index),
         ],
     )?;
     Ok(())
@@ -267,25 +270,28 @@ fn of_scenes_and_skins(rt: HostRuntime) -> Result<(), Fail> {
 #[test]
 fn of_lights(rt: HostRuntime) -> Result<(), Fail> {
     let alloc = rt.alloc();
-    obeys::<KhrLightsPunctual>(alloc, r#"{"light":0}"#, &[("light", Required)])?;
+    obeys::<KhrLightsPunctual>(alloc, r#"{"light":0}"#, &[("light", Required, Index)])?;
     obeys::<Light>(
         alloc,
         r#"{"type":"point"}"#,
         &[
-            ("color", Defaulted),
-            ("extensions", Optional),
-            ("extras", Optional),
-            ("intensity", Defaulted),
-            ("name", Optional),
-            ("range", Optional),
-            ("spot", Optional),
-            ("type", Required),
+            ("color", Defaulted, Triple),
+            ("extensions", Optional, Any),
+            ("extras", Optional, Any),
+            ("intensity", Defaulted, Real),
+            ("name", Optional, Text),
+            ("range", Optional, Real),
+            ("spot", Optional, Object),
+            ("type", Required, Named),
         ],
     )?;
     obeys::<Spot>(
         alloc,
         "{}",
-        &[("innerConeAngle", Defaulted), ("outerConeAngle", Defaulted)],
+        &[
+            ("innerConeAngle", Defaulted, Real),
+            ("outerConeAngle", Defaulted, Real),
+        ],
     )?;
     Ok(())
 }
@@ -293,16 +299,16 @@ fn of_lights(rt: HostRuntime) -> Result<(), Fail> {
 #[test]
 fn of_variants(rt: HostRuntime) -> Result<(), Fail> {
     let alloc = rt.alloc();
-    obeys::<Variant>(alloc, r#"{"name":""}"#, &[("name", Required)])?;
+    obeys::<Variant>(alloc, r#"{"name":""}"#, &[("name", Required, Text)])?;
     obeys::<extensions::mesh::KhrMaterialsVariants>(
         alloc,
         r#"{"mappings":[]}"#,
-        &[("mappings", Required)],
+        &[("mappings", Required, List)],
     )?;
     obeys::<extensions::mesh::Mapping>(
         alloc,
         r#"{"material":0,"variants":[]}"#,
-        &[("material", Required), ("variants", Required)],
+        &[("material", Required, U32), ("variants", Required, List)],
     )?;
     Ok(())
 }
@@ -310,14 +316,22 @@ fn of_variants(rt: HostRuntime) -> Result<(), Fail> {
 #[test]
 fn of_extensions_with_rows(rt: HostRuntime) -> Result<(), Fail> {
     let alloc = rt.alloc();
-    obeys::<extensions::mesh::Primitive>(alloc, "{}", &[("KHR_materials_variants", Optional)])?;
-    obeys::<extensions::scene::Node>(alloc, "{}", &[("KHR_lights_punctual", Optional)])?;
-    obeys::<all_extensions::root::Root>(
+    obeys_and_keeps::<extensions::mesh::Primitive>(
+        alloc,
+        "{}",
+        &[("KHR_materials_variants", Optional, Object)],
+    )?;
+    obeys_and_keeps::<extensions::scene::Node>(
+        alloc,
+        "{}",
+        &[("KHR_lights_punctual", Optional, Object)],
+    )?;
+    obeys_and_keeps::<all_extensions::root::Root>(
         alloc,
         "{}",
         &[
-            ("KHR_lights_punctual", Optional),
-            ("KHR_materials_variants", Optional),
+            ("KHR_lights_punctual", Optional, Object),
+            ("KHR_materials_variants", Optional, Object),
         ],
     )?;
     Ok(())
@@ -329,12 +343,12 @@ fn of_lists_of_extensions(rt: HostRuntime) -> Result<(), Fail> {
     obeys::<all_extensions::root::KhrLightsPunctual>(
         alloc,
         r#"{"lights":[]}"#,
-        &[("lights", Required)],
+        &[("lights", Required, List)],
     )?;
     obeys::<all_extensions::root::KhrMaterialsVariants>(
         alloc,
         r#"{"variants":[]}"#,
-        &[("variants", Required)],
+        &[("variants", Required, List)],
     )?;
     Ok(())
 }

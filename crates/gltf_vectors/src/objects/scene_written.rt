@@ -3,13 +3,13 @@
 
 use super::writing::{keeps, writes};
 use gltf_json::{Root, extensions as all_extensions};
-use gltf_scene::animation::{Animation, Channel, Sampler};
+use gltf_scene::animation::{Animation, Channel, Sampler, Target};
 use gltf_scene::asset::Asset;
 use gltf_scene::camera::{Camera, Orthographic, Perspective};
-use gltf_scene::extensions::scene::khr_lights_punctual::Light;
+use gltf_scene::extensions::scene::khr_lights_punctual::{KhrLightsPunctual, Light, Spot};
 use gltf_scene::extensions::scene::khr_materials_variants::Variant;
 use gltf_scene::extensions::{animation, asset, camera, mesh, scene, skin};
-use gltf_scene::mesh::{Mesh, Primitive};
+use gltf_scene::mesh::{Mesh, MorphTarget, Primitive};
 use gltf_scene::scene::{Node, Scene};
 use gltf_scene::skin::Skin;
 use std::test::Fail;
@@ -85,6 +85,10 @@ fn animations(rt: HostRuntime) -> Result<(), Fail> {
             r#"{"sampler":4294967295,"target":{"node":1,"path":"rotation","extensions":{},"extras":2},"extensions":{},"extras":1}"#,
         )],
     )?;
+    keeps::<Target>(
+        alloc,
+        &[r#"{"node":1,"path":"weights","extensions":{},"extras":2}"#],
+    )?;
     keeps::<Sampler>(
         alloc,
         &[r#"{"input":0,"interpolation":"CUBICSPLINE","output":1,"extensions":{},"extras":1}"#],
@@ -150,7 +154,8 @@ fn meshes(rt: HostRuntime) -> Result<(), Fail> {
         &[
             r#"{"attributes":{"_":0,"__x":1,"POSITION":2,"NORMAL":3,"TANGENT":4,"COLOR_0":5,"WEIGHTS_4294967295":6},"extensions":{"KHR_materials_variants":{"mappings":[{"material":0,"variants":[]}]},"EXT_x":1},"extras":1,"indices":0,"material":0,"mode":0,"targets":[{"POSITION":0,"NORMAL":1,"TANGENT":2}]}"#,
         ],
-    )
+    )?;
+    keeps::<MorphTarget>(alloc, &[r#"{"POSITION":2,"NORMAL":1,"TANGENT":0}"#])
 }
 
 #[test]
@@ -200,7 +205,10 @@ fn lights_and_variants(rt: HostRuntime) -> Result<(), Fail> {
             r#"{"spot":{},"type":"spot"}"#,
         ],
     )?;
+    keeps::<Spot>(alloc, &[r#"{"innerConeAngle":0.25,"outerConeAngle":0.5}"#])?;
+    keeps::<KhrLightsPunctual>(alloc, &[r#"{"light":4294967295}"#])?;
     keeps::<Variant>(alloc, &[r#"{"name":""}"#])?;
+    keeps::<mesh::Mapping>(alloc, &[r#"{"material":0,"variants":[4294967295]}"#])?;
     keeps::<mesh::KhrMaterialsVariants>(
         alloc,
         &[
@@ -221,14 +229,29 @@ fn lights_and_variants(rt: HostRuntime) -> Result<(), Fail> {
 #[test]
 fn unknown_members(rt: HostRuntime) -> Result<(), Fail> {
     let alloc = rt.alloc();
-    keeps::<all_extensions::root::Root>(alloc, &[UNKNOWN])?;
+    keeps::<all_extensions::root::Root>(
+        alloc,
+        &[
+            UNKNOWN,
+            r#"{"KHR_lights_punctual":{"lights":[]},"KHR_materials_variants":{"variants":[]},"EXT_x":1}"#,
+        ],
+    )?;
     keeps::<animation::Animation>(alloc, &[UNKNOWN])?;
     keeps::<camera::Camera>(alloc, &[UNKNOWN])?;
     keeps::<camera::Orthographic>(alloc, &[UNKNOWN])?;
     keeps::<camera::Perspective>(alloc, &[UNKNOWN])?;
     keeps::<mesh::Mesh>(alloc, &[UNKNOWN])?;
-    keeps::<mesh::Primitive>(alloc, &[UNKNOWN])?;
-    keeps::<scene::Node>(alloc, &[UNKNOWN])?;
+    keeps::<mesh::Primitive>(
+        alloc,
+        &[
+            UNKNOWN,
+            r#"{"KHR_materials_variants":{"mappings":[]},"EXT_x":1}"#,
+        ],
+    )?;
+    keeps::<scene::Node>(
+        alloc,
+        &[UNKNOWN, r#"{"KHR_lights_punctual":{"light":0},"EXT_x":1}"#],
+    )?;
     keeps::<scene::Scene>(alloc, &[UNKNOWN])?;
     keeps::<skin::Skin>(alloc, &[UNKNOWN])?;
     writes::<asset::Asset>(alloc, &[(UNKNOWN, "{}")])?;

@@ -45,6 +45,14 @@ fn sparse_storage(rt: HostRuntime) -> Result<(), Fail> {
             r#"{"count":1,"indices":{"bufferView":0,"byteOffset":2,"componentType":5125,"extensions":{"EXT_x":1},"extras":1},"values":{"bufferView":0,"byteOffset":3,"extensions":{"EXT_x":1},"extras":[]},"extensions":{"EXT_x":1},"extras":{}}"#,
             r#"{"count":1,"indices":{"bufferView":0,"byteOffset":2,"componentType":5125,"extensions":{},"extras":1},"values":{"bufferView":0,"byteOffset":3,"extensions":{},"extras":[]},"extensions":{},"extras":{}}"#,
         )],
+    )?;
+    keeps::<sparse::Indices>(
+        alloc,
+        &[r#"{"bufferView":1,"byteOffset":2,"componentType":5121,"extensions":{},"extras":1}"#],
+    )?;
+    keeps::<sparse::Values>(
+        alloc,
+        &[r#"{"bufferView":1,"byteOffset":2,"extensions":{},"extras":"a"}"#],
     )
 }
 
@@ -252,7 +260,13 @@ fn unknown_members(rt: HostRuntime) -> Result<(), Fail> {
     keeps::<image::Image>(alloc, &[UNKNOWN])?;
     keeps::<texture::Sampler>(alloc, &[UNKNOWN])?;
     keeps::<texture::Texture>(alloc, &[UNKNOWN])?;
-    keeps::<texture::Info>(alloc, &[UNKNOWN])?;
+    keeps::<texture::Info>(
+        alloc,
+        &[
+            UNKNOWN,
+            r#"{"KHR_texture_transform":{"texCoord":1},"EXT_x":1}"#,
+        ],
+    )?;
     keeps::<material::PbrMetallicRoughness>(alloc, &[UNKNOWN])?;
     keeps::<material::NormalTexture>(alloc, &[UNKNOWN])?;
     keeps::<material::OcclusionTexture>(alloc, &[UNKNOWN])?;

@@ -1,0 +1,43 @@
+-- Trees in which something is invalid, and kinds whose defaults are written.
+use Rattle.std.specs.Prelude.{Bool, true, false, ◌&&◌, ◌||◌, is_some}
+use Rattle.std.specs.List.{list_any}
+use Rattle.gltf_checked.specs.Keys.{Key, unknown}
+use Rattle.gltf_schema.specs.Tree.{Tree, invalid, list, attributes, object, Trees, end, with_tree}
+use Rattle.gltf_schema.specs.Kind.{Mark, always, unless, Kind, ListOf, Object, Rows, no_rows, row}
+use Rattle.gltf_schema.specs.Write.{write}
+
+-- a key that means nothing
+abbrev pub is_unknown : Key → Bool
+is_unknown unknown = true
+is_unknown _ = false
+
+abbrev mutual
+  -- an item or a key in the tree is invalid
+  pub holds_invalid : Tree → Bool
+  holds_invalid invalid = true
+  holds_invalid (list ts) = any_holds_invalid ts
+  holds_invalid (attributes es) = list_any (λ e. is_unknown e.0) es
+  holds_invalid (object ts others) = any_holds_invalid ts
+  holds_invalid _ = false
+
+  -- in one of the trees
+  pub any_holds_invalid : Trees → Bool
+  any_holds_invalid end = false
+  any_holds_invalid (with_tree t ts) = holds_invalid t || any_holds_invalid ts
+
+-- a default is one that is written
+abbrev pub has_written_default : Mark → Kind → Bool
+has_written_default (always t) kind = is_some (write kind t)
+has_written_default (unless t) kind = is_some (write kind t)
+has_written_default _ kind = true
+
+abbrev mutual
+  -- each default in the kind is one that is written
+  pub writes_defaults : Kind → Bool
+  writes_defaults (ListOf kind) = writes_defaults kind
+  writes_defaults (Object named rows keeps) = write_defaults rows
+  writes_defaults _ = true
+
+  pub write_defaults : Rows → Bool
+  write_defaults no_rows = true
+  write_defaults (row n mark kind rows) = has_written_default mark kind && writes_defaults kind && write_defaults rows

@@ -29,10 +29,13 @@ use std::collections::BTreeMap;
 /// What is wrong with the positions of a primitive: that they are missing, or a bound of their
 /// accessor.
 #[derive(Clone, Copy, Drop)]
-pub(crate) struct PositionFaults {
-    pub(crate) positions: Option<Error>,
-    pub(crate) min: Option<Error>,
-    pub(crate) max: Option<Error>,
+pub struct PositionFaults {
+    /// For the attribute itself.
+    pub positions: Option<Error>,
+    /// For the least values of its accessor.
+    pub min: Option<Error>,
+    /// For the greatest values of its accessor.
+    pub max: Option<Error>,
 }
 
 /// Goes on with what is wrong with the positions of a primitive, where nothing stopped the walk
@@ -50,7 +53,7 @@ pub fn positions<'a, S: Sink>(
         (primitive_rule (primitive_members primitive.now) (root_tree root.now)) 3 result path.new (S.state sink.new) }
 {
     match before {
-        Ok(()) => told_in_attributes(found_in(primitive, root), path, sink),
+        Ok(()) => told_in_attributes(position_faults(primitive, root), path, sink),
         Err(stop) => Err(stop),
     }
 }
@@ -105,9 +108,10 @@ fn told_here<'a, S: Sink>(
     told(min, found.max, Step::Field("max"), path, sink)
 }
 
-/// What is wrong with the positions of a primitive.
+/// What is wrong with the positions of a primitive: `Missing` where there are none; for each bound of
+/// their accessor, where it is there, `Missing` or, for what isn't three numbers, `Invalid`.
 #[tactic(auto, unfolding(gltf_meshes::specs::MeshTrees::primitive_members))]
-fn found_in(primitive: &Primitive, root: &Root) -> PositionFaults
+pub fn position_faults(primitive: &Primitive, root: &Root) -> PositionFaults
     ensures { (base : List Mathematical) → found_in_positions result base
         ≡ positions_faults (lookup is_positions (entries_in (primitive_attributes (primitive_members primitive.now)))) (root_tree root.now) base }
 {

@@ -90,8 +90,9 @@ fn name_at<'a, S: Sink>(
     handed
 }
 
-/// What is wrong with a required extension of a name.
-fn extension_fault(name: &str) -> Option<Error>
+/// What is wrong with a required extension of a name: `Unsupported` where it is not in
+/// `ENABLED_EXTENSIONS`.
+pub fn extension_fault(name: &str) -> Option<Error>
     ensures { (base : List Mathematical) → found_at result (base ++ value name.now ∷ [])
         ≡ extension_faults (text_of name.now) base }
 {

@@ -54,4 +54,5 @@ pub mod validation {
     pub use gltf_base::validation::{Checked, Error, USize64};
     pub use gltf_sinks::{Collect, Count, Sink, Stop};
     pub use gltf_validation::validation::Validate;
+    pub use gltf_walk::Walk;
 }

@@ -1,12 +1,10 @@
 -- What is written and answered for the bytes of a document.
 use Rattle.std.specs.Prelude.{ℕ, List, [], ◌∷◌, ◌++◌, codes}
 use Rattle.gltf_paths.specs.Errors.{error_text}
-use Rattle.gltf_paths.specs.Steps.{Step}
 use Rattle.gltf_paths.specs.Text.{path_text}
-use Rattle.gltf_paths.specs.declared.validation.Error.{Error}
 use Rattle.gltf_schema.specs.Tree.{Tree}
 use Rattle.gltf_root.specs.Answer.{Answer, no_json, no_document, document, answer}
-use Rattle.gltf_sinks.specs.Report.{Report, report}
+use Rattle.gltf_sinks.specs.Report.{Report}
 use Rattle.gltf_faults.specs.Reports.{reports_of}
 use Rattle.gltf_root.specs.RootTable.{root_kind}
 
@@ -26,10 +24,6 @@ report_line r = line (path_text r.steps ++ codes ": " ++ error_text r.error)
 abbrev pub report_lines : List Report → List ℕ
 report_lines [] = []
 report_lines (r ∷ rs) = report_line r ++ report_lines rs
-
--- a text with the line of one more report
-abbrev pub with_report : List ℕ → List Step → Error → List ℕ
-with_report text steps error = text ++ report_line (report steps error)
 
 -- what is wrong in a document, its indexes resolved in itself
 abbrev pub document_reports : Tree → List Report

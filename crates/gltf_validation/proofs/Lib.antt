@@ -2,3 +2,4 @@ pub mod Silences
 pub mod ByTable
 pub mod BelowAnimations
 pub mod Entries
+pub mod Handing

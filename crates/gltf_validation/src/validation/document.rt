@@ -1,6 +1,6 @@
 //! Whole documents.
 
-ghost use Rattle.std.specs.Prelude.{◌≡◌, Some, refl};
+ghost use Rattle.std.specs.Prelude.{◌≡◌, ◌+◌, Some, refl};
 ghost use Rattle.gltf_nodes.specs.AssetTable.{asset_kind, asset_rows};
 ghost use Rattle.gltf_nodes.specs.AssetTrees.{asset_members, asset_extensions};
 ghost use Rattle.gltf_root.specs.RootTable.{root_kind};
@@ -13,19 +13,21 @@ ghost use Rattle.gltf_schema.specs.Fields.{closed_object};
 ghost use Rattle.gltf_schema.specs.Kind.{ObjectName};
 ghost use Rattle.gltf_nodes.specs.LightTable.{variant_rows};
 ghost use Rattle.gltf_faults.specs.Silence.{silent};
+ghost use Rattle.gltf_sinks.specs.Handed.{HandedOver};
 ghost use Rattle.gltf_validation.specs.ByType.{no_reports};
+ghost use Rattle.gltf_walk.specs.ToCome.{base_count, left_of_descent};
 
 use super::Validate;
 use super::silent::Silent;
 use super::within::member;
 use gltf_base::Steps;
-use gltf_faults::required_extensions;
 use gltf_nodes::asset::Asset;
 use gltf_nodes::extensions::asset::Asset as AssetExtensions;
 use gltf_root::extensions::root as extensions;
 use gltf_root::extensions::root::{KhrLightsPunctual, KhrMaterialsVariants};
 use gltf_root::root::Root;
 use gltf_sinks::{Sink, Stop};
+use gltf_walk::{Descent, StepsFull};
 
 impl Validate for Root {
     ghost kind = { Some root_kind };
@@ -45,28 +47,25 @@ impl Validate for Root {
         path: &mut Steps<'a>,
         sink: &mut S,
     ) -> Result<(), Stop<S::Refusal>> {
-        let accessors = member(Ok(()), &self.accessors, "accessors", root, path, sink);
-        let animations = member(accessors, &self.animations, "animations", root, path, sink);
-        let buffer_views = member(
-            animations,
-            &self.buffer_views,
-            "bufferViews",
-            root,
-            path,
-            sink,
-        );
-        let scene = member(buffer_views, &self.scene, "scene", root, path, sink);
-        let extensions = member(scene, &self.extensions, "extensions", root, path, sink);
-        let cameras = member(extensions, &self.cameras, "cameras", root, path, sink);
-        let images = member(cameras, &self.images, "images", root, path, sink);
-        let materials = member(images, &self.materials, "materials", root, path, sink);
-        let meshes = member(materials, &self.meshes, "meshes", root, path, sink);
-        let nodes = member(meshes, &self.nodes, "nodes", root, path, sink);
-        let samplers = member(nodes, &self.samplers, "samplers", root, path, sink);
-        let scenes = member(samplers, &self.scenes, "scenes", root, path, sink);
-        let skins = member(scenes, &self.skins, "skins", root, path, sink);
-        let textures = member(skins, &self.textures, "textures", root, path, sink);
-        required_extensions(textures, self, path, sink)
+        hand_over(&mut Descent::new(self, root, path), sink)
+    }
+}
+
+/// Hands the reports that a walk has left to a sink. It stops with `StepsFull` where a path has no
+/// room for one more step, and with `Sink` where the sink refuses.
+fn hand_over<S: Sink>(walk: &mut Descent<'_>, sink: &mut S) -> Result<(), Stop<S::Refusal>>
+    ensures { HandedOver S.next S.refuses (S.state sink.old) (left_of_descent walk.old) (base_count walk.old + 10) result (S.state sink.new) }
+{
+    loop {
+        match walk.next_report() {
+            Ok(Some(error)) => {
+                if let Err(refusal) = sink.report(walk.steps(), error) {
+                    return Err(Stop::Sink(refusal));
+                }
+            }
+            Ok(None) => return Ok(()),
+            Err(StepsFull) => return Err(Stop::StepsFull),
+        }
     }
 }
 

@@ -8,11 +8,10 @@ ghost use Rattle.gltf_schema.specs.Fields.{index_tree};
 ghost use Rattle.gltf_validation.specs.ByType.{no_reports, checked_reports};
 
 use super::Validate;
-use gltf_base::buffer::{MAX_BYTE_STRIDE, MIN_BYTE_STRIDE};
-use gltf_base::validation::{Checked, Error};
+use gltf_base::validation::Checked;
 use gltf_base::{IndexTo, Names, Steps};
 use gltf_data::buffer::Stride;
-use gltf_faults::index_fault;
+use gltf_faults::{choice_fault, index_fault, stride_fault};
 use gltf_root::root::{Root, RootItem};
 use gltf_sinks::{Sink, Stop, tell};
 
@@ -55,10 +54,7 @@ impl<T> Validate for Checked<T> {
         path: &mut Steps<'a>,
         sink: &mut S,
     ) -> Result<(), Stop<S::Refusal>> {
-        match self {
-            Checked::Valid(_) => Ok(()),
-            Checked::Invalid => tell(path, Some(Error::Invalid), sink),
-        }
+        tell(path, choice_fault(self), sink)
     }
 }
 
@@ -78,10 +74,6 @@ impl Validate for Stride {
         path: &mut Steps<'a>,
         sink: &mut S,
     ) -> Result<(), Stop<S::Refusal>> {
-        if MIN_BYTE_STRIDE <= self.0 && self.0 <= MAX_BYTE_STRIDE {
-            Ok(())
-        } else {
-            tell(path, Some(Error::Invalid), sink)
-        }
+        tell(path, stride_fault(self), sink)
     }
 }

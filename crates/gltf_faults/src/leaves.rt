@@ -1,0 +1,35 @@
+//! Choices and strides.
+
+ghost use Rattle.std.specs.Prelude.{◌≡◌, List};
+ghost use Rattle.gltf_checked.specs.Spelling.{Spelling};
+ghost use Rattle.gltf_data.specs.BufferTrees.{stride_tree};
+ghost use Rattle.gltf_paths.specs.Steps.{Step};
+ghost use Rattle.gltf_schema.specs.Leaves.{checked_tree};
+ghost use Rattle.gltf_sinks.specs.Report.{found_at};
+ghost use Rattle.gltf_faults.specs.Faults.{choice_faults, stride_faults};
+
+use gltf_base::buffer::{MAX_BYTE_STRIDE, MIN_BYTE_STRIDE};
+use gltf_base::validation::{Checked, Error};
+use gltf_data::buffer::Stride;
+
+/// What is wrong with an item of a choice: `Invalid` where it is none of the choice's.
+pub fn choice_fault<T>(item: &Checked<T>) -> Option<Error>
+    ensures { (spell : T → Spelling) (base : List Step) → found_at result base ≡ choice_faults (checked_tree spell item.now) base }
+{
+    match item {
+        Checked::Valid(_) => None,
+        Checked::Invalid => Some(Error::Invalid),
+    }
+}
+
+/// What is wrong with a stride: `Invalid` where it is below 4 or above 252 bytes (glTF 2.0, section
+/// 5.11.4).
+pub fn stride_fault(stride: &Stride) -> Option<Error>
+    ensures { (base : List Step) → found_at result base ≡ stride_faults (stride_tree stride.now) base }
+{
+    if MIN_BYTE_STRIDE <= stride.0 && stride.0 <= MAX_BYTE_STRIDE {
+        None
+    } else {
+        Some(Error::Invalid)
+    }
+}

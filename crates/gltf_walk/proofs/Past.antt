@@ -1,0 +1,17 @@
+-- Past its last move a plan is over.
+use Rattle.std.proofs.Common.{◌≡◌, ℕ, zero, suc, ◌+◌, ◌≤◌, List, [], ◌∷◌, length, Option, Some, None, refl, arith}
+use Rattle.gltf_paths.specs.declared.validation.Error.{Error}
+use Rattle.gltf_walk.specs.Plan.{Plans, place, nothing, below, errors, at, over, counts}
+
+pub past : (ps : Plans) (es : List Error) (n : ℕ) → counts ps + length es ≤ n → over ≡ at (place ps es) n
+past nothing [] zero l = refl
+past nothing [] (suc n) l = past nothing [] n (omega arith)
+past nothing (e ∷ es) zero l = absurd (omega arith)
+past nothing (e ∷ es) (suc n) l = past nothing es n (omega arith)
+past (below s p ps) es zero l = absurd (omega arith)
+past (below s p ps) es (suc n) l = past ps es n (omega arith)
+
+-- one thing at most was found
+pub one_error : (e : Option Error) → length (errors e) ≤ 1
+one_error None = omega arith
+one_error (Some error) = omega arith

@@ -1,0 +1,191 @@
+-- A plan tells what is wrong in the tree that it was made for.
+use Rattle.std.proofs.Common.{◌≡◌, ℕ, suc, List, [], ◌∷◌, ◌++◌, Bool, true, false, cond, codes, Option, Some, None, nat_eq, refl, sym, ◌∙◌, ap, append_assoc}
+use Rattle.std.proofs.lemmas.List.{append-nil}
+use Rattle.std.specs.Map.{lookup}
+use Rattle.gltf_checked.specs.Keys.{Key, key_text}
+use Rattle.gltf_checked.specs.Keys as keys
+use Rattle.gltf_paths.specs.Lists.{ListName}
+use Rattle.gltf_paths.specs.Steps.{Step, field, item, key, value}
+use Rattle.gltf_paths.specs.declared.validation.Error.{Error}
+use Rattle.gltf_paths.specs.declared.validation.Error.TheVariants.{Missing}
+use Rattle.gltf_schema.specs.Tree as tree
+use Rattle.gltf_schema.specs.Tree.{Tree, Trees, end, with_tree, tree_at, items_in, members_in, entries_in}
+use Rattle.gltf_schema.specs.Kind.{Kind, IndexInto, SourceImage, ChannelSampler, Stride, Choice, Attributes, ListOf, Object, ObjectName, Rows, no_rows, row}
+use Rattle.gltf_root.specs.Lists.{list_in, count_in, sampler_count}
+use Rattle.gltf_sinks.specs.Report.{From, Report, report}
+use Rattle.gltf_faults.specs.Faults.{report_if, number_faults, index_faults, source_faults, stride_faults, choice_faults, key_faults, entries_faults}
+use Rattle.gltf_faults.specs.Reports.{animation_below, items_reports, reports, member_reports}
+use Rattle.gltf_faults.specs.Rules.{is_positions, accessor_min, accessor_max, primitive_attributes, root_extensions_required, bound_faults, bounds_faults, positions_faults, extension_faults, extensions_faults, rule, object_faults}
+use Rattle.gltf_faults.specs.Silence.{is_silent, silent}
+use Rattle.gltf_faults.proofs.Joining.{joined}
+use Rattle.gltf_walk.specs.Plan.{Plan, Plans, nothing, below, errors, leaf, also, told, told_below, told_here}
+use Rattle.gltf_walk.specs.Planned.{error_among, error_of, leaf_of, entry_plans, item_plans, bounds_plan, positions_plan, name_plan, rule_plans, own_error, unless_silent, planned, member_plans}
+
+-- ---- what stands one behind the other
+
+also_told : (ps qs : Plans) (base : List Step) → told_below (also ps qs) base ≡ told_below ps base ++ told_below qs base
+also_told nothing qs base = refl
+also_told (below s p ps) qs base =
+    ap (λ rs. told p (base ++ s ∷ []) ++ rs) (also_told ps qs base) ∙ sym (append_assoc (told p (base ++ s ∷ [])) (told_below ps base) (told_below qs base))
+
+here_told : (es fs : List Error) (base : List Step) → told_here (es ++ fs) base ≡ told_here es base ++ told_here fs base
+here_told [] fs base = refl
+here_told (e ∷ es) fs base = ap (λ rs. report base e ∷ rs) (here_told es fs base)
+
+-- ---- a place at which one thing may be wrong
+
+if_told : (b : Bool) (error : Error) (base : List Step) → told (leaf_of (report_if b error)) base ≡ report_if b error base
+if_told true error base = refl
+if_told false error base = refl
+
+index_told : (count : ℕ) (t : Tree) (base : List Step) → told (leaf_of (index_faults count t)) base ≡ index_faults count t base
+index_told count (tree.index n) base = if_told _ _ base
+index_told count t base = refl
+
+source_at : (b : Bool) (count n : ℕ) (base : List Step)
+    → told (leaf_of (λ at. cond b (report at Missing ∷ []) (number_faults count n at))) base ≡ cond b (report base Missing ∷ []) (number_faults count n base)
+source_at true count n base = refl
+source_at false count n base = if_told _ _ base
+
+source_told : (count : ℕ) (t : Tree) (base : List Step) → told (leaf_of (source_faults count t)) base ≡ source_faults count t base
+source_told count (tree.index n) base = source_at (nat_eq n 4294967295) count n base
+source_told count t base = refl
+
+stride_told : (t : Tree) (base : List Step) → told (leaf_of (stride_faults t)) base ≡ stride_faults t base
+stride_told (tree.whole n) base = if_told _ _ base
+stride_told t base = refl
+
+choice_told : (t : Tree) (base : List Step) → told (leaf_of (choice_faults t)) base ≡ choice_faults t base
+choice_told tree.invalid base = refl
+choice_told t base = refl
+
+key_told : (k : Key) (base : List Step) → told (leaf_of (key_faults k)) base ≡ key_faults k base
+key_told keys.unknown base = refl
+key_told k base = refl
+
+-- one thing may be wrong a step below
+if_told_below : (b : Bool) (error : Error) (s : Step) (base : List Step)
+    → told_below (below s (leaf_of (λ at. report_if b error (at ++ s ∷ []))) nothing) base ≡ report_if b error (base ++ s ∷ [])
+if_told_below true error s base = refl
+if_told_below false error s base = refl
+
+-- ---- attributes and lists
+
+entries_told : (count : ℕ) (es : List (Key × ℕ)) (base : List Step) → told_below (entry_plans count es) base ≡ entries_faults count es base
+entries_told count [] base = refl
+entries_told count (e ∷ es) base =
+    let at = base ++ key (key_text e.0) ∷ [] in
+    joined
+    (here_told (errors (error_of (key_faults e.0))) (errors (error_of (number_faults count e.1))) at ∙ joined (key_told e.0 at) (if_told _ _ at))
+    (entries_told count es base)
+
+items_told : (f : Tree → Plan) (g : Tree → From) → ((t : Tree) (base : List Step) → told (f t) base ≡ g t base)
+    → (i : ℕ) (ts : Trees) (base : List Step) → told_below (item_plans f i ts) base ≡ items_reports g i ts base
+items_told f g each i end base = refl
+items_told f g each i (with_tree t ts) base = joined (each t (base ++ item i ∷ [])) (items_told f g each (suc i) ts base)
+
+-- ---- the rules
+
+bound_told : (t : Tree) (base : List Step) → told (leaf_of (bound_faults t)) base ≡ bound_faults t base
+bound_told tree.absent base = refl
+bound_told (tree.any d) base = if_told _ _ base
+bound_told t base = refl
+
+-- the plan at positions, by what is wrong there seen from the place itself
+abbrev plan_at : List Report → Plan
+plan_at rs = bounds_plan (error_among [] rs) (error_among (field (codes "min") ∷ []) rs) (error_among (field (codes "max") ∷ []) rs)
+
+-- what is wrong with the two bounds
+abbrev both_bounds : Option Error → Option Error → From
+both_bounds e f base = told (leaf e) (base ++ field (codes "min") ∷ []) ++ told (leaf f) (base ++ field (codes "max") ∷ [])
+
+both_told : (e f : Option Error) (base : List Step) → told (plan_at (both_bounds e f [])) base ≡ both_bounds e f base
+both_told None None base = refl
+both_told None (Some f) base = refl
+both_told (Some e) None base = refl
+both_told (Some e) (Some f) base = refl
+
+bounds_told : (t : Tree) (base : List Step) → told (plan_at (bounds_faults t [])) base ≡ bounds_faults t base
+bounds_told (tree.object ts others) base =
+    let least = error_of (bound_faults (accessor_min ts)) in
+    let most = error_of (bound_faults (accessor_max ts)) in
+    let same : (at : List Step) → both_bounds least most at ≡ bounds_faults (tree.object ts others) at =
+    λ at. joined (bound_told (accessor_min ts) (at ++ field (codes "min") ∷ [])) (bound_told (accessor_max ts) (at ++ field (codes "max") ∷ [])) in
+    ap (λ rs. told (plan_at rs) base) (sym (same [])) ∙ both_told least most base ∙ same base
+bounds_told t base = refl
+
+positions_told : (found : Option ℕ) (root : Tree) (base : List Step)
+    → told (positions_plan (positions_faults found root)) base ≡ positions_faults found root base
+positions_told None root base = refl
+positions_told (Some n) root base = bounds_told (tree_at n (list_in ListName.accessors root)) base
+
+name_told : (t : Tree) (base : List Step) → told (name_plan t) base ≡ extension_faults t base
+name_told (tree.text s) base = append-nil _ ∙ if_told_below _ _ (value s) base
+name_told t base = refl
+
+-- the names stand as the items of a list do
+names_apart : (i : ℕ) (ts : Trees) (base : List Step) → items_reports extension_faults i ts base ≡ extensions_faults i ts base
+names_apart i end base = refl
+names_apart i (with_tree t ts) base = ap (λ rs. extension_faults t (base ++ item i ∷ []) ++ rs) (names_apart (suc i) ts base)
+
+-- nothing is wrong with an object without a rule
+unruled : (named : ObjectName) (t root : Tree) (base : List Step)
+    → ((ts : Trees) → rule named ts root base ≡ []) → [] ≡ object_faults t named root base
+unruled named (tree.object ts others) root base none = sym (none ts)
+unruled named t root base none = refl
+
+rule_told : (named : ObjectName) (t root : Tree) (base : List Step)
+    → told_below (rule_plans named t root) base ++ told_here (errors (own_error named t)) base ≡ object_faults t named root base
+rule_told ObjectName.accessor (tree.object ts others) root base = append-nil _ ∙ if_told_below _ _ (field (codes "bufferView")) base
+rule_told ObjectName.light (tree.object ts others) root base = append-nil _ ∙ if_told_below _ _ (field (codes "spot")) base
+rule_told ObjectName.camera (tree.object ts others) root base = if_told _ _ base
+rule_told ObjectName.primitive (tree.object ts others) root base =
+    let found = lookup is_positions (entries_in (primitive_attributes ts)) in
+    let at = base ++ field (codes "attributes") ∷ [] in
+    append-nil _ ∙ append-nil _ ∙ append-nil _ ∙ append-nil _ ∙ positions_told found root (at ++ key (codes "POSITION") ∷ [])
+rule_told ObjectName.root (tree.object ts others) root base =
+    let names = items_in (root_extensions_required ts) in
+    let at = base ++ field (codes "extensionsRequired") ∷ [] in
+    append-nil _ ∙ append-nil _ ∙ append-nil _ ∙ items_told name_plan extension_faults name_told 0 names at ∙ names_apart 0 names at
+rule_told ObjectName.accessor t root base = refl
+rule_told ObjectName.light t root base = refl
+rule_told ObjectName.camera t root base = refl
+rule_told ObjectName.primitive t root base = refl
+rule_told ObjectName.root t root base = refl
+rule_told named t root base = unruled named t root base (λ ts. refl)
+
+-- ---- kinds
+
+-- a row of which the plan tells what is wrong, or passes it over
+row_told : (is_over : Bool) (n : List ℕ) (p : Plan) (ps : Plans) (rs qs : List Report) (base : List Step) → (is_over ≡ true → rs ≡ [])
+    → told p (base ++ field n ∷ []) ≡ rs → told_below ps base ≡ qs → told_below (unless_silent is_over n p ps) base ≡ rs ++ qs
+row_told true n p ps rs qs base over here further = let none = over refl in rw none further
+row_told false n p ps rs qs base over here further = joined here further
+
+mutual
+  pub planned_told : (kind : Kind) (t root animation : Tree) (base : List Step) → told (planned kind t root animation) base ≡ reports kind t root animation base
+  planned_told (IndexInto named) t root animation base = index_told (count_in named root) t base
+  planned_told SourceImage t root animation base = source_told (count_in ListName.images root) t base
+  planned_told ChannelSampler t root animation base = index_told (sampler_count animation) t base
+  planned_told Stride t root animation base = stride_told t base
+  planned_told (Choice form listed) t root animation base = choice_told t base
+  planned_told (Attributes named) t root animation base = append-nil _ ∙ entries_told (count_in named root) (entries_in t) base
+  planned_told (ListOf kind) t root animation base =
+      append-nil _
+      ∙ items_told (λ x. planned kind x root animation) (λ x. reports kind x root animation) (λ x at. planned_told kind x root animation at) 0 (items_in t) base
+  planned_told (Object named rows keeps) t root animation base =
+      let ps = member_plans (members_in t) rows root (animation_below named t animation) in
+      let qs = rule_plans named t root in
+      let own = told_here (errors (own_error named t)) base in
+      ap (λ rs. rs ++ own) (also_told ps qs base) ∙ append_assoc (told_below ps base) (told_below qs base) own
+      ∙ joined (members_told (members_in t) rows root (animation_below named t animation) base) (rule_told named t root base)
+  planned_told kind t root animation base = refl
+
+  members_told : (ts : Trees) (rows : Rows) (root animation : Tree) (base : List Step)
+      → told_below (member_plans ts rows root animation) base ≡ member_reports ts rows root animation base
+  members_told end rows root animation base = refl
+  members_told (with_tree t ts) no_rows root animation base = refl
+  members_told (with_tree t ts) (row n mark kind rows) root animation base =
+      row_told (is_silent kind) n (planned kind t root animation) (member_plans ts rows root animation) (reports kind t root animation (base ++ field n ∷ []))
+      (member_reports ts rows root animation base) base (λ over. silent kind over t root animation (base ++ field n ∷ []))
+      (planned_told kind t root animation (base ++ field n ∷ [])) (members_told ts rows root animation base)

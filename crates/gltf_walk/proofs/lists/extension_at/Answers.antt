@@ -1,0 +1,13 @@
+-- The name at the number, or none past the last.
+use Rattle.std.proofs.Common.{rules}
+use Rattle.gltf_schema.specs.Fields.{text_tree}
+use Rattle.gltf_walk.specs.Planned.{name_plan}
+use Rattle.gltf_walk.proofs.Items.{item_comes, items_end}
+use Rattle.gltf_walk.proofs.lists.extension_at.Goals as goal
+
+pub returns-in-Some-clause-comes : goal.returns-in-Some-clause-comes
+returns-in-Some-clause-comes c root =
+    item_comes name_plan text_tree c.args.names.now.items _ c.args.number c.in-Some.name.now (search rules) c.in-Some.ensures.lookup.3.0 c.in-Some.ensures.lookup.1
+
+pub returns-in-None-clause-comes : goal.returns-in-None-clause-comes
+returns-in-None-clause-comes c root = items_end name_plan text_tree c.args.names.now.items c.args.number (search rules)

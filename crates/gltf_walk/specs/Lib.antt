@@ -1,0 +1,5 @@
+pub mod Plan
+pub mod Planned
+pub mod Parts
+pub mod Stacks
+pub mod ToCome

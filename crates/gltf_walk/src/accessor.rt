@@ -1,0 +1,111 @@
+//! Accessors.
+
+ghost use Rattle.std.specs.Prelude.{◌≡◌};
+ghost use Rattle.gltf_data.specs.AccessorTable.{accessor_kind, sparse_kind, sparse_indices_kind, sparse_values_kind};
+ghost use Rattle.gltf_data.specs.AccessorTrees.{accessor_members, sparse_members, sparse_indices_members, sparse_values_members};
+ghost use Rattle.gltf_schema.specs.Fields.{closed_object, list_tree};
+ghost use Rattle.gltf_schema.specs.Kind.{ListOf};
+
+use crate::next::{Next, found, member};
+use crate::part::Part;
+use crate::visited::{Object, Visited};
+use gltf_data::accessor::Accessor;
+use gltf_data::accessor::sparse::{Indices, Sparse, Values};
+use gltf_faults::data_fault;
+use gltf_root::root::Root;
+
+impl Visited for Accessor {
+    ghost kind = { accessor_kind };
+
+    ghost tree = { λ v. closed_object (accessor_members v) };
+
+    fn part<'a>(&'a self, _root: &Root) -> Part<'a> {
+        Part::Accessor(self)
+    }
+}
+
+impl Object for Accessor {
+    #[tactic(auto, using(crate::proofs::Past::past), unfolding(gltf_data::specs::AccessorTable::accessor_rows, gltf_data::specs::AccessorTable::sparse_indices_rows, gltf_data::specs::AccessorTable::sparse_rows, gltf_data::specs::AccessorTrees::accessor_members))]
+    fn next<'a>(&'a self, number: usize, root: &Root) -> Next<'a> {
+        match number {
+            0 => member("bufferView", &self.buffer_view, root),
+            1 => member("componentType", &self.component_type, root),
+            2 => member("type", &self.type_, root),
+            3 => member("sparse", &self.sparse, root),
+            4 => found("bufferView", data_fault(self)),
+            _ => Next::Done,
+        }
+    }
+}
+
+impl Visited for Vec<Accessor> {
+    ghost kind = { ListOf accessor_kind };
+
+    ghost tree = { λ v. list_tree (λ x. closed_object (accessor_members x)) v.items };
+
+    fn part<'a>(&'a self, _root: &Root) -> Part<'a> {
+        Part::Accessors(self)
+    }
+}
+
+impl Visited for Sparse {
+    ghost kind = { sparse_kind };
+
+    ghost tree = { λ v. closed_object (sparse_members v) };
+
+    fn part<'a>(&'a self, _root: &Root) -> Part<'a> {
+        Part::Sparse(self)
+    }
+}
+
+impl Object for Sparse {
+    #[tactic(auto, using(crate::proofs::Past::past), unfolding(gltf_data::specs::AccessorTable::sparse_rows, gltf_data::specs::AccessorTable::sparse_indices_rows, gltf_data::specs::AccessorTable::sparse_values_rows, gltf_data::specs::AccessorTrees::sparse_members))]
+    fn next<'a>(&'a self, number: usize, root: &Root) -> Next<'a> {
+        match number {
+            0 => member("indices", &self.indices, root),
+            1 => member("values", &self.values, root),
+            _ => Next::Done,
+        }
+    }
+}
+
+impl Visited for Indices {
+    ghost kind = { sparse_indices_kind };
+
+    ghost tree = { λ v. closed_object (sparse_indices_members v) };
+
+    fn part<'a>(&'a self, _root: &Root) -> Part<'a> {
+        Part::SparseIndices(self)
+    }
+}
+
+impl Object for Indices {
+    #[tactic(auto, using(crate::proofs::Past::past), unfolding(gltf_data::specs::AccessorTable::sparse_indices_rows, gltf_data::specs::AccessorTrees::sparse_indices_members))]
+    fn next<'a>(&'a self, number: usize, root: &Root) -> Next<'a> {
+        match number {
+            0 => member("bufferView", &self.buffer_view, root),
+            1 => member("componentType", &self.component_type, root),
+            _ => Next::Done,
+        }
+    }
+}
+
+impl Visited for Values {
+    ghost kind = { sparse_values_kind };
+
+    ghost tree = { λ v. closed_object (sparse_values_members v) };
+
+    fn part<'a>(&'a self, _root: &Root) -> Part<'a> {
+        Part::SparseValues(self)
+    }
+}
+
+impl Object for Values {
+    #[tactic(auto, using(crate::proofs::Past::past), unfolding(gltf_data::specs::AccessorTable::sparse_values_rows, gltf_data::specs::AccessorTrees::sparse_values_members))]
+    fn next<'a>(&'a self, number: usize, root: &Root) -> Next<'a> {
+        match number {
+            0 => member("bufferView", &self.buffer_view, root),
+            _ => Next::Done,
+        }
+    }
+}

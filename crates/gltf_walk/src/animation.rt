@@ -1,0 +1,98 @@
+//! Animations.
+
+ghost use Rattle.std.specs.Prelude.{◌≡◌};
+ghost use Rattle.gltf_animations.specs.AnimationTable.{animation_target_kind, animation_sampler_kind, animation_kind};
+ghost use Rattle.gltf_animations.specs.AnimationTrees.{animation_target_members, animation_sampler_members, animation_members};
+ghost use Rattle.gltf_schema.specs.Fields.{closed_object, list_tree};
+ghost use Rattle.gltf_schema.specs.Kind.{ListOf};
+
+use crate::next::{Next, member};
+use crate::part::Part;
+use crate::visited::{Object, Visited};
+use gltf_animations::animation::{Animation, Sampler, Target};
+use gltf_base::Step;
+use gltf_root::root::Root;
+
+impl Visited for Target {
+    ghost kind = { animation_target_kind };
+
+    ghost tree = { λ v. closed_object (animation_target_members v) };
+
+    fn part<'a>(&'a self, _root: &Root) -> Part<'a> {
+        Part::Target(self)
+    }
+}
+
+impl Object for Target {
+    #[tactic(auto, using(crate::proofs::Past::past), unfolding(gltf_animations::specs::AnimationTable::animation_target_rows, gltf_animations::specs::AnimationTrees::animation_target_members))]
+    fn next<'a>(&'a self, number: usize, root: &Root) -> Next<'a> {
+        match number {
+            0 => member("node", &self.node, root),
+            1 => member("path", &self.path, root),
+            _ => Next::Done,
+        }
+    }
+}
+
+impl Visited for Sampler {
+    ghost kind = { animation_sampler_kind };
+
+    ghost tree = { λ v. closed_object (animation_sampler_members v) };
+
+    fn part<'a>(&'a self, _root: &Root) -> Part<'a> {
+        Part::AnimationSampler(self)
+    }
+}
+
+impl Object for Sampler {
+    #[tactic(auto, using(crate::proofs::Past::past), unfolding(gltf_animations::specs::AnimationTable::animation_sampler_rows, gltf_animations::specs::AnimationTrees::animation_sampler_members))]
+    fn next<'a>(&'a self, number: usize, root: &Root) -> Next<'a> {
+        match number {
+            0 => member("input", &self.input, root),
+            1 => member("interpolation", &self.interpolation, root),
+            2 => member("output", &self.output, root),
+            _ => Next::Done,
+        }
+    }
+}
+
+impl Visited for Vec<Sampler> {
+    ghost kind = { ListOf animation_sampler_kind };
+
+    ghost tree = { λ v. list_tree (λ x. closed_object (animation_sampler_members x)) v.items };
+
+    fn part<'a>(&'a self, _root: &Root) -> Part<'a> {
+        Part::AnimationSamplers(self)
+    }
+}
+
+impl Visited for Animation {
+    ghost kind = { animation_kind };
+
+    ghost tree = { λ v. closed_object (animation_members v) };
+
+    fn part<'a>(&'a self, _root: &Root) -> Part<'a> {
+        Part::Animation(self)
+    }
+}
+
+impl Object for Animation {
+    #[tactic(auto, using(crate::proofs::Past::past), unfolding(gltf_animations::specs::AnimationTable::animation_rows, gltf_animations::specs::AnimationTable::animation_channel_rows, gltf_animations::specs::AnimationTable::animation_sampler_rows, gltf_animations::specs::AnimationTrees::animation_members))]
+    fn next<'a>(&'a self, number: usize, root: &Root) -> Next<'a> {
+        match number {
+            0 => member("samplers", &self.samplers, root),
+            1 => Next::Down(Step::Field("channels"), Part::Channels(self)),
+            _ => Next::Done,
+        }
+    }
+}
+
+impl Visited for Vec<Animation> {
+    ghost kind = { ListOf animation_kind };
+
+    ghost tree = { λ v. list_tree (λ x. closed_object (animation_members x)) v.items };
+
+    fn part<'a>(&'a self, _root: &Root) -> Part<'a> {
+        Part::Animations(self)
+    }
+}

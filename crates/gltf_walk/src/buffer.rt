@@ -1,0 +1,78 @@
+//! Views of buffers, and images.
+
+ghost use Rattle.std.specs.Prelude.{◌≡◌};
+ghost use Rattle.gltf_data.specs.BufferTable.{view_kind};
+ghost use Rattle.gltf_data.specs.BufferTrees.{view_members};
+ghost use Rattle.gltf_data.specs.ImageTable.{image_kind};
+ghost use Rattle.gltf_data.specs.ImageTrees.{image_members};
+ghost use Rattle.gltf_schema.specs.Fields.{closed_object, list_tree};
+ghost use Rattle.gltf_schema.specs.Kind.{ListOf};
+
+use crate::next::{Next, member};
+use crate::part::Part;
+use crate::visited::{Object, Visited};
+use gltf_data::buffer::View;
+use gltf_data::image::Image;
+use gltf_root::root::Root;
+
+impl Visited for View {
+    ghost kind = { view_kind };
+
+    ghost tree = { λ v. closed_object (view_members v) };
+
+    fn part<'a>(&'a self, _root: &Root) -> Part<'a> {
+        Part::View(self)
+    }
+}
+
+impl Object for View {
+    #[tactic(auto, using(crate::proofs::Past::past), unfolding(gltf_data::specs::BufferTable::view_rows, gltf_data::specs::BufferTrees::view_members))]
+    fn next<'a>(&'a self, number: usize, root: &Root) -> Next<'a> {
+        match number {
+            0 => member("buffer", &self.buffer, root),
+            1 => member("byteStride", &self.byte_stride, root),
+            2 => member("target", &self.target, root),
+            _ => Next::Done,
+        }
+    }
+}
+
+impl Visited for Vec<View> {
+    ghost kind = { ListOf view_kind };
+
+    ghost tree = { λ v. list_tree (λ x. closed_object (view_members x)) v.items };
+
+    fn part<'a>(&'a self, _root: &Root) -> Part<'a> {
+        Part::Views(self)
+    }
+}
+
+impl Visited for Image {
+    ghost kind = { image_kind };
+
+    ghost tree = { λ v. closed_object (image_members v) };
+
+    fn part<'a>(&'a self, _root: &Root) -> Part<'a> {
+        Part::Image(self)
+    }
+}
+
+impl Object for Image {
+    #[tactic(auto, using(crate::proofs::Past::past), unfolding(gltf_data::specs::ImageTable::image_rows, gltf_data::specs::ImageTrees::image_members))]
+    fn next<'a>(&'a self, number: usize, root: &Root) -> Next<'a> {
+        match number {
+            0 => member("bufferView", &self.buffer_view, root),
+            _ => Next::Done,
+        }
+    }
+}
+
+impl Visited for Vec<Image> {
+    ghost kind = { ListOf image_kind };
+
+    ghost tree = { λ v. list_tree (λ x. closed_object (image_members x)) v.items };
+
+    fn part<'a>(&'a self, _root: &Root) -> Part<'a> {
+        Part::Images(self)
+    }
+}

@@ -1,0 +1,113 @@
+//! Materials.
+
+ghost use Rattle.std.specs.Prelude.{◌≡◌};
+ghost use Rattle.gltf_materials.specs.MaterialTable.{material_kind, pbr_metallic_roughness_kind, normal_texture_kind, occlusion_texture_kind};
+ghost use Rattle.gltf_materials.specs.MaterialTrees.{material_members, pbr_metallic_roughness_members, normal_texture_members, occlusion_texture_members};
+ghost use Rattle.gltf_schema.specs.Fields.{closed_object, list_tree};
+ghost use Rattle.gltf_schema.specs.Kind.{ListOf};
+
+use crate::next::{Next, member};
+use crate::part::Part;
+use crate::visited::{Object, Visited};
+use gltf_materials::material::{Material, NormalTexture, OcclusionTexture, PbrMetallicRoughness};
+use gltf_root::root::Root;
+
+impl Visited for Material {
+    ghost kind = { material_kind };
+
+    ghost tree = { λ v. closed_object (material_members v) };
+
+    fn part<'a>(&'a self, _root: &Root) -> Part<'a> {
+        Part::Material(self)
+    }
+}
+
+impl Object for Material {
+    #[tactic(auto, using(crate::proofs::Past::past), unfolding(gltf_materials::specs::MaterialTable::material_rows, gltf_textures::specs::TextureTable::info_rows, gltf_shading::specs::MaterialExtensionTable::material_extension_rows, gltf_materials::specs::MaterialTable::normal_texture_rows, gltf_materials::specs::MaterialTable::occlusion_texture_rows, gltf_materials::specs::MaterialTable::pbr_metallic_roughness_rows, gltf_shading::specs::MaterialExtensionTable::pbr_specular_glossiness_rows, gltf_materials::specs::MaterialTrees::material_members))]
+    fn next<'a>(&'a self, number: usize, root: &Root) -> Next<'a> {
+        match number {
+            0 => member("alphaMode", &self.alpha_mode, root),
+            1 => member("pbrMetallicRoughness", &self.pbr_metallic_roughness, root),
+            2 => member("normalTexture", &self.normal_texture, root),
+            3 => member("occlusionTexture", &self.occlusion_texture, root),
+            4 => member("emissiveTexture", &self.emissive_texture, root),
+            5 => member("extensions", &self.extensions, root),
+            _ => Next::Done,
+        }
+    }
+}
+
+impl Visited for Vec<Material> {
+    ghost kind = { ListOf material_kind };
+
+    ghost tree = { λ v. list_tree (λ x. closed_object (material_members x)) v.items };
+
+    fn part<'a>(&'a self, _root: &Root) -> Part<'a> {
+        Part::Materials(self)
+    }
+}
+
+impl Visited for PbrMetallicRoughness {
+    ghost kind = { pbr_metallic_roughness_kind };
+
+    ghost tree = { λ v. closed_object (pbr_metallic_roughness_members v) };
+
+    fn part<'a>(&'a self, _root: &Root) -> Part<'a> {
+        Part::PbrMetallicRoughness(self)
+    }
+}
+
+impl Object for PbrMetallicRoughness {
+    #[tactic(auto, using(crate::proofs::Past::past), unfolding(gltf_materials::specs::MaterialTable::pbr_metallic_roughness_rows, gltf_textures::specs::TextureTable::info_rows, gltf_materials::specs::MaterialTrees::pbr_metallic_roughness_members))]
+    fn next<'a>(&'a self, number: usize, root: &Root) -> Next<'a> {
+        match number {
+            0 => member("baseColorTexture", &self.base_color_texture, root),
+            1 => member(
+                "metallicRoughnessTexture",
+                &self.metallic_roughness_texture,
+                root,
+            ),
+            _ => Next::Done,
+        }
+    }
+}
+
+impl Visited for NormalTexture {
+    ghost kind = { normal_texture_kind };
+
+    ghost tree = { λ v. closed_object (normal_texture_members v) };
+
+    fn part<'a>(&'a self, _root: &Root) -> Part<'a> {
+        Part::NormalTexture(self)
+    }
+}
+
+impl Object for NormalTexture {
+    #[tactic(auto, using(crate::proofs::Past::past), unfolding(gltf_materials::specs::MaterialTable::normal_texture_rows, gltf_materials::specs::MaterialTrees::normal_texture_members))]
+    fn next<'a>(&'a self, number: usize, root: &Root) -> Next<'a> {
+        match number {
+            0 => member("index", &self.index, root),
+            _ => Next::Done,
+        }
+    }
+}
+
+impl Visited for OcclusionTexture {
+    ghost kind = { occlusion_texture_kind };
+
+    ghost tree = { λ v. closed_object (occlusion_texture_members v) };
+
+    fn part<'a>(&'a self, _root: &Root) -> Part<'a> {
+        Part::OcclusionTexture(self)
+    }
+}
+
+impl Object for OcclusionTexture {
+    #[tactic(auto, using(crate::proofs::Past::past), unfolding(gltf_materials::specs::MaterialTable::occlusion_texture_rows, gltf_materials::specs::MaterialTrees::occlusion_texture_members))]
+    fn next<'a>(&'a self, number: usize, root: &Root) -> Next<'a> {
+        match number {
+            0 => member("index", &self.index, root),
+            _ => Next::Done,
+        }
+    }
+}

@@ -1,0 +1,115 @@
+//! Meshes.
+
+ghost use Rattle.std.specs.Prelude.{◌≡◌};
+ghost use Rattle.gltf_meshes.specs.MeshTable.{mesh_kind, primitive_kind, morph_target_kind};
+ghost use Rattle.gltf_meshes.specs.MeshTrees.{mesh_members, primitive_members, morph_target_members};
+ghost use Rattle.gltf_schema.specs.Fields.{closed_object, list_tree};
+ghost use Rattle.gltf_schema.specs.Kind.{ListOf};
+
+use crate::next::{Next, member};
+use crate::part::Part;
+use crate::visited::{Object, Visited};
+use gltf_base::Step;
+use gltf_faults::position_faults;
+use gltf_meshes::mesh::{Mesh, MorphTarget, Primitive};
+use gltf_root::root::Root;
+
+impl Visited for Mesh {
+    ghost kind = { mesh_kind };
+
+    ghost tree = { λ v. closed_object (mesh_members v) };
+
+    fn part<'a>(&'a self, _root: &Root) -> Part<'a> {
+        Part::Mesh(self)
+    }
+}
+
+impl Object for Mesh {
+    #[tactic(auto, using(crate::proofs::Past::past), unfolding(gltf_meshes::specs::MeshTable::mesh_rows, gltf_meshes::specs::MeshTrees::mesh_members))]
+    fn next<'a>(&'a self, number: usize, root: &Root) -> Next<'a> {
+        match number {
+            0 => member("primitives", &self.primitives, root),
+            _ => Next::Done,
+        }
+    }
+}
+
+impl Visited for Vec<Mesh> {
+    ghost kind = { ListOf mesh_kind };
+
+    ghost tree = { λ v. list_tree (λ x. closed_object (mesh_members x)) v.items };
+
+    fn part<'a>(&'a self, _root: &Root) -> Part<'a> {
+        Part::Meshes(self)
+    }
+}
+
+impl Visited for Primitive {
+    ghost kind = { primitive_kind };
+
+    ghost tree = { λ v. closed_object (primitive_members v) };
+
+    fn part<'a>(&'a self, _root: &Root) -> Part<'a> {
+        Part::Primitive(self)
+    }
+}
+
+impl Object for Primitive {
+    #[tactic(auto, using(crate::proofs::Past::past), unfolding(gltf_meshes::specs::MeshTable::primitive_rows, gltf_meshes::specs::MeshTable::morph_target_rows, gltf_meshes::specs::MeshTable::primitive_extension_rows, gltf_meshes::specs::MeshTable::variant_mapping_rows, gltf_meshes::specs::MeshTable::variant_mappings_rows, gltf_meshes::specs::MeshTrees::primitive_members))]
+    fn next<'a>(&'a self, number: usize, root: &Root) -> Next<'a> {
+        match number {
+            0 => member("attributes", &self.attributes, root),
+            1 => member("indices", &self.indices, root),
+            2 => member("material", &self.material, root),
+            3 => member("mode", &self.mode, root),
+            4 => member("targets", &self.targets, root),
+            5 => Next::Down(
+                Step::Field("attributes"),
+                Part::AtPositions(position_faults(self, root)),
+            ),
+            _ => Next::Done,
+        }
+    }
+}
+
+impl Visited for Vec<Primitive> {
+    ghost kind = { ListOf primitive_kind };
+
+    ghost tree = { λ v. list_tree (λ x. closed_object (primitive_members x)) v.items };
+
+    fn part<'a>(&'a self, _root: &Root) -> Part<'a> {
+        Part::Primitives(self)
+    }
+}
+
+impl Visited for MorphTarget {
+    ghost kind = { morph_target_kind };
+
+    ghost tree = { λ v. closed_object (morph_target_members v) };
+
+    fn part<'a>(&'a self, _root: &Root) -> Part<'a> {
+        Part::MorphTarget(self)
+    }
+}
+
+impl Object for MorphTarget {
+    #[tactic(auto, using(crate::proofs::Past::past), unfolding(gltf_meshes::specs::MeshTable::morph_target_rows, gltf_meshes::specs::MeshTrees::morph_target_members))]
+    fn next<'a>(&'a self, number: usize, root: &Root) -> Next<'a> {
+        match number {
+            0 => member("POSITION", &self.positions, root),
+            1 => member("NORMAL", &self.normals, root),
+            2 => member("TANGENT", &self.tangents, root),
+            _ => Next::Done,
+        }
+    }
+}
+
+impl Visited for Vec<MorphTarget> {
+    ghost kind = { ListOf morph_target_kind };
+
+    ghost tree = { λ v. list_tree (λ x. closed_object (morph_target_members x)) v.items };
+
+    fn part<'a>(&'a self, _root: &Root) -> Part<'a> {
+        Part::MorphTargets(self)
+    }
+}

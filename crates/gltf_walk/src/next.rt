@@ -1,0 +1,50 @@
+//! What comes next in a part of a document.
+
+ghost use Rattle.std.specs.Prelude.{◌≡◌};
+ghost use Rattle.gltf_paths.specs.Steps.{field};
+ghost use Rattle.gltf_root.specs.RootTrees.{root_tree};
+ghost use Rattle.gltf_schema.specs.Tree.{absent};
+ghost use Rattle.gltf_walk.specs.Parts.{move_of};
+ghost use Rattle.gltf_walk.specs.Plan.{down, first, leaf};
+ghost use Rattle.gltf_walk.specs.Planned.{planned};
+
+use crate::part::Part;
+use crate::visited::Visited;
+use gltf_base::Step;
+use gltf_base::validation::Error;
+use gltf_root::root::Root;
+
+/// What comes next in a part of a document.
+#[derive(Clone, Copy, Drop)]
+pub(crate) enum Next<'a> {
+    /// A step down, to what stands there.
+    Down(Step<'a>, Part<'a>),
+    /// What is wrong with the part itself.
+    Fault(Error),
+    /// Nothing more.
+    Done,
+}
+
+/// A member of an object.
+pub(crate) fn member<'a, T: Visited>(name: &'static str, value: &'a T, root: &Root) -> Next<'a>
+    ensures { move_of (root_tree root.now) result ≡ down (field name.now) (planned T.kind (T.tree value.now) (root_tree root.now) absent) }
+{
+    Next::Down(Step::Field(name), value.part(root))
+}
+
+/// What was found at a member of an object.
+pub(crate) fn found<'a>(name: &'static str, fault: Option<Error>) -> Next<'a>
+    ensures { (root : _) → move_of root result ≡ down (field name.now) (leaf fault) }
+{
+    Next::Down(Step::Field(name), Part::Leaf(fault))
+}
+
+/// What was found at a place itself.
+pub(crate) fn told<'a>(fault: Option<Error>) -> Next<'a>
+    ensures { (root : _) → move_of root result ≡ first (leaf fault) }
+{
+    match fault {
+        Some(error) => Next::Fault(error),
+        None => Next::Done,
+    }
+}

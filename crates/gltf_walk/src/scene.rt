@@ -1,0 +1,143 @@
+//! Nodes, scenes and skins.
+
+ghost use Rattle.std.specs.Prelude.{◌≡◌};
+ghost use Rattle.gltf_nodes.specs.SceneTable.{node_kind, node_extensions_kind, scene_kind, skin_kind};
+ghost use Rattle.gltf_nodes.specs.SceneTrees.{node_members, node_extensions, scene_members, skin_members};
+ghost use Rattle.gltf_schema.specs.Fields.{closed_object, list_tree, index_tree};
+ghost use Rattle.gltf_schema.specs.Kind.{ListOf, IndexInto};
+ghost use Rattle.gltf_paths.specs.Lists.{ListName};
+
+use crate::next::{Next, member};
+use crate::part::Part;
+use crate::visited::{Object, Visited};
+use gltf_base::Index;
+use gltf_nodes::extensions::scene as extensions;
+use gltf_nodes::scene::{Node, Scene};
+use gltf_nodes::skin::Skin;
+use gltf_root::root::Root;
+
+impl Visited for Node {
+    ghost kind = { node_kind };
+
+    ghost tree = { λ v. closed_object (node_members v) };
+
+    fn part<'a>(&'a self, _root: &Root) -> Part<'a> {
+        Part::Node(self)
+    }
+}
+
+impl Object for Node {
+    #[tactic(auto, using(crate::proofs::Past::past), unfolding(gltf_nodes::specs::SceneTable::node_rows, gltf_nodes::specs::LightTable::light_of_node_rows, gltf_nodes::specs::SceneTable::node_extension_rows, gltf_nodes::specs::SceneTrees::node_members))]
+    fn next<'a>(&'a self, number: usize, root: &Root) -> Next<'a> {
+        match number {
+            0 => member("camera", &self.camera, root),
+            1 => member("children", &self.children, root),
+            2 => member("extensions", &self.extensions, root),
+            3 => member("mesh", &self.mesh, root),
+            4 => member("skin", &self.skin, root),
+            _ => Next::Done,
+        }
+    }
+}
+
+impl Visited for Vec<Node> {
+    ghost kind = { ListOf node_kind };
+
+    ghost tree = { λ v. list_tree (λ x. closed_object (node_members x)) v.items };
+
+    fn part<'a>(&'a self, _root: &Root) -> Part<'a> {
+        Part::Nodes(self)
+    }
+}
+
+impl Visited for extensions::Node {
+    ghost kind = { node_extensions_kind };
+
+    ghost tree = { node_extensions };
+
+    fn part<'a>(&'a self, _root: &Root) -> Part<'a> {
+        Part::NodeExtensions(self)
+    }
+}
+
+impl Object for extensions::Node {
+    #[tactic(auto, using(crate::proofs::Past::past), unfolding(gltf_nodes::specs::SceneTable::node_extension_rows, gltf_nodes::specs::LightTable::light_of_node_rows, gltf_nodes::specs::SceneTrees::node_extension_members))]
+    fn next<'a>(&'a self, number: usize, root: &Root) -> Next<'a> {
+        match number {
+            0 => member("KHR_lights_punctual", &self.khr_lights_punctual, root),
+            _ => Next::Done,
+        }
+    }
+}
+
+impl Visited for Scene {
+    ghost kind = { scene_kind };
+
+    ghost tree = { λ v. closed_object (scene_members v) };
+
+    fn part<'a>(&'a self, _root: &Root) -> Part<'a> {
+        Part::Scene(self)
+    }
+}
+
+impl Object for Scene {
+    #[tactic(auto, using(crate::proofs::Past::past), unfolding(gltf_nodes::specs::SceneTable::scene_rows, gltf_nodes::specs::SceneTrees::scene_members))]
+    fn next<'a>(&'a self, number: usize, root: &Root) -> Next<'a> {
+        match number {
+            0 => member("nodes", &self.nodes, root),
+            _ => Next::Done,
+        }
+    }
+}
+
+impl Visited for Vec<Scene> {
+    ghost kind = { ListOf scene_kind };
+
+    ghost tree = { λ v. list_tree (λ x. closed_object (scene_members x)) v.items };
+
+    fn part<'a>(&'a self, _root: &Root) -> Part<'a> {
+        Part::Scenes(self)
+    }
+}
+
+impl Visited for Skin {
+    ghost kind = { skin_kind };
+
+    ghost tree = { λ v. closed_object (skin_members v) };
+
+    fn part<'a>(&'a self, _root: &Root) -> Part<'a> {
+        Part::Skin(self)
+    }
+}
+
+impl Object for Skin {
+    #[tactic(auto, using(crate::proofs::Past::past), unfolding(gltf_nodes::specs::SceneTable::skin_rows, gltf_nodes::specs::SceneTrees::skin_members))]
+    fn next<'a>(&'a self, number: usize, root: &Root) -> Next<'a> {
+        match number {
+            0 => member("inverseBindMatrices", &self.inverse_bind_matrices, root),
+            1 => member("joints", &self.joints, root),
+            2 => member("skeleton", &self.skeleton, root),
+            _ => Next::Done,
+        }
+    }
+}
+
+impl Visited for Vec<Skin> {
+    ghost kind = { ListOf skin_kind };
+
+    ghost tree = { λ v. list_tree (λ x. closed_object (skin_members x)) v.items };
+
+    fn part<'a>(&'a self, _root: &Root) -> Part<'a> {
+        Part::Skins(self)
+    }
+}
+
+impl Visited for Vec<Index<Node>> {
+    ghost kind = { ListOf (IndexInto ListName.nodes) };
+
+    ghost tree = { λ v. list_tree index_tree v.items };
+
+    fn part<'a>(&'a self, _root: &Root) -> Part<'a> {
+        Part::NodeIndexes(self)
+    }
+}

@@ -1,0 +1,29 @@
+//! Where a walk stands.
+
+ghost use Rattle.std.specs.Prelude.{◌≤◌, ◌-◌, suc, length};
+ghost use Rattle.gltf_root.specs.RootTrees.{root_tree};
+ghost use Rattle.gltf_walk.specs.Parts.{plans_left};
+ghost use Rattle.gltf_walk.specs.Stacks.{reach};
+
+use crate::part::Frame;
+use arrayvec::ArrayVec;
+use gltf_base::Steps;
+use gltf_root::root::Root;
+
+/// A walk over a document from any place, against the document itself or another.
+#[derive(Drop)]
+pub struct Descent<'a> {
+    pub(crate) root: &'a Root,
+    /// The parts below each other that the walk is in.
+    pub(crate) frames: ArrayVec<Frame<'a>, 16>,
+    pub(crate) steps: Steps<'a>,
+    ghost fits: { reach 0 (plans_left (root_tree root.now) frames.items) ≤ 10 },
+    ghost beside: { length frames.items ≤ suc (length steps.items) },
+}
+
+/// A walk over a document against itself, which gives its reports one at a time.
+#[derive(Drop)]
+pub struct Walk<'a> {
+    pub(crate) descent: Descent<'a>,
+    ghost from_root: { length descent.steps.items ≤ length descent.frames.items - 1 },
+}

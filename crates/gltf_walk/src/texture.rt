@@ -1,0 +1,98 @@
+//! Textures and samplers.
+
+ghost use Rattle.std.specs.Prelude.{◌≡◌};
+ghost use Rattle.gltf_textures.specs.TextureTable.{sampler_kind, texture_kind, info_kind};
+ghost use Rattle.gltf_textures.specs.TextureTrees.{sampler_members, texture_members, info_members};
+ghost use Rattle.gltf_schema.specs.Fields.{closed_object, list_tree};
+ghost use Rattle.gltf_schema.specs.Kind.{ListOf};
+
+use crate::next::{Next, found, member};
+use crate::part::Part;
+use crate::visited::{Object, Visited};
+use gltf_faults::source_fault;
+use gltf_root::root::Root;
+use gltf_textures::texture::{Info, Sampler, Texture};
+
+impl Visited for Sampler {
+    ghost kind = { sampler_kind };
+
+    ghost tree = { λ v. closed_object (sampler_members v) };
+
+    fn part<'a>(&'a self, _root: &Root) -> Part<'a> {
+        Part::Sampler(self)
+    }
+}
+
+impl Object for Sampler {
+    #[tactic(auto, using(crate::proofs::Past::past), unfolding(gltf_textures::specs::TextureTable::sampler_rows, gltf_textures::specs::TextureTrees::sampler_members))]
+    fn next<'a>(&'a self, number: usize, root: &Root) -> Next<'a> {
+        match number {
+            0 => member("magFilter", &self.mag_filter, root),
+            1 => member("minFilter", &self.min_filter, root),
+            2 => member("wrapS", &self.wrap_s, root),
+            3 => member("wrapT", &self.wrap_t, root),
+            _ => Next::Done,
+        }
+    }
+}
+
+impl Visited for Vec<Sampler> {
+    ghost kind = { ListOf sampler_kind };
+
+    ghost tree = { λ v. list_tree (λ x. closed_object (sampler_members x)) v.items };
+
+    fn part<'a>(&'a self, _root: &Root) -> Part<'a> {
+        Part::Samplers(self)
+    }
+}
+
+impl Visited for Texture {
+    ghost kind = { texture_kind };
+
+    ghost tree = { λ v. closed_object (texture_members v) };
+
+    fn part<'a>(&'a self, _root: &Root) -> Part<'a> {
+        Part::Texture(self)
+    }
+}
+
+impl Object for Texture {
+    #[tactic(auto, using(crate::proofs::Past::past), unfolding(gltf_textures::specs::TextureTable::texture_rows, gltf_textures::specs::TextureTrees::texture_members))]
+    fn next<'a>(&'a self, number: usize, root: &Root) -> Next<'a> {
+        match number {
+            0 => member("sampler", &self.sampler, root),
+            1 => found("source", source_fault(self, root)),
+            _ => Next::Done,
+        }
+    }
+}
+
+impl Visited for Vec<Texture> {
+    ghost kind = { ListOf texture_kind };
+
+    ghost tree = { λ v. list_tree (λ x. closed_object (texture_members x)) v.items };
+
+    fn part<'a>(&'a self, _root: &Root) -> Part<'a> {
+        Part::Textures(self)
+    }
+}
+
+impl Visited for Info {
+    ghost kind = { info_kind };
+
+    ghost tree = { λ v. closed_object (info_members v) };
+
+    fn part<'a>(&'a self, _root: &Root) -> Part<'a> {
+        Part::Info(self)
+    }
+}
+
+impl Object for Info {
+    #[tactic(auto, using(crate::proofs::Past::past), unfolding(gltf_textures::specs::TextureTable::info_rows, gltf_textures::specs::TextureTable::info_extension_rows, gltf_textures::specs::TextureTable::texture_transform_rows, gltf_textures::specs::TextureTrees::info_members))]
+    fn next<'a>(&'a self, number: usize, root: &Root) -> Next<'a> {
+        match number {
+            0 => member("index", &self.index, root),
+            _ => Next::Done,
+        }
+    }
+}

@@ -1,0 +1,130 @@
+//! The walk.
+
+ghost use Rattle.std.specs.Prelude.{◌≡◌, ◌≤◌, ◌<◌, ◌+◌, ◌^◌, [], suc, length, IfOk, OnErr};
+ghost use Rattle.gltf_paths.specs.Steps.{steps_of};
+ghost use Rattle.gltf_root.specs.RootTable.{root_kind};
+ghost use Rattle.gltf_root.specs.RootTrees.{root_tree};
+ghost use Rattle.gltf_faults.specs.Reports.{reports_of};
+ghost use Rattle.gltf_walk.specs.ToCome.{base_count, left_of_descent, path_of_descent, to_come, path_of, IsNext, IsNextOf};
+
+use crate::frames::next_in;
+use crate::next::Next;
+use crate::part::{Frame, Part};
+use crate::state::{Descent, Walk};
+use arrayvec::ArrayVec;
+use gltf_base::Steps;
+use gltf_base::validation::Error;
+use gltf_root::root::Root;
+
+/// A path that has no room for one more step.
+#[derive(Clone, Copy, Debug, Drop, PartialEq, Eq)]
+pub struct StepsFull;
+
+impl<'a> Descent<'a> {
+    /// A walk over `document` that looks its indexes up in `root`; each of its paths begins with the
+    /// steps of `base`.
+    pub fn new(document: &'a Root, root: &'a Root, base: &Steps<'a>) -> Descent<'a>
+        ensures reports { left_of_descent result ≡ reports_of root_kind (root_tree document.now) (root_tree root.now) (steps_of base.now) }
+        ensures base { base_count result ≡ length (steps_of base.now) }
+        ensures path { path_of_descent result ≡ steps_of base.now }
+    {
+        let mut frames = ArrayVec::new();
+        frames.push(Frame {
+            part: Part::Root(document),
+            number: 0,
+        });
+        Descent {
+            root,
+            frames,
+            steps: copied(base),
+        }
+    }
+
+    /// The error of the next report, whose path is then in `steps`; `None` where there is none left.
+    /// `StepsFull` comes only where the first steps and the ten below a document are more than 16.
+    pub fn next_report(&mut self) -> Result<Option<Error>, StepsFull>
+        ensures next { IfOk result (λ error. IsNextOf self.old error self.new) }
+        ensures full { OnErr result (16 < base_count self.old + 10) }
+    {
+        while let Some(frame) = self.frames.pop() {
+            match next_in(frame.part, frame.number, self.root) {
+                Next::Done => {
+                    let _ = self.steps.pop();
+                }
+                Next::Fault(error) => {
+                    self.frames.push(further(frame));
+                    return Ok(Some(error));
+                }
+                Next::Down(step, part) => {
+                    if self.steps.is_full() {
+                        return Err(StepsFull);
+                    }
+                    self.frames.push(further(frame));
+                    self.frames.push(Frame { part, number: 0 });
+                    self.steps.push(step);
+                }
+            }
+        }
+        Ok(None)
+    }
+
+    /// The path of the last report.
+    pub fn steps(&self) -> &Steps<'a>
+        ensures { steps_of result.now ≡ path_of_descent self.now }
+    {
+        &self.steps
+    }
+}
+
+impl<'a> Walk<'a> {
+    /// A walk over `root` that has not begun.
+    pub fn new(root: &'a Root) -> Walk<'a>
+        ensures reports { to_come result ≡ reports_of root_kind (root_tree root.now) (root_tree root.now) [] }
+        ensures path { path_of result ≡ [] }
+    {
+        Walk {
+            descent: Descent::new(root, root, &Steps::new()),
+        }
+    }
+
+    /// The error of the next report, whose path is then in `steps`; `None`, with empty `steps`, where
+    /// there is none left.
+    pub fn next_report(&mut self) -> Option<Error>
+        ensures { IsNext (to_come self.old) result (path_of self.new) (to_come self.new) }
+    {
+        match self.descent.next_report() {
+            Ok(error) => error,
+            // No document is deeper than a path is long.
+            Err(StepsFull) => unreachable!(),
+        }
+    }
+
+    /// The path of the last report; empty before the first one and after the last one.
+    pub fn steps(&self) -> &Steps<'_>
+        ensures { steps_of result.now ≡ path_of self.now }
+    {
+        self.descent.steps()
+    }
+}
+
+/// The same steps.
+fn copied<'a>(base: &Steps<'a>) -> Steps<'a>
+    ensures { result.items ≡ base.now.items }
+{
+    let mut steps = Steps::new();
+    // They fit: both have the same room.
+    let _ = steps.try_extend_from_slice(base.as_slice());
+    steps
+}
+
+/// A frame at its next number.
+fn further(frame: Frame<'_>) -> Frame<'_>
+    requires { frame.number + 1 < 2 ^ 64 }
+    ensures part { result.part ≡ frame.entry.part }
+    ensures number { result.number ≡ frame.entry.number + 1 }
+{
+    Frame {
+        part: frame.part,
+        number: frame.number + 1,
+    }
+}

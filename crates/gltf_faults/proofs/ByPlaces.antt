@@ -11,9 +11,10 @@ use Rattle.gltf_schema.specs.Tree.{Tree, absent, Trees, end, with_tree, items_in
 use Rattle.gltf_schema.specs.Kind.{Kind, IndexInto, SourceImage, ChannelSampler, U32, U64, Stride, Number, Numbers, Text, Truth, Any, Choice, Attributes, ListOf, Object, ObjectName, Rows, no_rows, row}
 use Rattle.gltf_root.specs.Lists.{count_in}
 use Rattle.gltf_sinks.specs.Report.{From}
+use Rattle.gltf_faults.specs.Context.{Rules, Context, under}
 use Rattle.gltf_faults.specs.Faults.{choice_faults, key_faults, entries_faults}
 use Rattle.gltf_faults.specs.Rules.{object_faults}
-use Rattle.gltf_faults.specs.Reports.{animation_below, items_reports, reports, member_reports}
+use Rattle.gltf_faults.specs.Reports.{animation_below, items_reports, reports, member_reports, reports_by_rules}
 use Rattle.gltf_faults.specs.Places.{Place, place_of, object_place, key_kind, key_tree, entry_places, item_places, places, member_places, kind_faults, faults, reports_by_places}
 use Rattle.gltf_faults.proofs.Joining.{joined}
 
@@ -22,21 +23,21 @@ over-append f [] ys = refl
 over-append f (x ∷ xs) ys = ap (λ zs. f x ++ zs) (over-append f xs ys) ∙ sym (append_assoc (f x) (flat_map f xs) (flat_map f ys))
 
 -- a leaf has one place, or none where nothing is wrong
-leaf : (kind : Kind) (t root animation : Tree) (base : List Step) → kind_faults kind absent root animation base ≡ []
-    → flat_map (faults root) (place_of kind t animation base) ≡ kind_faults kind t root animation base
-leaf kind absent root animation base none = sym none
-leaf kind (tree.whole n) root animation base none = append-nil _
-leaf kind (tree.number x) root animation base none = append-nil _
-leaf kind (tree.numbers xs) root animation base none = append-nil _
-leaf kind (tree.text s) root animation base none = append-nil _
-leaf kind (tree.truth b) root animation base none = append-nil _
-leaf kind (tree.any d) root animation base none = append-nil _
-leaf kind (tree.chosen s) root animation base none = append-nil _
-leaf kind tree.invalid root animation base none = append-nil _
-leaf kind (tree.index n) root animation base none = append-nil _
-leaf kind (tree.list ts) root animation base none = append-nil _
-leaf kind (tree.attributes es) root animation base none = append-nil _
-leaf kind (tree.object ts others) root animation base none = append-nil _
+leaf : (kind : Kind) (t : Tree) (context : Context) (animation : Tree) (base : List Step) → kind_faults kind absent context animation base ≡ []
+    → flat_map (faults context) (place_of kind t animation base) ≡ kind_faults kind t context animation base
+leaf kind absent context animation base none = sym none
+leaf kind (tree.whole n) context animation base none = append-nil _
+leaf kind (tree.number x) context animation base none = append-nil _
+leaf kind (tree.numbers xs) context animation base none = append-nil _
+leaf kind (tree.text s) context animation base none = append-nil _
+leaf kind (tree.truth b) context animation base none = append-nil _
+leaf kind (tree.any d) context animation base none = append-nil _
+leaf kind (tree.chosen s) context animation base none = append-nil _
+leaf kind tree.invalid context animation base none = append-nil _
+leaf kind (tree.index n) context animation base none = append-nil _
+leaf kind (tree.list ts) context animation base none = append-nil _
+leaf kind (tree.attributes es) context animation base none = append-nil _
+leaf kind (tree.object ts others) context animation base none = append-nil _
 
 -- a key is told as a choice is
 key_told : (k : Key) (base : List Step) → choice_faults (key_tree k) base ≡ key_faults k base
@@ -50,70 +51,70 @@ key_told (keys.joints set) base = refl
 key_told (keys.weights set) base = refl
 key_told keys.unknown base = refl
 
-entries_by_places : (named : ListName) (es : List (Key × ℕ)) (root animation : Tree) (base : List Step)
-    → flat_map (faults root) (entry_places named es animation base) ≡ entries_faults (count_in named root) es base
-entries_by_places named [] root animation base = refl
-entries_by_places named (e ∷ es) root animation base =
+entries_by_places : (named : ListName) (es : List (Key × ℕ)) (context : Context) (animation : Tree) (base : List Step)
+    → flat_map (faults context) (entry_places named es animation base) ≡ entries_faults (count_in named context.root) es base
+entries_by_places named [] context animation base = refl
+entries_by_places named (e ∷ es) context animation base =
     let at = base ++ key (key_text e.0) ∷ [] in
     let first = place_of key_kind (key_tree e.0) animation at in
     let second = place_of (IndexInto named) (tree.index e.1) animation at in
-    over-append (faults root) (first ++ second) (entry_places named es animation base)
+    over-append (faults context) (first ++ second) (entry_places named es animation base)
     ∙ joined
-    (over-append (faults root) first second
-    ∙ joined (leaf key_kind (key_tree e.0) root animation at refl ∙ key_told e.0 at) (leaf (IndexInto named) (tree.index e.1) root animation at refl))
-    (entries_by_places named es root animation base)
+    (over-append (faults context) first second
+    ∙ joined (leaf key_kind (key_tree e.0) context animation at refl ∙ key_told e.0 at) (leaf (IndexInto named) (tree.index e.1) context animation at refl))
+    (entries_by_places named es context animation base)
 
-items_by_places : (root : Tree) (f : Tree → List Step → List Place) (g : Tree → From) → ((t : Tree) (base : List Step) → flat_map (faults root) (f t base) ≡ g t base)
-    → (i : ℕ) (ts : Trees) (base : List Step) → flat_map (faults root) (item_places f i ts base) ≡ items_reports g i ts base
-items_by_places root f g each i end base = refl
-items_by_places root f g each i (with_tree t ts) base =
-    over-append (faults root) (f t (base ++ item i ∷ [])) (item_places f (suc i) ts base)
-    ∙ joined (each t (base ++ item i ∷ [])) (items_by_places root f g each (suc i) ts base)
+items_by_places : (context : Context) (f : Tree → List Step → List Place) (g : Tree → From) → ((t : Tree) (base : List Step) → flat_map (faults context) (f t base) ≡ g t base)
+    → (i : ℕ) (ts : Trees) (base : List Step) → flat_map (faults context) (item_places f i ts base) ≡ items_reports g i ts base
+items_by_places context f g each i end base = refl
+items_by_places context f g each i (with_tree t ts) base =
+    over-append (faults context) (f t (base ++ item i ∷ [])) (item_places f (suc i) ts base)
+    ∙ joined (each t (base ++ item i ∷ [])) (items_by_places context f g each (suc i) ts base)
 
-own_place : (named : ObjectName) (rows : Rows) (keeps : Bool) (t root animation : Tree) (base : List Step)
-    → flat_map (faults root) (object_place (Object named rows keeps) t animation base) ≡ object_faults t named root base
-own_place named rows keeps absent root animation base = refl
-own_place named rows keeps (tree.whole n) root animation base = refl
-own_place named rows keeps (tree.number x) root animation base = refl
-own_place named rows keeps (tree.numbers xs) root animation base = refl
-own_place named rows keeps (tree.text s) root animation base = refl
-own_place named rows keeps (tree.truth b) root animation base = refl
-own_place named rows keeps (tree.any d) root animation base = refl
-own_place named rows keeps (tree.chosen s) root animation base = refl
-own_place named rows keeps tree.invalid root animation base = refl
-own_place named rows keeps (tree.index n) root animation base = refl
-own_place named rows keeps (tree.list ts) root animation base = refl
-own_place named rows keeps (tree.attributes es) root animation base = refl
-own_place named rows keeps (tree.object ts others) root animation base = append-nil _
+own_place : (named : ObjectName) (rows : Rows) (keeps : Bool) (t : Tree) (context : Context) (animation : Tree) (base : List Step)
+    → flat_map (faults context) (object_place (Object named rows keeps) t animation base) ≡ object_faults t named context base
+own_place named rows keeps absent context animation base = refl
+own_place named rows keeps (tree.whole n) context animation base = refl
+own_place named rows keeps (tree.number x) context animation base = refl
+own_place named rows keeps (tree.numbers xs) context animation base = refl
+own_place named rows keeps (tree.text s) context animation base = refl
+own_place named rows keeps (tree.truth b) context animation base = refl
+own_place named rows keeps (tree.any d) context animation base = refl
+own_place named rows keeps (tree.chosen s) context animation base = refl
+own_place named rows keeps tree.invalid context animation base = refl
+own_place named rows keeps (tree.index n) context animation base = refl
+own_place named rows keeps (tree.list ts) context animation base = refl
+own_place named rows keeps (tree.attributes es) context animation base = refl
+own_place named rows keeps (tree.object ts others) context animation base = append-nil _
 
 mutual
-  by_places : (kind : Kind) (t root animation : Tree) (base : List Step) → flat_map (faults root) (places kind t animation base) ≡ reports kind t root animation base
-  by_places (IndexInto named) t root animation base = leaf (IndexInto named) t root animation base refl
-  by_places SourceImage t root animation base = leaf SourceImage t root animation base refl
-  by_places ChannelSampler t root animation base = leaf ChannelSampler t root animation base refl
-  by_places U32 t root animation base = leaf U32 t root animation base refl
-  by_places U64 t root animation base = leaf U64 t root animation base refl
-  by_places Stride t root animation base = leaf Stride t root animation base refl
-  by_places Number t root animation base = leaf Number t root animation base refl
-  by_places (Numbers n) t root animation base = leaf (Numbers n) t root animation base refl
-  by_places Text t root animation base = leaf Text t root animation base refl
-  by_places Truth t root animation base = leaf Truth t root animation base refl
-  by_places Any t root animation base = leaf Any t root animation base refl
-  by_places (Choice form listed) t root animation base = leaf (Choice form listed) t root animation base refl
-  by_places (Attributes named) t root animation base = entries_by_places named (entries_in t) root animation base
-  by_places (ListOf kind) t root animation base =
-      items_by_places root (λ x. places kind x animation) (λ x. reports kind x root animation) (λ x at. by_places kind x root animation at) 0 (items_in t) base
-  by_places (Object named rows keeps) t root animation base =
-      over-append (faults root) (member_places (members_in t) rows (animation_below named t animation) base) (object_place (Object named rows keeps) t animation base)
-      ∙ joined (members_by_places (members_in t) rows root (animation_below named t animation) base) (own_place named rows keeps t root animation base)
+  by_places : (kind : Kind) (t : Tree) (context : Context) (animation : Tree) (base : List Step) → flat_map (faults context) (places kind t animation base) ≡ reports kind t context animation base
+  by_places (IndexInto named) t context animation base = leaf (IndexInto named) t context animation base refl
+  by_places SourceImage t context animation base = leaf SourceImage t context animation base refl
+  by_places ChannelSampler t context animation base = leaf ChannelSampler t context animation base refl
+  by_places U32 t context animation base = leaf U32 t context animation base refl
+  by_places U64 t context animation base = leaf U64 t context animation base refl
+  by_places Stride t context animation base = leaf Stride t context animation base refl
+  by_places Number t context animation base = leaf Number t context animation base refl
+  by_places (Numbers n) t context animation base = leaf (Numbers n) t context animation base refl
+  by_places Text t context animation base = leaf Text t context animation base refl
+  by_places Truth t context animation base = leaf Truth t context animation base refl
+  by_places Any t context animation base = leaf Any t context animation base refl
+  by_places (Choice form listed) t context animation base = leaf (Choice form listed) t context animation base refl
+  by_places (Attributes named) t context animation base = entries_by_places named (entries_in t) context animation base
+  by_places (ListOf kind) t context animation base =
+      items_by_places context (λ x. places kind x animation) (λ x. reports kind x context animation) (λ x at. by_places kind x context animation at) 0 (items_in t) base
+  by_places (Object named rows keeps) t context animation base =
+      over-append (faults context) (member_places (members_in t) rows (animation_below named t animation) base) (object_place (Object named rows keeps) t animation base)
+      ∙ joined (members_by_places (members_in t) rows context (animation_below named t animation) base) (own_place named rows keeps t context animation base)
 
-  members_by_places : (ts : Trees) (rows : Rows) (root animation : Tree) (base : List Step) → flat_map (faults root) (member_places ts rows animation base) ≡ member_reports ts rows root animation base
-  members_by_places end rows root animation base = refl
-  members_by_places (with_tree t ts) no_rows root animation base = refl
-  members_by_places (with_tree t ts) (row n mark kind rows) root animation base =
-      over-append (faults root) (places kind t animation (base ++ field n ∷ [])) (member_places ts rows animation base)
-      ∙ joined (by_places kind t root animation (base ++ field n ∷ [])) (members_by_places ts rows root animation base)
+  members_by_places : (ts : Trees) (rows : Rows) (context : Context) (animation : Tree) (base : List Step) → flat_map (faults context) (member_places ts rows animation base) ≡ member_reports ts rows context animation base
+  members_by_places end rows context animation base = refl
+  members_by_places (with_tree t ts) no_rows context animation base = refl
+  members_by_places (with_tree t ts) (row n mark kind rows) context animation base =
+      over-append (faults context) (places kind t animation (base ++ field n ∷ [])) (member_places ts rows animation base)
+      ∙ joined (by_places kind t context animation (base ++ field n ∷ [])) (members_by_places ts rows context animation base)
 
 -- the law, for a value by itself
-pub reports_are_by_places : (kind : Kind) (t root : Tree) (base : List Step) → reports kind t root absent base ≡ reports_by_places kind t root base
-reports_are_by_places kind t root base = sym (by_places kind t root absent base)
+pub reports_are_by_places : (rules : Rules) (kind : Kind) (t root : Tree) (base : List Step) → reports_by_rules rules kind t root base ≡ reports_by_places rules kind t root base
+reports_are_by_places rules kind t root base = sym (by_places kind t (under rules root) absent base)

@@ -1,6 +1,6 @@
 -- What has no report is closed.
-use Rattle.std.proofs.Common.{◌≡◌, ℕ, suc, ◌<◌, List, [], ◌∷◌, ◌++◌, Bool, true, false, not, cond, nat_lt, refl}
-use Rattle.std.proofs.lemmas.Bool.{ltb-true}
+use Rattle.std.proofs.Common.{◌≡◌, ℕ, suc, ◌<◌, List, [], ◌∷◌, ◌++◌, Bool, true, false, not, cond, nat_lt, nat_eq, inl, inr, refl, ap}
+use Rattle.std.proofs.lemmas.Bool.{eqb-true, ltb-true}
 use Rattle.gltf_checked.specs.Keys.{Key, key_text}
 use Rattle.gltf_checked.specs.Keys as keys
 use Rattle.gltf_paths.specs.Lists.{ListName}
@@ -11,10 +11,11 @@ use Rattle.gltf_schema.specs.Tree.{Tree, absent, Trees, end, with_tree, items_in
 use Rattle.gltf_schema.specs.Kind.{Kind, IndexInto, SourceImage, ChannelSampler, U32, U64, Stride, Number, Numbers, Text, Truth, Any, Choice, Attributes, ListOf, Object, Rows, no_rows, row}
 use Rattle.gltf_root.specs.Lists.{count_in, sampler_count}
 use Rattle.gltf_sinks.specs.Report.{From, report}
-use Rattle.gltf_faults.specs.Faults.{number_faults, index_faults, source_faults, choice_faults, key_faults, entries_faults}
+use Rattle.gltf_faults.specs.Context.{Context}
+use Rattle.gltf_faults.specs.Faults.{report_if, number_faults, index_faults, source_faults, choice_faults, key_faults, entries_faults}
 use Rattle.gltf_faults.specs.Rules.{object_faults}
 use Rattle.gltf_faults.specs.Reports.{animation_below, items_reports, reports, member_reports}
-use Rattle.gltf_faults.specs.Closed.{NamesItem, IsListed, IsKnown, EntriesClosed, EachTree, IsClosed, MembersClosed}
+use Rattle.gltf_faults.specs.Closed.{NamesItem, NamesImage, IsListed, IsKnown, EntriesClosed, EachTree, IsClosed, MembersClosed}
 
 pub first_none : {A : Type 0} (xs ys : List A) → xs ++ ys ≡ [] → xs ≡ []
 first_none [] ys h = refl
@@ -46,24 +47,26 @@ index_named count (tree.list ts) base h = tt
 index_named count (tree.attributes es) base h = tt
 index_named count (tree.object ts others) base h = tt
 
-source_at : (b : Bool) (count n : ℕ) (base : List Step) → cond b (report base Missing ∷ []) (number_faults count n base) ≡ [] → number_faults count n base ≡ []
-source_at true count n base h = absurd cc
-source_at false count n base h = h
+source_at : (may_be_empty is_none : Bool) (count n : ℕ) (base : List Step) → nat_eq n 4294967295 ≡ is_none
+    → cond is_none (report_if (not may_be_empty) Missing base) (number_faults count n base) ≡ [] → NamesImage may_be_empty count (tree.index n)
+source_at true true count n base is h = inl (refl, ap (λ m. tree.index m) (eqb-true _ _ is))
+source_at false true count n base is h = absurd cc
+source_at may_be_empty false count n base is h = inr (below count n base h)
 
-source_named : (count : ℕ) (t : Tree) (base : List Step) → source_faults count t base ≡ [] → NamesItem count t
-source_named count absent base h = tt
-source_named count (tree.whole n) base h = tt
-source_named count (tree.number x) base h = tt
-source_named count (tree.numbers xs) base h = tt
-source_named count (tree.text s) base h = tt
-source_named count (tree.truth b) base h = tt
-source_named count (tree.any d) base h = tt
-source_named count (tree.chosen s) base h = tt
-source_named count tree.invalid base h = tt
-source_named count (tree.index n) base h = below count n base (source_at _ count n base h)
-source_named count (tree.list ts) base h = tt
-source_named count (tree.attributes es) base h = tt
-source_named count (tree.object ts others) base h = tt
+source_named : (may_be_empty : Bool) (count : ℕ) (t : Tree) (base : List Step) → source_faults may_be_empty count t base ≡ [] → NamesImage may_be_empty count t
+source_named may_be_empty count (tree.index n) base h = source_at may_be_empty _ count n base refl h
+source_named may_be_empty count absent base h = inr tt
+source_named may_be_empty count (tree.whole n) base h = inr tt
+source_named may_be_empty count (tree.number x) base h = inr tt
+source_named may_be_empty count (tree.numbers xs) base h = inr tt
+source_named may_be_empty count (tree.text s) base h = inr tt
+source_named may_be_empty count (tree.truth b) base h = inr tt
+source_named may_be_empty count (tree.any d) base h = inr tt
+source_named may_be_empty count (tree.chosen s) base h = inr tt
+source_named may_be_empty count tree.invalid base h = inr tt
+source_named may_be_empty count (tree.list ts) base h = inr tt
+source_named may_be_empty count (tree.attributes es) base h = inr tt
+source_named may_be_empty count (tree.object ts others) base h = inr tt
 
 choice_listed : (t : Tree) (base : List Step) → choice_faults t base ≡ [] → IsListed t
 choice_listed absent base h = tt
@@ -111,31 +114,31 @@ items_closed f P each i (with_tree t ts) base h = (
 
 mutual
   -- the law, at every kind and place
-  pub clean_is_closed : (kind : Kind) (t root animation : Tree) (base : List Step) → reports kind t root animation base ≡ [] → IsClosed kind t root animation
-  clean_is_closed (IndexInto named) t root animation base h = index_named (count_in named root) t base h
-  clean_is_closed SourceImage t root animation base h = source_named (count_in ListName.images root) t base h
-  clean_is_closed ChannelSampler t root animation base h = index_named (sampler_count animation) t base h
-  clean_is_closed U32 t root animation base h = tt
-  clean_is_closed U64 t root animation base h = tt
-  clean_is_closed Stride t root animation base h = tt
-  clean_is_closed Number t root animation base h = tt
-  clean_is_closed (Numbers n) t root animation base h = tt
-  clean_is_closed Text t root animation base h = tt
-  clean_is_closed Truth t root animation base h = tt
-  clean_is_closed Any t root animation base h = tt
-  clean_is_closed (Choice form listed) t root animation base h = choice_listed t base h
-  clean_is_closed (Attributes named) t root animation base h = entries_closed (count_in named root) (entries_in t) base h
-  clean_is_closed (ListOf kind) t root animation base h =
-      items_closed (λ x. reports kind x root animation) (λ x. IsClosed kind x root animation) (λ x at e. clean_is_closed kind x root animation at e) 0 (items_in t) base h
-  clean_is_closed (Object named rows keeps) t root animation base h =
-      members_closed (members_in t) rows root (animation_below named t animation) base
-      (first_none (member_reports (members_in t) rows root (animation_below named t animation) base) (object_faults t named root base) h)
+  pub clean_is_closed : (kind : Kind) (t : Tree) (context : Context) (animation : Tree) (base : List Step) → reports kind t context animation base ≡ [] → IsClosed kind t context animation
+  clean_is_closed (IndexInto named) t context animation base h = index_named (count_in named context.root) t base h
+  clean_is_closed SourceImage t context animation base h = source_named context.rules.empty_texture (count_in ListName.images context.root) t base h
+  clean_is_closed ChannelSampler t context animation base h = index_named (sampler_count animation) t base h
+  clean_is_closed U32 t context animation base h = tt
+  clean_is_closed U64 t context animation base h = tt
+  clean_is_closed Stride t context animation base h = tt
+  clean_is_closed Number t context animation base h = tt
+  clean_is_closed (Numbers n) t context animation base h = tt
+  clean_is_closed Text t context animation base h = tt
+  clean_is_closed Truth t context animation base h = tt
+  clean_is_closed Any t context animation base h = tt
+  clean_is_closed (Choice form listed) t context animation base h = choice_listed t base h
+  clean_is_closed (Attributes named) t context animation base h = entries_closed (count_in named context.root) (entries_in t) base h
+  clean_is_closed (ListOf kind) t context animation base h =
+      items_closed (λ x. reports kind x context animation) (λ x. IsClosed kind x context animation) (λ x at e. clean_is_closed kind x context animation at e) 0 (items_in t) base h
+  clean_is_closed (Object named rows keeps) t context animation base h =
+      members_closed (members_in t) rows context (animation_below named t animation) base
+      (first_none (member_reports (members_in t) rows context (animation_below named t animation) base) (object_faults t named context base) h)
 
-  members_closed : (ts : Trees) (rows : Rows) (root animation : Tree) (base : List Step) → member_reports ts rows root animation base ≡ [] → MembersClosed ts rows root animation
-  members_closed end rows root animation base h = tt
-  members_closed (with_tree t ts) no_rows root animation base h = tt
-  members_closed (with_tree t ts) (row n mark kind rows) root animation base h =
+  members_closed : (ts : Trees) (rows : Rows) (context : Context) (animation : Tree) (base : List Step) → member_reports ts rows context animation base ≡ [] → MembersClosed ts rows context animation
+  members_closed end rows context animation base h = tt
+  members_closed (with_tree t ts) no_rows context animation base h = tt
+  members_closed (with_tree t ts) (row n mark kind rows) context animation base h =
       let at = base ++ field n ∷ [] in (
-        clean_is_closed kind t root animation at (first_none (reports kind t root animation at) (member_reports ts rows root animation base) h),
-        members_closed ts rows root animation base (second_none (reports kind t root animation at) (member_reports ts rows root animation base) h),
+        clean_is_closed kind t context animation at (first_none (reports kind t context animation at) (member_reports ts rows context animation base) h),
+        members_closed ts rows context animation base (second_none (reports kind t context animation at) (member_reports ts rows context animation base) h),
       )

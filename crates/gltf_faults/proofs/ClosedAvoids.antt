@@ -1,5 +1,5 @@
 -- In a closed document no index is the number behind the end of a list.
-use Rattle.std.proofs.Common.{◌≡◌, ◌≢◌, ◌<◌, ℕ, List, [], ◌∷◌, Bool, true, false, ◌&&◌, refl, subst, arith}
+use Rattle.std.proofs.Common.{◌≡◌, ◌≢◌, ◌<◌, ℕ, List, [], ◌∷◌, Bool, true, false, ◌&&◌, inl, inr, refl, subst, arith}
 use Rattle.std.proofs.lemmas.Bool.{and_parts}
 use Rattle.gltf_checked.specs.Keys.{Key}
 use Rattle.gltf_paths.specs.Lists.{ListName}
@@ -21,7 +21,8 @@ use Rattle.gltf_animations.specs.AnimationTable.{animation_sampler_rows, animati
 use Rattle.gltf_root.specs.Lists.{count_in}
 use Rattle.gltf_root.specs.RootExtensionTable.{lights_rows, variants_rows, root_extension_rows}
 use Rattle.gltf_root.specs.RootTable.{root_rows, root_kind}
-use Rattle.gltf_faults.specs.Closed.{NamesItem, EntriesClosed, EachTree, IsClosed, MembersClosed}
+use Rattle.gltf_faults.specs.Context.{Context}
+use Rattle.gltf_faults.specs.Closed.{NamesItem, NamesImage, EntriesClosed, EachTree, IsClosed, MembersClosed}
 use Rattle.gltf_faults.specs.Naming.{IndexAvoids, SourceAvoids, EntriesAvoid, RuleAvoids, Avoids, MembersAvoid}
 use Rattle.gltf_faults.specs.Reports.{animation_below}
 
@@ -61,47 +62,52 @@ each_turned : (P Q : Tree → Type 0) → ((t : Tree) → P t → Q t) → (ts :
 each_turned P Q turned end h = tt
 each_turned P Q turned (with_tree t ts) h = (turned t h.0, each_turned P Q turned ts h.1)
 
-module _ (named : ListName) (root : Tree) where
-  number_apart : (other : ListName) (n : ℕ) → n < count_in other root → other ≡ named → n ≢ count_in named root
+same_number : (m n : ℕ) → tree.index m ≡ tree.index n → m ≡ n
+same_number m n e = cc
+
+module _ (named : ListName) (context : Context) where
+  number_apart : (other : ListName) (n : ℕ) → n < count_in other context.root → other ≡ named → n ≢ count_in named context.root
   number_apart other n below is =
-      let within : n < count_in named root = subst (λ l. n < count_in l root) is below in
+      let within : n < count_in named context.root = subst (λ l. n < count_in l context.root) is below in
       λ e. omega (arith, within, e)
 
-  index_apart : (other : ListName) (t : Tree) → NamesItem (count_in other root) t → other ≡ named → IndexAvoids (count_in named root) t
+  index_apart : (other : ListName) (t : Tree) → NamesItem (count_in other context.root) t → other ≡ named → IndexAvoids (count_in named context.root) t
   index_apart other (tree.index n) h is = number_apart other n h is
   index_apart other t h is = tt
 
-  source_apart : (t : Tree) → NamesItem (count_in ListName.images root) t → ListName.images ≡ named → SourceAvoids (count_in named root) t
-  source_apart (tree.index n) h is = λ image. number_apart ListName.images n h is
-  source_apart t h is = tt
+  source_apart : (may_be_empty : Bool) (t : Tree) → NamesImage may_be_empty (count_in ListName.images context.root) t → ListName.images ≡ named
+      → SourceAvoids (count_in named context.root) t
+  source_apart may_be_empty (tree.index n) (inl h) is = λ image. absurd (image (same_number n 4294967295 h.1))
+  source_apart may_be_empty (tree.index n) (inr h) is = λ image. number_apart ListName.images n h is
+  source_apart may_be_empty t h is = tt
 
-  entries_apart : (other : ListName) (es : List (Key × ℕ)) → EntriesClosed (count_in other root) es → other ≡ named → EntriesAvoid (count_in named root) es
+  entries_apart : (other : ListName) (es : List (Key × ℕ)) → EntriesClosed (count_in other context.root) es → other ≡ named → EntriesAvoid (count_in named context.root) es
   entries_apart other [] h is = tt
   entries_apart other (e ∷ es) h is = (number_apart other e.1 h.1 is, entries_apart other es h.2 is)
 
-  attributes_apart : (rows : Rows) (ts : Trees) → has_attributes rows ≡ true → MembersAvoid named (count_in named root) ts rows → RuleAvoids named (count_in named root) ObjectName.primitive ts
+  attributes_apart : (rows : Rows) (ts : Trees) → has_attributes rows ≡ true → MembersAvoid named (count_in named context.root) ts rows → RuleAvoids named (count_in named context.root) ObjectName.primitive ts
   attributes_apart rows end has h = λ is. tt
   attributes_apart (row name mark (Attributes ListName.accessors) rows) (with_tree t ts) has h = h.0
   attributes_apart rows (with_tree t ts) has h = absurd cc
 
-  rule_apart : (of : ObjectName) (rows : Rows) (ts : Trees) → rule_listed of rows ≡ true → MembersAvoid named (count_in named root) ts rows → RuleAvoids named (count_in named root) of ts
+  rule_apart : (of : ObjectName) (rows : Rows) (ts : Trees) → rule_listed of rows ≡ true → MembersAvoid named (count_in named context.root) ts rows → RuleAvoids named (count_in named context.root) of ts
   rule_apart ObjectName.primitive rows ts has h = attributes_apart rows ts has h
   rule_apart of rows ts has h = tt
 
   mutual
-    pub closed_avoids : (kind : Kind) (t animation : Tree) → is_listed kind ≡ true → IsClosed kind t root animation → Avoids named (count_in named root) kind t
+    pub closed_avoids : (kind : Kind) (t animation : Tree) → is_listed kind ≡ true → IsClosed kind t context animation → Avoids named (count_in named context.root) kind t
     closed_avoids (IndexInto other) t animation listed h = index_apart other t h
-    closed_avoids SourceImage t animation listed h = source_apart t h
+    closed_avoids SourceImage t animation listed h = source_apart context.rules.empty_texture t h
     closed_avoids (Attributes other) t animation listed h = entries_apart other (entries_in t) h
     closed_avoids (ListOf kind) t animation listed h =
-        each_turned (λ x. IsClosed kind x root animation) (λ x. Avoids named (count_in named root) kind x) (λ x closed. closed_avoids kind x animation listed closed) (items_in t) h
+        each_turned (λ x. IsClosed kind x context animation) (λ x. Avoids named (count_in named context.root) kind x) (λ x closed. closed_avoids kind x animation listed closed) (items_in t) h
     closed_avoids (Object of rows keeps) t animation listed h =
         let parts = and_parts (rule_listed of rows) (are_listed rows) listed in
         let members = members_avoid rows (members_in t) (animation_below of t animation) parts.1 h in
         (rule_apart of rows (members_in t) parts.0 members, members)
     closed_avoids kind t animation listed h = tt
 
-    members_avoid : (rows : Rows) (ts : Trees) (animation : Tree) → are_listed rows ≡ true → MembersClosed ts rows root animation → MembersAvoid named (count_in named root) ts rows
+    members_avoid : (rows : Rows) (ts : Trees) (animation : Tree) → are_listed rows ≡ true → MembersClosed ts rows context animation → MembersAvoid named (count_in named context.root) ts rows
     members_avoid rows end animation listed h = tt
     members_avoid no_rows (with_tree t ts) animation listed h = tt
     members_avoid (row name mark kind rows) (with_tree t ts) animation listed h =

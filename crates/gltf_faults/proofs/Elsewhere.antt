@@ -24,7 +24,8 @@ use Rattle.gltf_root.specs.declared.extensions.root.Root.{Root as RootExtensions
 use Rattle.gltf_root.specs.declared.extensions.root.KhrLightsPunctual.{KhrLightsPunctual}
 use Rattle.gltf_root.specs.declared.extensions.root.KhrMaterialsVariants.{KhrMaterialsVariants}
 use Rattle.gltf_sinks.specs.Report.{From, Report}
-use Rattle.gltf_faults.specs.Reports.{items_reports, reports, member_reports, reports_of}
+use Rattle.gltf_faults.specs.Context.{Context}
+use Rattle.gltf_faults.specs.Reports.{items_reports, reports, member_reports}
 use Rattle.gltf_faults.specs.RowNames.{name_at}
 use Rattle.gltf_faults.specs.Rules.{root_rule}
 use Rattle.gltf_faults.proofs.Inserting.{kind_at}
@@ -75,28 +76,28 @@ unnamed_but n f no_rows = true
 unnamed_but zero f (row name mark kind rows) = unnamed f rows
 unnamed_but (suc n) f (row name mark kind rows) = not (bytes_eq name f) && unnamed_but n f rows
 
-module _ (root above : Tree) (base : List Step) (f : List ℕ) (more : List Step) where
-  row_elsewhere : (name : List ℕ) (kind : Kind) (t : Tree) → not (bytes_eq name f) ≡ true → AllElsewhere (base ++ field f ∷ more) (reports kind t root above (base ++ field name ∷ []))
+module _ (context : Context) (above : Tree) (base : List Step) (f : List ℕ) (more : List Step) where
+  row_elsewhere : (name : List ℕ) (kind : Kind) (t : Tree) → not (bytes_eq name f) ≡ true → AllElsewhere (base ++ field f ∷ more) (reports kind t context above (base ++ field name ∷ []))
   row_elsewhere name kind t other =
-      apart base (field name) (field f) more (other_field (bytes_eq name f) name f refl other) (reports kind t root above (base ++ field name ∷ [])) (reports_below kind t root above (base ++ field name ∷ []))
+      apart base (field name) (field f) more (other_field (bytes_eq name f) name f refl other) (reports kind t context above (base ++ field name ∷ [])) (reports_below kind t context above (base ++ field name ∷ []))
 
-  rows_elsewhere : (ts : Trees) (rows : Rows) → unnamed f rows ≡ true → AllElsewhere (base ++ field f ∷ more) (member_reports ts rows root above base)
+  rows_elsewhere : (ts : Trees) (rows : Rows) → unnamed f rows ≡ true → AllElsewhere (base ++ field f ∷ more) (member_reports ts rows context above base)
   rows_elsewhere end rows off = none_elsewhere _
   rows_elsewhere (with_tree t ts) no_rows off = none_elsewhere _
   rows_elsewhere (with_tree t ts) (row name mark kind rows) off =
       let parts = and_parts (not (bytes_eq name f)) (unnamed f rows) off in
-      both_elsewhere _ (reports kind t root above (base ++ field name ∷ [])) (member_reports ts rows root above base) (row_elsewhere name kind t parts.0) (rows_elsewhere ts rows parts.1)
+      both_elsewhere _ (reports kind t context above (base ++ field name ∷ [])) (member_reports ts rows context above base) (row_elsewhere name kind t parts.0) (rows_elsewhere ts rows parts.1)
 
   members_elsewhere : (n : ℕ) (ts : Trees) (rows : Rows) → unnamed_but n f rows ≡ true
-      → AllElsewhere (base ++ field f ∷ more) (reports (kind_at n rows) (tree_at n ts) root above (base ++ field (name_at n rows) ∷ []))
-      → AllElsewhere (base ++ field f ∷ more) (member_reports ts rows root above base)
+      → AllElsewhere (base ++ field f ∷ more) (reports (kind_at n rows) (tree_at n ts) context above (base ++ field (name_at n rows) ∷ []))
+      → AllElsewhere (base ++ field f ∷ more) (member_reports ts rows context above base)
   members_elsewhere n end rows off h = none_elsewhere _
   members_elsewhere n (with_tree t ts) no_rows off h = none_elsewhere _
   members_elsewhere zero (with_tree t ts) (row name mark kind rows) off h =
-      both_elsewhere _ (reports kind t root above (base ++ field name ∷ [])) (member_reports ts rows root above base) h (rows_elsewhere ts rows off)
+      both_elsewhere _ (reports kind t context above (base ++ field name ∷ [])) (member_reports ts rows context above base) h (rows_elsewhere ts rows off)
   members_elsewhere (suc n) (with_tree t ts) (row name mark kind rows) off h =
       let parts = and_parts (not (bytes_eq name f)) (unnamed_but n f rows) off in
-      both_elsewhere _ (reports kind t root above (base ++ field name ∷ [])) (member_reports ts rows root above base) (row_elsewhere name kind t parts.0) (members_elsewhere n ts rows parts.1 h)
+      both_elsewhere _ (reports kind t context above (base ++ field name ∷ [])) (member_reports ts rows context above base) (row_elsewhere name kind t parts.0) (members_elsewhere n ts rows parts.1 h)
 
 -- ---- the items of a list
 
@@ -108,8 +109,8 @@ items_elsewhere f each i (with_tree t ts) base n past =
     (apart base (item i) (item n) [] (λ e. let same = same_item i n e in omega (arith, past, same)) (f t (base ++ item i ∷ [])) (each t (base ++ item i ∷ [])))
     (items_elsewhere f each (suc i) ts base n (omega (arith, past)))
 
-list_elsewhere : (kind : Kind) (ts : Trees) (root above : Tree) (base : List Step) → AllElsewhere (base ++ item (count_of ts) ∷ []) (reports (ListOf kind) (tree.list ts) root above base)
-list_elsewhere kind ts root above base = items_elsewhere (λ t. reports kind t root above) (λ t at. reports_below kind t root above at) 0 ts base (count_of ts) (omega arith)
+list_elsewhere : (kind : Kind) (ts : Trees) (context : Context) (above : Tree) (base : List Step) → AllElsewhere (base ++ item (count_of ts) ∷ []) (reports (ListOf kind) (tree.list ts) context above base)
+list_elsewhere kind ts context above base = items_elsewhere (λ t. reports kind t context above) (λ t at. reports_below kind t context above at) 0 ts base (count_of ts) (omega arith)
 
 -- ---- the lists in the extensions
 
@@ -123,50 +124,50 @@ abbrev in_extensions : List Step
 in_extensions = field (codes "extensions") ∷ []
 
 -- a list that is all of an extension object
-one_elsewhere : (name : List ℕ) (kind : Kind) (ts : Trees) (root : Tree) (base : List Step)
-    → AllElsewhere ((base ++ field name ∷ []) ++ item (count_of ts) ∷ []) (member_reports (with_tree (tree.list ts) end) (row name required (ListOf kind) no_rows) root absent base ++ [])
-one_elsewhere name kind ts root base =
+one_elsewhere : (name : List ℕ) (kind : Kind) (ts : Trees) (context : Context) (base : List Step)
+    → AllElsewhere ((base ++ field name ∷ []) ++ item (count_of ts) ∷ []) (member_reports (with_tree (tree.list ts) end) (row name required (ListOf kind) no_rows) context absent base ++ [])
+one_elsewhere name kind ts context base =
     let at = base ++ field name ∷ [] in
     let path = at ++ item (count_of ts) ∷ [] in
-    let rs = reports (ListOf kind) (tree.list ts) root absent at in
-    both_elsewhere path (rs ++ []) [] (both_elsewhere path rs [] (list_elsewhere kind ts root absent at) (none_elsewhere path)) (none_elsewhere path)
+    let rs = reports (ListOf kind) (tree.list ts) context absent at in
+    both_elsewhere path (rs ++ []) [] (both_elsewhere path rs [] (list_elsewhere kind ts context absent at) (none_elsewhere path)) (none_elsewhere path)
 
-lights_inside : (root : Tree) (found : Option KhrLightsPunctual)
+lights_inside : (context : Context) (found : Option KhrLightsPunctual)
     → AllElsewhere (item_place ListName.lights (count_of (list_at 0 (tree_or_absent (λ v. closed_object (lights_members v)) found))))
-    (reports lights_kind (tree_or_absent (λ v. closed_object (lights_members v)) found) root absent in_lights)
+    (reports lights_kind (tree_or_absent (λ v. closed_object (lights_members v)) found) context absent in_lights)
 unfolding lights_members lights_rows
-lights_inside root None = none_elsewhere (item_place ListName.lights 0)
-lights_inside root (Some v) = one_elsewhere (codes "lights") light_kind (list_at 0 (closed_object (lights_members v))) root in_lights
+lights_inside context None = none_elsewhere (item_place ListName.lights 0)
+lights_inside context (Some v) = one_elsewhere (codes "lights") light_kind (list_at 0 (closed_object (lights_members v))) context in_lights
 
-variants_inside : (root : Tree) (found : Option KhrMaterialsVariants)
+variants_inside : (context : Context) (found : Option KhrMaterialsVariants)
     → AllElsewhere (item_place ListName.variants (count_of (list_at 0 (tree_or_absent (λ v. closed_object (variants_members v)) found))))
-    (reports variants_kind (tree_or_absent (λ v. closed_object (variants_members v)) found) root absent in_variants)
+    (reports variants_kind (tree_or_absent (λ v. closed_object (variants_members v)) found) context absent in_variants)
 unfolding variants_members variants_rows
-variants_inside root None = none_elsewhere (item_place ListName.variants 0)
-variants_inside root (Some v) = one_elsewhere (codes "variants") variant_kind (list_at 0 (closed_object (variants_members v))) root in_variants
+variants_inside context None = none_elsewhere (item_place ListName.variants 0)
+variants_inside context (Some v) = one_elsewhere (codes "variants") variant_kind (list_at 0 (closed_object (variants_members v))) context in_variants
 
-lights_elsewhere : (root : Tree) (found : Option RootExtensions)
+lights_elsewhere : (context : Context) (found : Option RootExtensions)
     → AllElsewhere (item_place ListName.lights (count_of (list_at 0 (tree_at 0 (members_in (tree_or_absent root_extensions found))))))
-    (reports root_extensions_kind (tree_or_absent root_extensions found) root absent in_extensions)
+    (reports root_extensions_kind (tree_or_absent root_extensions found) context absent in_extensions)
 unfolding root_extension_members root_extension_rows
-lights_elsewhere root None = none_elsewhere (item_place ListName.lights 0)
-lights_elsewhere root (Some e) =
+lights_elsewhere context None = none_elsewhere (item_place ListName.lights 0)
+lights_elsewhere context (Some e) =
     let n = count_of (list_at 0 (tree_at 0 (root_extension_members e))) in
     let path = item_place ListName.lights n in
-    both_elsewhere path (member_reports (root_extension_members e) root_extension_rows root absent in_extensions) []
-    (members_elsewhere root absent in_extensions (codes "KHR_lights_punctual") (field (codes "lights") ∷ item n ∷ []) 0 (root_extension_members e) root_extension_rows refl (lights_inside root e.khr_lights_punctual))
+    both_elsewhere path (member_reports (root_extension_members e) root_extension_rows context absent in_extensions) []
+    (members_elsewhere context absent in_extensions (codes "KHR_lights_punctual") (field (codes "lights") ∷ item n ∷ []) 0 (root_extension_members e) root_extension_rows refl (lights_inside context e.khr_lights_punctual))
     (none_elsewhere path)
 
-variants_elsewhere : (root : Tree) (found : Option RootExtensions)
+variants_elsewhere : (context : Context) (found : Option RootExtensions)
     → AllElsewhere (item_place ListName.variants (count_of (list_at 0 (tree_at 1 (members_in (tree_or_absent root_extensions found))))))
-    (reports root_extensions_kind (tree_or_absent root_extensions found) root absent in_extensions)
+    (reports root_extensions_kind (tree_or_absent root_extensions found) context absent in_extensions)
 unfolding root_extension_members root_extension_rows
-variants_elsewhere root None = none_elsewhere (item_place ListName.variants 0)
-variants_elsewhere root (Some e) =
+variants_elsewhere context None = none_elsewhere (item_place ListName.variants 0)
+variants_elsewhere context (Some e) =
     let n = count_of (list_at 0 (tree_at 1 (root_extension_members e))) in
     let path = item_place ListName.variants n in
-    both_elsewhere path (member_reports (root_extension_members e) root_extension_rows root absent in_extensions) []
-    (members_elsewhere root absent in_extensions (codes "KHR_materials_variants") (field (codes "variants") ∷ item n ∷ []) 1 (root_extension_members e) root_extension_rows refl (variants_inside root e.khr_materials_variants))
+    both_elsewhere path (member_reports (root_extension_members e) root_extension_rows context absent in_extensions) []
+    (members_elsewhere context absent in_extensions (codes "KHR_materials_variants") (field (codes "variants") ∷ item n ∷ []) 1 (root_extension_members e) root_extension_rows refl (variants_inside context e.khr_materials_variants))
     (none_elsewhere path)
 
 -- ---- any list of a document
@@ -187,12 +188,12 @@ unfolding root_rows
 only_row ListName.lights = refl
 only_row named = refl
 
-own_elsewhere : (named : ListName) (r : Root) (root : Tree) → AllElsewhere (item_place named (count_in named (root_tree r)))
-    (reports (kind_at (row_of named) root_rows) (tree_at (row_of named) (root_members r)) root absent (field (name_at (row_of named) root_rows) ∷ []))
+own_elsewhere : (named : ListName) (r : Root) (context : Context) → AllElsewhere (item_place named (count_in named (root_tree r)))
+    (reports (kind_at (row_of named) root_rows) (tree_at (row_of named) (root_members r)) context absent (field (name_at (row_of named) root_rows) ∷ []))
 unfolding root_members root_rows
-own_elsewhere ListName.lights r root = lights_elsewhere root r.extensions
-own_elsewhere ListName.variants r root = variants_elsewhere root r.extensions
-own_elsewhere named r root = list_elsewhere (item_kind named) (list_in named (root_tree r)) root absent (list_steps named)
+own_elsewhere ListName.lights r context = lights_elsewhere context r.extensions
+own_elsewhere ListName.variants r context = variants_elsewhere context r.extensions
+own_elsewhere named r context = list_elsewhere (item_kind named) (list_in named (root_tree r)) context absent (list_steps named)
 
 -- what a document requires is no list of items
 not_required : (named : ListName) → not (bytes_eq (codes "extensionsRequired") (name_at (row_of named) root_rows)) ≡ true
@@ -201,15 +202,15 @@ not_required ListName.lights = refl
 not_required named = refl
 
 -- the law: nothing stands where the next item of a list will
-pub root_elsewhere : (named : ListName) (r : Root) (root : Tree) → AllElsewhere (item_place named (count_in named (root_tree r))) (reports_of root_kind (root_tree r) root [])
-root_elsewhere named r root =
+pub root_elsewhere : (named : ListName) (r : Root) (context : Context) → AllElsewhere (item_place named (count_in named (root_tree r))) (reports root_kind (root_tree r) context absent [])
+root_elsewhere named r context =
     let n = row_of named in
     let f = name_at n root_rows in
     let ms = root_members r in
     let more = further_steps named (count_in named (root_tree r)) in
     let split = place_split named (count_in named (root_tree r)) in
-    subst (λ path. AllElsewhere path (reports_of root_kind (root_tree r) root [])) split
-    (both_elsewhere (field f ∷ more) (member_reports ms root_rows root absent []) (root_rule ms [])
-    (members_elsewhere root absent [] f more n ms root_rows (only_row named)
-    (subst (λ path. AllElsewhere path (reports (kind_at n root_rows) (tree_at n ms) root absent (field f ∷ []))) (sym split) (own_elsewhere named r root)))
-    (apart [] (field (codes "extensionsRequired")) (field f) more (other_field _ (codes "extensionsRequired") f refl (not_required named)) (root_rule ms []) (required_below ms [])))
+    subst (λ path. AllElsewhere path (reports root_kind (root_tree r) context absent [])) split
+    (both_elsewhere (field f ∷ more) (member_reports ms root_rows context absent []) (root_rule context.rules.enabled ms [])
+    (members_elsewhere context absent [] f more n ms root_rows (only_row named)
+    (subst (λ path. AllElsewhere path (reports (kind_at n root_rows) (tree_at n ms) context absent (field f ∷ []))) (sym split) (own_elsewhere named r context)))
+    (apart [] (field (codes "extensionsRequired")) (field f) more (other_field _ (codes "extensionsRequired") f refl (not_required named)) (root_rule context.rules.enabled ms []) (required_below context.rules.enabled ms [])))

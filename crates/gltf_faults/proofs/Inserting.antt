@@ -8,6 +8,7 @@ use Rattle.gltf_schema.specs.Kind.{Kind, Any, ListOf, Rows, no_rows, row}
 use Rattle.gltf_root.specs.Pushed.{with_last}
 use Rattle.gltf_root.specs.RootTrees.{put_at}
 use Rattle.gltf_sinks.specs.Report.{From, Report}
+use Rattle.gltf_faults.specs.Context.{Context}
 use Rattle.gltf_faults.specs.Inserted.{IsInserted}
 use Rattle.gltf_faults.specs.Reports.{items_reports, reports, member_reports}
 use Rattle.gltf_faults.specs.RowNames.{name_at}
@@ -42,10 +43,10 @@ items_more f i end x base n e = let same : n ≡ i = omega (arith, e) in rw same
 items_more f i (with_tree t ts) x base n e =
     ap (λ rs. f t (base ++ item i ∷ []) ++ rs) (items_more f (suc i) ts x base n (omega (arith, e))) ∙ sym (append_assoc (f t (base ++ item i ∷ [])) (items_reports f (suc i) ts base) _)
 
-pub list_inserted : (kind : Kind) (ts : Trees) (x root above : Tree) (base : List Step)
-    → IsInserted (reports (ListOf kind) (tree.list ts) root above base) (reports kind x root above (base ++ item (count_of ts) ∷ [])) (reports (ListOf kind) (tree.list (with_last x ts)) root above base)
-list_inserted kind ts x root above base =
-    let f : Tree → From = λ t. reports kind t root above in
+pub list_inserted : (kind : Kind) (ts : Trees) (x : Tree) (context : Context) (above : Tree) (base : List Step)
+    → IsInserted (reports (ListOf kind) (tree.list ts) context above base) (reports kind x context above (base ++ item (count_of ts) ∷ [])) (reports (ListOf kind) (tree.list (with_last x ts)) context above base)
+list_inserted kind ts x context above base =
+    let f : Tree → From = λ t. reports kind t context above in
     subst (λ rs. IsInserted (items_reports f 0 ts base) (f x (base ++ item (count_of ts) ∷ [])) rs) (sym (items_more f 0 ts x base (count_of ts) (omega arith)))
     (at_end (items_reports f 0 ts base) (f x (base ++ item (count_of ts) ∷ [])))
 
@@ -63,11 +64,11 @@ are_at n (with_tree t ts) no_rows = false
 are_at zero (with_tree t ts) (row name mark kind rows) = true
 are_at (suc n) (with_tree t ts) (row name mark kind rows) = are_at n ts rows
 
-pub member_inserted : (n : ℕ) (ts : Trees) (rows : Rows) (t root above : Tree) (base : List Step) (new : List Report) → are_at n ts rows ≡ true
-    → IsInserted (reports (kind_at n rows) (tree_at n ts) root above (base ++ field (name_at n rows) ∷ [])) new (reports (kind_at n rows) t root above (base ++ field (name_at n rows) ∷ []))
-    → IsInserted (member_reports ts rows root above base) new (member_reports (put_at n t ts) rows root above base)
-member_inserted n end rows t root above base new there h = absurd cc
-member_inserted n (with_tree u ts) no_rows t root above base new there h = absurd cc
-member_inserted zero (with_tree u ts) (row name mark kind rows) t root above base new there h = ahead (member_reports ts rows root above base) h
-member_inserted (suc n) (with_tree u ts) (row name mark kind rows) t root above base new there h =
-    behind (reports kind u root above (base ++ field name ∷ [])) (member_inserted n ts rows t root above base new there h)
+pub member_inserted : (n : ℕ) (ts : Trees) (rows : Rows) (t : Tree) (context : Context) (above : Tree) (base : List Step) (new : List Report) → are_at n ts rows ≡ true
+    → IsInserted (reports (kind_at n rows) (tree_at n ts) context above (base ++ field (name_at n rows) ∷ [])) new (reports (kind_at n rows) t context above (base ++ field (name_at n rows) ∷ []))
+    → IsInserted (member_reports ts rows context above base) new (member_reports (put_at n t ts) rows context above base)
+member_inserted n end rows t context above base new there h = absurd cc
+member_inserted n (with_tree u ts) no_rows t context above base new there h = absurd cc
+member_inserted zero (with_tree u ts) (row name mark kind rows) t context above base new there h = ahead (member_reports ts rows context above base) h
+member_inserted (suc n) (with_tree u ts) (row name mark kind rows) t context above base new there h =
+    behind (reports kind u context above (base ++ field name ∷ [])) (member_inserted n ts rows t context above base new there h)

@@ -10,6 +10,6 @@ pub mod PushesOnto
 pub mod Standing
 pub mod Elsewhere
 pub mod Parting
-pub mod Names
 pub mod Primitives
 pub mod DefaultsWritten
+pub mod Enabled

@@ -1,5 +1,5 @@
 -- An item more at the end of a list changes nothing for what names it nowhere.
-use Rattle.std.proofs.Common.{◌≡◌, ◌≢◌, ◌<◌, ◌≤◌, ◌⊎◌, inl, inr, ℕ, zero, suc, List, [], ◌∷◌, ◌++◌, Bool, true, false, cond, nat_lt, nat_eq, Some, refl, ◌∙◌, ap, arith}
+use Rattle.std.proofs.Common.{◌≡◌, ◌≢◌, ◌<◌, ◌≤◌, ◌⊎◌, inl, inr, ℕ, zero, suc, List, [], ◌∷◌, ◌++◌, Bool, true, false, cond, not, nat_lt, nat_eq, Some, refl, ◌∙◌, ap, arith}
 use Rattle.std.proofs.lemmas.Bool.{cases_lt, lt-ltb, le-ltb, eqb-false}
 use Rattle.std.specs.Map.{lookup}
 use Rattle.gltf_checked.specs.Keys.{Key, key_text}
@@ -11,9 +11,10 @@ use Rattle.gltf_schema.specs.Tree.{Tree, absent, Trees, end, with_tree, tree_at,
 use Rattle.gltf_schema.specs.Kind.{Kind, IndexInto, SourceImage, Attributes, ListOf, Object, ObjectName, Rows, no_rows, row}
 use Rattle.gltf_root.specs.Lists.{list_in, count_in}
 use Rattle.gltf_root.specs.Pushed.{with_last}
-use Rattle.gltf_sinks.specs.Report.{From, Report, report}
+use Rattle.gltf_sinks.specs.Report.{From, Report}
 use Rattle.gltf_faults.specs.Closed.{EachTree}
-use Rattle.gltf_faults.specs.Faults.{number_faults, index_faults, source_faults, key_faults, entries_faults}
+use Rattle.gltf_faults.specs.Context.{Rules, under}
+use Rattle.gltf_faults.specs.Faults.{report_if, number_faults, index_faults, source_faults, key_faults, entries_faults}
 use Rattle.gltf_faults.specs.Naming.{IndexAvoids, SourceAvoids, EntriesAvoid, RuleAvoids, Avoids, MembersAvoid}
 use Rattle.gltf_faults.specs.Reports.{animation_below, items_reports, reports, member_reports}
 use Rattle.gltf_faults.specs.Rules.{is_positions, bounds_faults, positions_faults, primitive_attributes, rule, object_faults}
@@ -35,10 +36,10 @@ below_next : (n count : ℕ) → n ≢ count → (n < count) ⊎ (count ≤ n) �
 below_next n count off (inl l) = rw (lt-ltb n count l, lt-ltb n (suc count) (omega (arith, l))) refl
 below_next n count off (inr l) = rw (le-ltb n count l, le-ltb n (suc count) (omega (arith, l, off))) refl
 
-no_source : (b : Bool) (n : ℕ) (base : List Step) (old new : List Report) → nat_eq n 4294967295 ≡ b → (n ≢ 4294967295 → new ≡ old)
-    → cond b (report base Missing ∷ []) new ≡ cond b (report base Missing ∷ []) old
-no_source true n base old new is off = refl
-no_source false n base old new is off = off (eqb-false _ _ is)
+no_source : (is_none : Bool) (n : ℕ) (missing old new : List Report) → nat_eq n 4294967295 ≡ is_none → (n ≢ 4294967295 → new ≡ old)
+    → cond is_none missing new ≡ cond is_none missing old
+no_source true n missing old new is off = refl
+no_source false n missing old new is off = off (eqb-false _ _ is)
 
 items_same : (f g : Tree → From) (P : Tree → Type 0) → ((t : Tree) (base : List Step) → P t → f t base ≡ g t base)
     → (i : ℕ) (ts : Trees) (base : List Step) → EachTree P ts → items_reports f i ts base ≡ items_reports g i ts base
@@ -47,7 +48,7 @@ items_same f g P each i (with_tree t ts) base h = joined (each t (base ++ item i
 
 -- ---- two documents of which one has an item more at the end of a list
 
-module _ (named : ListName) (x old new : Tree) (grown : Grows named x old new) where
+module _ (rules : Rules) (named : ListName) (x old new : Tree) (grown : Grows named x old new) where
   -- a list, seen from a number that isn't that of the item
   number_told : (other : ListName) (n : ℕ) (base : List Step) → (other ≡ named → n ≢ count_in named old)
       → GrowsAt other named x old new
@@ -68,9 +69,9 @@ module _ (named : ListName) (x old new : Tree) (grown : Grows named x old new) w
   index_same other t base off = refl
 
   source_same : (t : Tree) (base : List Step) → (ListName.images ≡ named → SourceAvoids (count_in named old) t)
-      → source_faults (count_in ListName.images new) t base ≡ source_faults (count_in ListName.images old) t base
+      → source_faults rules.empty_texture (count_in ListName.images new) t base ≡ source_faults rules.empty_texture (count_in ListName.images old) t base
   source_same (tree.index n) base off =
-      no_source _ n base (number_faults (count_in ListName.images old) n base) (number_faults (count_in ListName.images new) n base) refl
+      no_source _ n (report_if (not rules.empty_texture) Missing base) (number_faults (count_in ListName.images old) n base) (number_faults (count_in ListName.images new) n base) refl
       (λ image. number_same ListName.images n base (λ e. off e image))
   source_same t base off = refl
 
@@ -103,12 +104,12 @@ module _ (named : ListName) (x old new : Tree) (grown : Grows named x old new) w
   positions_same [] base off = refl
   positions_same (e ∷ es) base off = positions_told (is_positions e.0) e es base off (positions_same es base (λ is. (off is).1))
 
-  rule_same : (of : ObjectName) (ts : Trees) (base : List Step) → RuleAvoids named (count_in named old) of ts → rule of ts new base ≡ rule of ts old base
+  rule_same : (of : ObjectName) (ts : Trees) (base : List Step) → RuleAvoids named (count_in named old) of ts → rule of ts (under rules new) base ≡ rule of ts (under rules old) base
   rule_same ObjectName.primitive ts base off = positions_same (entries_in (primitive_attributes ts)) _ off
   rule_same of ts base off = refl
 
   object_same : (of : ObjectName) (t : Tree) (base : List Step) → RuleAvoids named (count_in named old) of (members_in t)
-      → object_faults t of new base ≡ object_faults t of old base
+      → object_faults t of (under rules new) base ≡ object_faults t of (under rules old) base
   object_same of (tree.object ts others) base off = rule_same of ts base off
   object_same of t base off = refl
 
@@ -116,19 +117,19 @@ module _ (named : ListName) (x old new : Tree) (grown : Grows named x old new) w
 
   mutual
     -- the law, at every kind and place
-    pub reports_same : (kind : Kind) (t above : Tree) (base : List Step) → Avoids named (count_in named old) kind t → reports kind t new above base ≡ reports kind t old above base
+    pub reports_same : (kind : Kind) (t above : Tree) (base : List Step) → Avoids named (count_in named old) kind t → reports kind t (under rules new) above base ≡ reports kind t (under rules old) above base
     reports_same (IndexInto other) t above base off = index_same other t base off
     reports_same SourceImage t above base off = source_same t base off
     reports_same (Attributes other) t above base off = entries_same other (entries_in t) base off
     reports_same (ListOf kind) t above base off =
-        items_same (λ y. reports kind y new above) (λ y. reports kind y old above) (λ y. Avoids named (count_in named old) kind y)
+        items_same (λ y. reports kind y (under rules new) above) (λ y. reports kind y (under rules old) above) (λ y. Avoids named (count_in named old) kind y)
         (λ y at h. reports_same kind y above at h) 0 (items_in t) base off
     reports_same (Object of rows keeps) t above base off =
         joined (members_same (members_in t) rows (animation_below of t above) base off.1) (object_same of t base off.0)
     reports_same kind t above base off = refl
 
     members_same : (ts : Trees) (rows : Rows) (above : Tree) (base : List Step) → MembersAvoid named (count_in named old) ts rows
-        → member_reports ts rows new above base ≡ member_reports ts rows old above base
+        → member_reports ts rows (under rules new) above base ≡ member_reports ts rows (under rules old) above base
     members_same end rows above base off = refl
     members_same (with_tree t ts) no_rows above base off = refl
     members_same (with_tree t ts) (row name mark kind rows) above base off = joined (reports_same kind t above (base ++ field name ∷ []) off.0) (members_same ts rows above base off.1)

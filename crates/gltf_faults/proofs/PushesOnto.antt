@@ -18,9 +18,10 @@ use Rattle.gltf_root.specs.declared.root.Root.{Root}
 use Rattle.gltf_root.specs.declared.extensions.root.Root.{Root as RootExtensions}
 use Rattle.gltf_root.specs.declared.extensions.root.KhrLightsPunctual.{KhrLightsPunctual}
 use Rattle.gltf_root.specs.declared.extensions.root.KhrMaterialsVariants.{KhrMaterialsVariants}
+use Rattle.gltf_faults.specs.Context.{Rules, Context, under}
 use Rattle.gltf_faults.specs.Inserted.{IsInserted}
 use Rattle.gltf_faults.specs.Naming.{Avoids}
-use Rattle.gltf_faults.specs.Reports.{reports, member_reports, reports_of}
+use Rattle.gltf_faults.specs.Reports.{reports, member_reports, reports_by_rules}
 use Rattle.gltf_faults.specs.RowNames.{name_at}
 use Rattle.gltf_faults.specs.Rules.{root_rule}
 use Rattle.gltf_faults.proofs.Growing.{with_extension_item, with_extended_item, grows}
@@ -32,67 +33,67 @@ use Rattle.gltf_faults.proofs.Inserting.{ahead, list_inserted, kind_at, are_at, 
 -- ---- the lists in the extensions
 
 -- a list that is all of an extension object
-one_inserted : (name : List ℕ) (kind : Kind) (ts : Trees) (x root : Tree) (base : List Step)
-    → IsInserted (member_reports (with_tree (tree.list ts) end) (row name required (ListOf kind) no_rows) root absent base ++ [])
-    (reports kind x root absent ((base ++ field name ∷ []) ++ item (count_of ts) ∷ []))
-    (member_reports (with_tree (tree.list (with_last x ts)) end) (row name required (ListOf kind) no_rows) root absent base ++ [])
-one_inserted name kind ts x root base = ahead [] (ahead [] (list_inserted kind ts x root absent (base ++ field name ∷ [])))
+one_inserted : (name : List ℕ) (kind : Kind) (ts : Trees) (x : Tree) (context : Context) (base : List Step)
+    → IsInserted (member_reports (with_tree (tree.list ts) end) (row name required (ListOf kind) no_rows) context absent base ++ [])
+    (reports kind x context absent ((base ++ field name ∷ []) ++ item (count_of ts) ∷ []))
+    (member_reports (with_tree (tree.list (with_last x ts)) end) (row name required (ListOf kind) no_rows) context absent base ++ [])
+one_inserted name kind ts x context base = ahead [] (ahead [] (list_inserted kind ts x context absent (base ++ field name ∷ [])))
 
-lights_inserted : (x root : Tree) (base : List Step) (found : Option KhrLightsPunctual)
-    → IsInserted (reports lights_kind (tree_or_absent (λ v. closed_object (lights_members v)) found) root absent base)
-    (reports light_kind x root absent ((base ++ field (codes "lights") ∷ []) ++ item (count_of (list_at 0 (tree_or_absent (λ v. closed_object (lights_members v)) found))) ∷ []))
-    (reports lights_kind (with_extension_item x (tree_or_absent (λ v. closed_object (lights_members v)) found)) root absent base)
+lights_inserted : (x : Tree) (context : Context) (base : List Step) (found : Option KhrLightsPunctual)
+    → IsInserted (reports lights_kind (tree_or_absent (λ v. closed_object (lights_members v)) found) context absent base)
+    (reports light_kind x context absent ((base ++ field (codes "lights") ∷ []) ++ item (count_of (list_at 0 (tree_or_absent (λ v. closed_object (lights_members v)) found))) ∷ []))
+    (reports lights_kind (with_extension_item x (tree_or_absent (λ v. closed_object (lights_members v)) found)) context absent base)
 unfolding lights_members lights_rows
-lights_inserted x root base None = one_inserted (codes "lights") light_kind end x root base
-lights_inserted x root base (Some v) = one_inserted (codes "lights") light_kind (list_at 0 (closed_object (lights_members v))) x root base
+lights_inserted x context base None = one_inserted (codes "lights") light_kind end x context base
+lights_inserted x context base (Some v) = one_inserted (codes "lights") light_kind (list_at 0 (closed_object (lights_members v))) x context base
 
-variants_inserted : (x root : Tree) (base : List Step) (found : Option KhrMaterialsVariants)
-    → IsInserted (reports variants_kind (tree_or_absent (λ v. closed_object (variants_members v)) found) root absent base)
-    (reports variant_kind x root absent ((base ++ field (codes "variants") ∷ []) ++ item (count_of (list_at 0 (tree_or_absent (λ v. closed_object (variants_members v)) found))) ∷ []))
-    (reports variants_kind (with_extension_item x (tree_or_absent (λ v. closed_object (variants_members v)) found)) root absent base)
+variants_inserted : (x : Tree) (context : Context) (base : List Step) (found : Option KhrMaterialsVariants)
+    → IsInserted (reports variants_kind (tree_or_absent (λ v. closed_object (variants_members v)) found) context absent base)
+    (reports variant_kind x context absent ((base ++ field (codes "variants") ∷ []) ++ item (count_of (list_at 0 (tree_or_absent (λ v. closed_object (variants_members v)) found))) ∷ []))
+    (reports variants_kind (with_extension_item x (tree_or_absent (λ v. closed_object (variants_members v)) found)) context absent base)
 unfolding variants_members variants_rows
-variants_inserted x root base None = one_inserted (codes "variants") variant_kind end x root base
-variants_inserted x root base (Some v) = one_inserted (codes "variants") variant_kind (list_at 0 (closed_object (variants_members v))) x root base
+variants_inserted x context base None = one_inserted (codes "variants") variant_kind end x context base
+variants_inserted x context base (Some v) = one_inserted (codes "variants") variant_kind (list_at 0 (closed_object (variants_members v))) x context base
 
-lights_pushed : (x root : Tree) (found : Option RootExtensions)
-    → IsInserted (reports root_extensions_kind (tree_or_absent root_extensions found) root absent (field (codes "extensions") ∷ []))
-    (reports light_kind x root absent (item_place ListName.lights (count_of (list_at 0 (tree_at 0 (members_in (tree_or_absent root_extensions found)))))))
-    (reports root_extensions_kind (with_extended_item 0 x (tree_or_absent root_extensions found)) root absent (field (codes "extensions") ∷ []))
+lights_pushed : (x : Tree) (context : Context) (found : Option RootExtensions)
+    → IsInserted (reports root_extensions_kind (tree_or_absent root_extensions found) context absent (field (codes "extensions") ∷ []))
+    (reports light_kind x context absent (item_place ListName.lights (count_of (list_at 0 (tree_at 0 (members_in (tree_or_absent root_extensions found)))))))
+    (reports root_extensions_kind (with_extended_item 0 x (tree_or_absent root_extensions found)) context absent (field (codes "extensions") ∷ []))
 unfolding root_extension_members root_extension_rows
-lights_pushed x root None =
-    ahead [] (member_inserted 0 (members_in made_extensions) root_extension_rows (with_extension_item x absent) root absent (field (codes "extensions") ∷ []) _ refl
-    (lights_inserted x root (field (codes "extensions") ∷ field (codes "KHR_lights_punctual") ∷ []) None))
-lights_pushed x root (Some e) =
-    ahead [] (member_inserted 0 (root_extension_members e) root_extension_rows (with_extension_item x (tree_at 0 (root_extension_members e))) root absent (field (codes "extensions") ∷ []) _ refl
-    (lights_inserted x root (field (codes "extensions") ∷ field (codes "KHR_lights_punctual") ∷ []) e.khr_lights_punctual))
+lights_pushed x context None =
+    ahead [] (member_inserted 0 (members_in made_extensions) root_extension_rows (with_extension_item x absent) context absent (field (codes "extensions") ∷ []) _ refl
+    (lights_inserted x context (field (codes "extensions") ∷ field (codes "KHR_lights_punctual") ∷ []) None))
+lights_pushed x context (Some e) =
+    ahead [] (member_inserted 0 (root_extension_members e) root_extension_rows (with_extension_item x (tree_at 0 (root_extension_members e))) context absent (field (codes "extensions") ∷ []) _ refl
+    (lights_inserted x context (field (codes "extensions") ∷ field (codes "KHR_lights_punctual") ∷ []) e.khr_lights_punctual))
 
-variants_pushed : (x root : Tree) (found : Option RootExtensions)
-    → IsInserted (reports root_extensions_kind (tree_or_absent root_extensions found) root absent (field (codes "extensions") ∷ []))
-    (reports variant_kind x root absent (item_place ListName.variants (count_of (list_at 0 (tree_at 1 (members_in (tree_or_absent root_extensions found)))))))
-    (reports root_extensions_kind (with_extended_item 1 x (tree_or_absent root_extensions found)) root absent (field (codes "extensions") ∷ []))
+variants_pushed : (x : Tree) (context : Context) (found : Option RootExtensions)
+    → IsInserted (reports root_extensions_kind (tree_or_absent root_extensions found) context absent (field (codes "extensions") ∷ []))
+    (reports variant_kind x context absent (item_place ListName.variants (count_of (list_at 0 (tree_at 1 (members_in (tree_or_absent root_extensions found)))))))
+    (reports root_extensions_kind (with_extended_item 1 x (tree_or_absent root_extensions found)) context absent (field (codes "extensions") ∷ []))
 unfolding root_extension_members root_extension_rows
-variants_pushed x root None =
-    ahead [] (member_inserted 1 (members_in made_extensions) root_extension_rows (with_extension_item x absent) root absent (field (codes "extensions") ∷ []) _ refl
-    (variants_inserted x root (field (codes "extensions") ∷ field (codes "KHR_materials_variants") ∷ []) None))
-variants_pushed x root (Some e) =
-    ahead [] (member_inserted 1 (root_extension_members e) root_extension_rows (with_extension_item x (tree_at 1 (root_extension_members e))) root absent (field (codes "extensions") ∷ []) _ refl
-    (variants_inserted x root (field (codes "extensions") ∷ field (codes "KHR_materials_variants") ∷ []) e.khr_materials_variants))
+variants_pushed x context None =
+    ahead [] (member_inserted 1 (members_in made_extensions) root_extension_rows (with_extension_item x absent) context absent (field (codes "extensions") ∷ []) _ refl
+    (variants_inserted x context (field (codes "extensions") ∷ field (codes "KHR_materials_variants") ∷ []) None))
+variants_pushed x context (Some e) =
+    ahead [] (member_inserted 1 (root_extension_members e) root_extension_rows (with_extension_item x (tree_at 1 (root_extension_members e))) context absent (field (codes "extensions") ∷ []) _ refl
+    (variants_inserted x context (field (codes "extensions") ∷ field (codes "KHR_materials_variants") ∷ []) e.khr_materials_variants))
 
 -- ---- any list of a document
 
 -- the reports of a member of a document, as it was or is now, against a document
-abbrev MemberInserted : ListName → Tree → Root → Tree → Type 0
-MemberInserted named x r root =
+abbrev MemberInserted : ListName → Tree → Root → Context → Type 0
+MemberInserted named x r context =
     let n = row_of named in
     let t = tree_at n (root_members r) in
     let base = field (name_at n root_rows) ∷ [] in
-    IsInserted (reports (kind_at n root_rows) t root absent base) (reports (item_kind named) x root absent (item_place named (count_in named (root_tree r)))) (reports (kind_at n root_rows) (row_listed named (with_last x (list_in named (root_tree r))) t) root absent base)
+    IsInserted (reports (kind_at n root_rows) t context absent base) (reports (item_kind named) x context absent (item_place named (count_in named (root_tree r)))) (reports (kind_at n root_rows) (row_listed named (with_last x (list_in named (root_tree r))) t) context absent base)
 
-in_row : (named : ListName) (x : Tree) (r : Root) (root : Tree) → MemberInserted named x r root
+in_row : (named : ListName) (x : Tree) (r : Root) (context : Context) → MemberInserted named x r context
 unfolding root_members root_rows
-in_row ListName.lights x r root = lights_pushed x root r.extensions
-in_row ListName.variants x r root = variants_pushed x root r.extensions
-in_row named x r root = list_inserted (item_kind named) (list_in named (root_tree r)) x root absent (list_steps named)
+in_row ListName.lights x r context = lights_pushed x context r.extensions
+in_row ListName.variants x r context = variants_pushed x context r.extensions
+in_row named x r context = list_inserted (item_kind named) (list_in named (root_tree r)) x context absent (list_steps named)
 
 row_there : (named : ListName) (r : Root) → are_at (row_of named) (root_members r) root_rows ≡ true
 unfolding root_members root_rows
@@ -100,31 +101,37 @@ row_there ListName.accessors r = refl
 row_there named r = refl
 
 -- the rule of documents looks at no list of items
-rule_kept : (named : ListName) (x : Tree) (r : Root) (base : List Step) → root_rule (put_at (row_of named) x (root_members r)) base ≡ root_rule (root_members r) base
+rule_kept : (enabled : List (List ℕ)) (named : ListName) (x : Tree) (r : Root) (base : List Step)
+    → root_rule enabled (put_at (row_of named) x (root_members r)) base ≡ root_rule enabled (root_members r) base
 unfolding root_members
-rule_kept ListName.accessors x r base = refl
-rule_kept named x r base = refl
+rule_kept enabled ListName.accessors x r base = refl
+rule_kept enabled named x r base = refl
 
 -- the reports of a document with one more item, against any document
-pub root_inserted : (named : ListName) (x : Tree) (r : Root) (root : Tree)
-    → IsInserted (reports_of root_kind (root_tree r) root []) (reports_of (item_kind named) x root (item_place named (count_in named (root_tree r)))) (reports_of root_kind (pushed named x (root_tree r)) root [])
-root_inserted named x r root =
+pub root_inserted : (named : ListName) (x : Tree) (r : Root) (context : Context)
+    → IsInserted (reports root_kind (root_tree r) context absent []) (reports (item_kind named) x context absent (item_place named (count_in named (root_tree r))))
+    (reports root_kind (pushed named x (root_tree r)) context absent [])
+root_inserted named x r context =
     let n = row_of named in
     let ms = root_members r in
     let t = row_listed named (with_last x (list_in named (root_tree r))) (tree_at n ms) in
-    let new = reports_of (item_kind named) x root (item_place named (count_in named (root_tree r))) in
-    subst (λ rs. IsInserted (member_reports ms root_rows root absent [] ++ root_rule ms []) new (member_reports (put_at n t ms) root_rows root absent [] ++ rs)) (sym (rule_kept named t r []))
-    (ahead (root_rule ms []) (member_inserted n ms root_rows t root absent [] new (row_there named r) (in_row named x r root)))
+    let new = reports (item_kind named) x context absent (item_place named (count_in named (root_tree r))) in
+    let rule = root_rule context.rules.enabled in
+    subst (λ rs. IsInserted (member_reports ms root_rows context absent [] ++ rule ms []) new (member_reports (put_at n t ms) root_rows context absent [] ++ rs))
+    (sym (rule_kept context.rules.enabled named t r []))
+    (ahead (rule ms []) (member_inserted n ms root_rows t context absent [] new (row_there named r) (in_row named x r context)))
 
 -- and against itself, where no index names the item before it is there
-pub inserted : (named : ListName) (x : Tree) (r : Root) → Avoids named (count_in named (root_tree r)) root_kind (root_tree r)
-    → IsInserted (reports_of root_kind (root_tree r) (root_tree r) []) (reports_of (item_kind named) x (pushed named x (root_tree r)) (item_place named (count_in named (root_tree r))))
-    (reports_of root_kind (pushed named x (root_tree r)) (pushed named x (root_tree r)) [])
-inserted named x r off =
+pub inserted : (rules : Rules) (named : ListName) (x : Tree) (r : Root) → Avoids named (count_in named (root_tree r)) root_kind (root_tree r)
+    → IsInserted (reports_by_rules rules root_kind (root_tree r) (root_tree r) [])
+    (reports_by_rules rules (item_kind named) x (pushed named x (root_tree r)) (item_place named (count_in named (root_tree r))))
+    (reports_by_rules rules root_kind (pushed named x (root_tree r)) (pushed named x (root_tree r)) [])
+inserted rules named x r off =
     let old = root_tree r in
     let new = pushed named x old in
-    let at = reports_of (item_kind named) x new (item_place named (count_in named old)) in
-    subst (λ rs. IsInserted rs at (reports_of root_kind new new [])) (reports_same named x old new (grows named x r) root_kind old absent [] off) (root_inserted named x r new)
+    let at = reports_by_rules rules (item_kind named) x new (item_place named (count_in named old)) in
+    subst (λ rs. IsInserted rs at (reports_by_rules rules root_kind new new [])) (reports_same rules named x old new (grows named x r) root_kind old absent [] off)
+    (root_inserted named x r (under rules new))
 
 -- ---- onto a document without reports
 
@@ -133,9 +140,10 @@ alone {A} {old} {new} {whole} none h =
     let nothing = sym h.was ∙ none in
     h.now ∙ ap (λ zs. zs ++ (new ++ h.after)) (first_none h.before h.after nothing) ∙ ap (λ zs. new ++ zs) (second_none h.before h.after nothing) ∙ append-nil new
 
-pub onto_clean : (named : ListName) (x : Tree) (r : Root) → reports_of root_kind (root_tree r) (root_tree r) [] ≡ []
-    → reports_of root_kind (pushed named x (root_tree r)) (pushed named x (root_tree r)) []
-    ≡ reports_of (item_kind named) x (pushed named x (root_tree r)) (item_place named (count_in named (root_tree r)))
-onto_clean named x r clean =
+pub onto_clean : (rules : Rules) (named : ListName) (x : Tree) (r : Root) → reports_by_rules rules root_kind (root_tree r) (root_tree r) [] ≡ []
+    → reports_by_rules rules root_kind (pushed named x (root_tree r)) (pushed named x (root_tree r)) []
+    ≡ reports_by_rules rules (item_kind named) x (pushed named x (root_tree r)) (item_place named (count_in named (root_tree r)))
+onto_clean rules named x r clean =
     let old = root_tree r in
-    alone clean (inserted named x r (closed_avoids named old root_kind old absent root_listed (clean_is_closed root_kind old old absent [] clean)))
+    let context = under rules old in
+    alone clean (inserted rules named x r (closed_avoids named context root_kind old absent root_listed (clean_is_closed root_kind old context absent [] clean)))

@@ -1,5 +1,5 @@
 -- What is wrong in a tree stands at or below the place that the tree is seen from.
-use Rattle.std.proofs.Common.{◌≡◌, ℕ, suc, List, [], ◌∷◌, ◌++◌, Bool, true, false, cond, codes, Option, Some, None, refl, sym, ◌∙◌, append_assoc}
+use Rattle.std.proofs.Common.{◌≡◌, ℕ, suc, List, [], ◌∷◌, ◌++◌, Bool, true, false, cond, not, codes, Option, Some, None, refl, sym, ◌∙◌, append_assoc}
 use Rattle.std.proofs.lemmas.List.{append-nil}
 use Rattle.std.proofs.lemmas.List.Elements.{All-nil, All-cons, All-append}
 use Rattle.std.specs.List.{All}
@@ -15,9 +15,10 @@ use Rattle.gltf_schema.specs.Tree.{Tree, Trees, end, with_tree, items_in, member
 use Rattle.gltf_schema.specs.Kind.{Kind, IndexInto, SourceImage, ChannelSampler, Stride, Choice, Attributes, ListOf, Object, ObjectName, Rows, no_rows, row}
 use Rattle.gltf_root.specs.Lists.{count_in, sampler_count}
 use Rattle.gltf_sinks.specs.Report.{From, Report, report}
+use Rattle.gltf_faults.specs.Context.{Context}
 use Rattle.gltf_faults.specs.Faults.{report_if, number_faults, index_faults, source_faults, stride_faults, choice_faults, key_faults, entries_faults}
 use Rattle.gltf_faults.specs.Reports.{animation_below, items_reports, reports, member_reports}
-use Rattle.gltf_faults.specs.Rules.{is_positions, accessor_min, accessor_max, root_extensions_required, primitive_attributes, bound_faults, bounds_faults, positions_faults, extension_faults, extensions_faults, rule, object_faults}
+use Rattle.gltf_faults.specs.Rules.{is_positions, accessor_min, accessor_max, root_extensions_required, primitive_attributes, bound_faults, bounds_faults, positions_faults, extension_faults, extensions_faults, root_rule, rule, object_faults}
 
 -- at a place or below it
 abbrev pub StandsBelow : List Step → Report → Type 0
@@ -55,13 +56,14 @@ index_below : (count : ℕ) (t : Tree) (base : List Step) → AllBelow base (ind
 index_below count (tree.index n) base = if_here _ _ base
 index_below count t base = none_below base
 
-source_at : (b : Bool) (count n : ℕ) (base : List Step) → AllBelow base (cond b (report base Missing ∷ []) (number_faults count n base))
-source_at true count n base = here_below Missing base
-source_at false count n base = if_here _ _ base
+source_at : (may_be_empty is_none : Bool) (count n : ℕ) (base : List Step)
+    → AllBelow base (cond is_none (report_if (not may_be_empty) Missing base) (number_faults count n base))
+source_at may_be_empty true count n base = if_here _ _ base
+source_at may_be_empty false count n base = if_here _ _ base
 
-source_below : (count : ℕ) (t : Tree) (base : List Step) → AllBelow base (source_faults count t base)
-source_below count (tree.index n) base = source_at _ count n base
-source_below count t base = none_below base
+source_below : (may_be_empty : Bool) (count : ℕ) (t : Tree) (base : List Step) → AllBelow base (source_faults may_be_empty count t base)
+source_below may_be_empty count (tree.index n) base = source_at may_be_empty _ count n base
+source_below may_be_empty count t base = none_below base
 
 stride_below : (t : Tree) (base : List Step) → AllBelow base (stride_faults t base)
 stride_below (tree.whole n) base = if_here _ _ base
@@ -103,34 +105,34 @@ positions_below : (found : Option ℕ) (root : Tree) (base : List Step) → AllB
 positions_below None root base = here_below _ base
 positions_below (Some n) root base = bounds_below _ base
 
-extension_below : (t : Tree) (base : List Step) → AllBelow base (extension_faults t base)
-extension_below (tree.text s) base = if_below _ _ base (value s ∷ []) _ refl
-extension_below t base = none_below base
+extension_below : (enabled : List (List ℕ)) (t : Tree) (base : List Step) → AllBelow base (extension_faults enabled t base)
+extension_below enabled (tree.text s) base = if_below _ _ base (value s ∷ []) _ refl
+extension_below enabled t base = none_below base
 
-extensions_below : (i : ℕ) (ts : Trees) (base : List Step) → AllBelow base (extensions_faults i ts base)
-extensions_below i end base = none_below base
-extensions_below i (with_tree t ts) base =
-    both_below base (extension_faults t (base ++ item i ∷ [])) (extensions_faults (suc i) ts base) (further_below base (item i ∷ []) _ (extension_below t (base ++ item i ∷ [])))
-    (extensions_below (suc i) ts base)
+extensions_below : (enabled : List (List ℕ)) (i : ℕ) (ts : Trees) (base : List Step) → AllBelow base (extensions_faults enabled i ts base)
+extensions_below enabled i end base = none_below base
+extensions_below enabled i (with_tree t ts) base =
+    both_below base (extension_faults enabled t (base ++ item i ∷ [])) (extensions_faults enabled (suc i) ts base)
+    (further_below base (item i ∷ []) _ (extension_below enabled t (base ++ item i ∷ []))) (extensions_below enabled (suc i) ts base)
 
 -- what a document requires stands below its member of that
-pub required_below : (ts : Trees) (base : List Step) → AllBelow (base ++ field (codes "extensionsRequired") ∷ []) (rule ObjectName.root ts tree.absent base)
-required_below ts base = extensions_below 0 (items_in (root_extensions_required ts)) (base ++ field (codes "extensionsRequired") ∷ [])
+pub required_below : (enabled : List (List ℕ)) (ts : Trees) (base : List Step) → AllBelow (base ++ field (codes "extensionsRequired") ∷ []) (root_rule enabled ts base)
+required_below enabled ts base = extensions_below enabled 0 (items_in (root_extensions_required ts)) (base ++ field (codes "extensionsRequired") ∷ [])
 
-rule_below : (of : ObjectName) (ts : Trees) (root : Tree) (base : List Step) → AllBelow base (rule of ts root base)
-rule_below ObjectName.accessor ts root base = if_below _ _ base (field (codes "bufferView") ∷ []) _ refl
-rule_below ObjectName.camera ts root base = if_here _ _ base
-rule_below ObjectName.light ts root base = if_below _ _ base (field (codes "spot") ∷ []) _ refl
-rule_below ObjectName.primitive ts root base =
+rule_below : (of : ObjectName) (ts : Trees) (context : Context) (base : List Step) → AllBelow base (rule of ts context base)
+rule_below ObjectName.accessor ts context base = if_below _ _ base (field (codes "bufferView") ∷ []) _ refl
+rule_below ObjectName.camera ts context base = if_here _ _ base
+rule_below ObjectName.light ts context base = if_below _ _ base (field (codes "spot") ∷ []) _ refl
+rule_below ObjectName.primitive ts context base =
     let attributes = field (codes "attributes") ∷ [] in
     let position = key (codes "POSITION") ∷ [] in
-    further_below base attributes _ (further_below (base ++ attributes) position _ (positions_below (lookup is_positions (entries_in (primitive_attributes ts))) root ((base ++ attributes) ++ position)))
-rule_below ObjectName.root ts root base = further_below base (field (codes "extensionsRequired") ∷ []) _ (required_below ts base)
-rule_below of ts root base = none_below base
+    further_below base attributes _ (further_below (base ++ attributes) position _ (positions_below (lookup is_positions (entries_in (primitive_attributes ts))) context.root ((base ++ attributes) ++ position)))
+rule_below ObjectName.root ts context base = further_below base (field (codes "extensionsRequired") ∷ []) _ (required_below context.rules.enabled ts base)
+rule_below of ts context base = none_below base
 
-object_below : (of : ObjectName) (t root : Tree) (base : List Step) → AllBelow base (object_faults t of root base)
-object_below of (tree.object ts others) root base = rule_below of ts root base
-object_below of t root base = none_below base
+object_below : (of : ObjectName) (t : Tree) (context : Context) (base : List Step) → AllBelow base (object_faults t of context base)
+object_below of (tree.object ts others) context base = rule_below of ts context base
+object_below of t context base = none_below base
 
 -- ---- a whole tree
 
@@ -141,22 +143,22 @@ items_below f each i (with_tree t ts) base =
 
 mutual
   -- the law, at every kind and place
-  pub reports_below : (kind : Kind) (t root above : Tree) (base : List Step) → AllBelow base (reports kind t root above base)
-  reports_below (IndexInto named) t root above base = index_below (count_in named root) t base
-  reports_below SourceImage t root above base = source_below (count_in ListName.images root) t base
-  reports_below ChannelSampler t root above base = index_below (sampler_count above) t base
-  reports_below Stride t root above base = stride_below t base
-  reports_below (Choice form listed) t root above base = choice_below t base
-  reports_below (Attributes named) t root above base = entries_below (count_in named root) (entries_in t) base
-  reports_below (ListOf kind) t root above base = items_below (λ x. reports kind x root above) (λ x at. reports_below kind x root above at) 0 (items_in t) base
-  reports_below (Object of rows keeps) t root above base =
-      both_below base (member_reports (members_in t) rows root (animation_below of t above) base) (object_faults t of root base)
-      (members_below (members_in t) rows root (animation_below of t above) base) (object_below of t root base)
-  reports_below kind t root above base = none_below base
+  pub reports_below : (kind : Kind) (t : Tree) (context : Context) (above : Tree) (base : List Step) → AllBelow base (reports kind t context above base)
+  reports_below (IndexInto named) t context above base = index_below (count_in named context.root) t base
+  reports_below SourceImage t context above base = source_below context.rules.empty_texture (count_in ListName.images context.root) t base
+  reports_below ChannelSampler t context above base = index_below (sampler_count above) t base
+  reports_below Stride t context above base = stride_below t base
+  reports_below (Choice form listed) t context above base = choice_below t base
+  reports_below (Attributes named) t context above base = entries_below (count_in named context.root) (entries_in t) base
+  reports_below (ListOf kind) t context above base = items_below (λ x. reports kind x context above) (λ x at. reports_below kind x context above at) 0 (items_in t) base
+  reports_below (Object of rows keeps) t context above base =
+      both_below base (member_reports (members_in t) rows context (animation_below of t above) base) (object_faults t of context base)
+      (members_below (members_in t) rows context (animation_below of t above) base) (object_below of t context base)
+  reports_below kind t context above base = none_below base
 
-  members_below : (ts : Trees) (rows : Rows) (root above : Tree) (base : List Step) → AllBelow base (member_reports ts rows root above base)
-  members_below end rows root above base = none_below base
-  members_below (with_tree t ts) no_rows root above base = none_below base
-  members_below (with_tree t ts) (row name mark kind rows) root above base =
-      both_below base (reports kind t root above (base ++ field name ∷ [])) (member_reports ts rows root above base)
-      (further_below base (field name ∷ []) _ (reports_below kind t root above (base ++ field name ∷ []))) (members_below ts rows root above base)
+  members_below : (ts : Trees) (rows : Rows) (context : Context) (above : Tree) (base : List Step) → AllBelow base (member_reports ts rows context above base)
+  members_below end rows context above base = none_below base
+  members_below (with_tree t ts) no_rows context above base = none_below base
+  members_below (with_tree t ts) (row name mark kind rows) context above base =
+      both_below base (reports kind t context above (base ++ field name ∷ [])) (member_reports ts rows context above base)
+      (further_below base (field name ∷ []) _ (reports_below kind t context above (base ++ field name ∷ []))) (members_below ts rows context above base)

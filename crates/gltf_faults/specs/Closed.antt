@@ -1,16 +1,21 @@
 -- Documents in which every index names an item and every choice is one that is listed.
-use Rattle.std.specs.Prelude.{ℕ, ◌<◌, List, [], ◌∷◌}
+use Rattle.std.specs.Prelude.{◌≡◌, ◌⊎◌, ℕ, ◌<◌, List, [], ◌∷◌, Bool, true}
 use Rattle.gltf_checked.specs.Keys.{Key, unknown}
 use Rattle.gltf_paths.specs.Lists.{ListName}
 use Rattle.gltf_schema.specs.Tree.{Tree, index, invalid, Trees, end, with_tree, items_in, members_in, entries_in}
 use Rattle.gltf_schema.specs.Kind.{Kind, IndexInto, SourceImage, ChannelSampler, Choice, Attributes, ListOf, Object, Rows, no_rows, row}
 use Rattle.gltf_root.specs.Lists.{count_in, sampler_count}
+use Rattle.gltf_faults.specs.Context.{Context}
 use Rattle.gltf_faults.specs.Reports.{animation_below}
 
 -- an index names one of so many items
 abbrev pub NamesItem : ℕ → Tree → Type 0
 NamesItem count (index n) = n < count
 NamesItem count _ = Unit {0}
+
+-- an index names an image, or it is the number 2^32 - 1, where textures may be empty
+abbrev pub NamesImage : Bool → ℕ → Tree → Type 0
+NamesImage may_be_empty count t = ((may_be_empty ≡ true) × (t ≡ index 4294967295)) ⊎ NamesItem count t
 
 abbrev pub IsListed : Tree → Type 0
 IsListed invalid = ⊥
@@ -31,17 +36,17 @@ EachTree P (with_tree t ts) = P t × EachTree P ts
 abbrev mutual
   -- every index in a tree of a kind resolves in a document, a channel's sampler in its own animation, and every choice and
   -- key is one that is known
-  pub IsClosed : Kind → Tree → Tree → Tree → Type 0
-  IsClosed (IndexInto named) t root animation = NamesItem (count_in named root) t
-  IsClosed SourceImage t root animation = NamesItem (count_in ListName.images root) t
-  IsClosed ChannelSampler t root animation = NamesItem (sampler_count animation) t
-  IsClosed (Choice form listed) t root animation = IsListed t
-  IsClosed (Attributes named) t root animation = EntriesClosed (count_in named root) (entries_in t)
-  IsClosed (ListOf kind) t root animation = EachTree (λ x. IsClosed kind x root animation) (items_in t)
-  IsClosed (Object named rows keeps) t root animation = MembersClosed (members_in t) rows root (animation_below named t animation)
-  IsClosed _ t root animation = Unit {0}
+  pub IsClosed : Kind → Tree → Context → Tree → Type 0
+  IsClosed (IndexInto named) t context animation = NamesItem (count_in named context.root) t
+  IsClosed SourceImage t context animation = NamesImage context.rules.empty_texture (count_in ListName.images context.root) t
+  IsClosed ChannelSampler t context animation = NamesItem (sampler_count animation) t
+  IsClosed (Choice form listed) t context animation = IsListed t
+  IsClosed (Attributes named) t context animation = EntriesClosed (count_in named context.root) (entries_in t)
+  IsClosed (ListOf kind) t context animation = EachTree (λ x. IsClosed kind x context animation) (items_in t)
+  IsClosed (Object named rows keeps) t context animation = MembersClosed (members_in t) rows context (animation_below named t animation)
+  IsClosed _ t context animation = Unit {0}
 
-  pub MembersClosed : Trees → Rows → Tree → Tree → Type 0
-  MembersClosed end rows root animation = Unit {0}
-  MembersClosed (with_tree t ts) no_rows root animation = Unit {0}
-  MembersClosed (with_tree t ts) (row n mark kind rows) root animation = IsClosed kind t root animation × MembersClosed ts rows root animation
+  pub MembersClosed : Trees → Rows → Context → Tree → Type 0
+  MembersClosed end rows context animation = Unit {0}
+  MembersClosed (with_tree t ts) no_rows context animation = Unit {0}
+  MembersClosed (with_tree t ts) (row n mark kind rows) context animation = IsClosed kind t context animation × MembersClosed ts rows context animation

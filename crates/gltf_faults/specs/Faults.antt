@@ -19,10 +19,10 @@ abbrev pub index_faults : ℕ → Tree → From
 index_faults count (index n) base = number_faults count n base
 index_faults count _ base = []
 
--- a texture without an image; the number 2^32 - 1 stands for none
-abbrev pub source_faults : ℕ → Tree → From
-source_faults count (index n) base = cond (nat_eq n 4294967295) (report base Missing ∷ []) (number_faults count n base)
-source_faults count _ base = []
+-- a texture without an image, for which the number 2^32 - 1 stands; where textures may be empty it is no fault
+abbrev pub source_faults : Bool → ℕ → Tree → From
+source_faults may_be_empty count (index n) base = cond (nat_eq n 4294967295) (report_if (not may_be_empty) Missing base) (number_faults count n base)
+source_faults may_be_empty count _ base = []
 
 -- a stride below 4 or above 252 bytes
 abbrev pub stride_faults : Tree → From

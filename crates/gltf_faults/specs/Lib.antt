@@ -1,3 +1,4 @@
+pub mod Context
 pub mod Faults
 pub mod Rules
 pub mod Positions

@@ -10,6 +10,7 @@ use Rattle.gltf_schema.specs.Tree.{Tree, absent, index, chosen, invalid, object,
 use Rattle.gltf_schema.specs.Kind.{Kind, IndexInto, SourceImage, ChannelSampler, Stride, Choice, Attributes, ListOf, Object, Rows, no_rows, row}
 use Rattle.gltf_root.specs.Lists.{count_in, sampler_count}
 use Rattle.gltf_sinks.specs.Report.{Report}
+use Rattle.gltf_faults.specs.Context.{Rules, Context, under}
 use Rattle.gltf_faults.specs.Faults.{index_faults, source_faults, stride_faults, choice_faults}
 use Rattle.gltf_faults.specs.Rules.{object_faults}
 use Rattle.gltf_faults.specs.Reports.{animation_below}
@@ -66,19 +67,19 @@ abbrev mutual
   member_places (with_tree t ts) (row n mark kind rows) animation base =
       places kind t animation (base ++ field n ∷ []) ++ member_places ts rows animation base
 
--- what is wrong at a place, against a document
-abbrev pub kind_faults : Kind → Tree → Tree → Tree → List Step → List Report
-kind_faults (IndexInto named) t root animation base = index_faults (count_in named root) t base
-kind_faults SourceImage t root animation base = source_faults (count_in ListName.images root) t base
-kind_faults ChannelSampler t root animation base = index_faults (sampler_count animation) t base
-kind_faults Stride t root animation base = stride_faults t base
-kind_faults (Choice form listed) t root animation base = choice_faults t base
-kind_faults (Object named rows keeps) t root animation base = object_faults t named root base
-kind_faults _ t root animation base = []
+-- what is wrong at a place, against a document, by rules
+abbrev pub kind_faults : Kind → Tree → Context → Tree → List Step → List Report
+kind_faults (IndexInto named) t context animation base = index_faults (count_in named context.root) t base
+kind_faults SourceImage t context animation base = source_faults context.rules.empty_texture (count_in ListName.images context.root) t base
+kind_faults ChannelSampler t context animation base = index_faults (sampler_count animation) t base
+kind_faults Stride t context animation base = stride_faults t base
+kind_faults (Choice form listed) t context animation base = choice_faults t base
+kind_faults (Object named rows keeps) t context animation base = object_faults t named context base
+kind_faults _ t context animation base = []
 
-abbrev pub faults : Tree → Place → List Report
-faults root p = kind_faults p.kind p.tree root p.animation p.steps
+abbrev pub faults : Context → Place → List Report
+faults context p = kind_faults p.kind p.tree context p.animation p.steps
 
 -- the faults of all places, in order
-abbrev pub reports_by_places : Kind → Tree → Tree → List Step → List Report
-reports_by_places kind t root base = flat_map (faults root) (places kind t absent base)
+abbrev pub reports_by_places : Rules → Kind → Tree → Tree → List Step → List Report
+reports_by_places rules kind t root base = flat_map (faults (under rules root)) (places kind t absent base)

@@ -6,6 +6,7 @@ use Rattle.gltf_schema.specs.Tree.{Tree, absent, Trees, end, with_tree, items_in
 use Rattle.gltf_schema.specs.Kind.{Kind, IndexInto, SourceImage, ChannelSampler, Stride, Choice, Attributes, ListOf, Object, ObjectName, Rows, no_rows, row}
 use Rattle.gltf_root.specs.Lists.{count_in, sampler_count}
 use Rattle.gltf_sinks.specs.Report.{From}
+use Rattle.gltf_faults.specs.Context.{Rules, Context, standard_rules, under}
 use Rattle.gltf_faults.specs.Faults.{index_faults, source_faults, stride_faults, choice_faults, entries_faults}
 use Rattle.gltf_faults.specs.Rules.{object_faults}
 
@@ -20,26 +21,30 @@ items_reports f i end base = []
 items_reports f i (with_tree t ts) base = f t (base ++ item i ∷ []) ++ items_reports f (suc i) ts base
 
 abbrev mutual
-  -- what is wrong in a tree of a kind, against a document, below an animation or none, from a base: an object's members in
-  -- the rows' order and then its rule
-  pub reports : Kind → Tree → Tree → Tree → From
-  reports (IndexInto named) t root animation base = index_faults (count_in named root) t base
-  reports SourceImage t root animation base = source_faults (count_in ListName.images root) t base
-  reports ChannelSampler t root animation base = index_faults (sampler_count animation) t base
-  reports Stride t root animation base = stride_faults t base
-  reports (Choice form listed) t root animation base = choice_faults t base
-  reports (Attributes named) t root animation base = entries_faults (count_in named root) (entries_in t) base
-  reports (ListOf kind) t root animation base = items_reports (λ x. reports kind x root animation) 0 (items_in t) base
-  reports (Object named rows keeps) t root animation base =
-      member_reports (members_in t) rows root (animation_below named t animation) base ++ object_faults t named root base
-  reports _ t root animation base = []
+  -- what is wrong in a tree of a kind, against a document, by rules, below an animation or none, from a base: an object's
+  -- members in the rows' order and then its rule
+  pub reports : Kind → Tree → Context → Tree → From
+  reports (IndexInto named) t context animation base = index_faults (count_in named context.root) t base
+  reports SourceImage t context animation base = source_faults context.rules.empty_texture (count_in ListName.images context.root) t base
+  reports ChannelSampler t context animation base = index_faults (sampler_count animation) t base
+  reports Stride t context animation base = stride_faults t base
+  reports (Choice form listed) t context animation base = choice_faults t base
+  reports (Attributes named) t context animation base = entries_faults (count_in named context.root) (entries_in t) base
+  reports (ListOf kind) t context animation base = items_reports (λ x. reports kind x context animation) 0 (items_in t) base
+  reports (Object named rows keeps) t context animation base =
+      member_reports (members_in t) rows context (animation_below named t animation) base ++ object_faults t named context base
+  reports _ t context animation base = []
 
-  pub member_reports : Trees → Rows → Tree → Tree → From
-  member_reports end rows root animation base = []
-  member_reports (with_tree t ts) no_rows root animation base = []
-  member_reports (with_tree t ts) (row n mark kind rows) root animation base =
-      reports kind t root animation (base ++ field n ∷ []) ++ member_reports ts rows root animation base
+  pub member_reports : Trees → Rows → Context → Tree → From
+  member_reports end rows context animation base = []
+  member_reports (with_tree t ts) no_rows context animation base = []
+  member_reports (with_tree t ts) (row n mark kind rows) context animation base =
+      reports kind t context animation (base ++ field n ∷ []) ++ member_reports ts rows context animation base
 
--- what is wrong in a value by itself, below no animation
+-- what is wrong in a value by itself, below no animation, against a document
+abbrev pub reports_by_rules : Rules → Kind → Tree → Tree → From
+reports_by_rules rules kind t root base = reports kind t (under rules root) absent base
+
+-- by the standard rules
 abbrev pub reports_of : Kind → Tree → Tree → From
-reports_of kind t root base = reports kind t root absent base
+reports_of kind t root base = reports_by_rules standard_rules kind t root base

@@ -1,12 +1,11 @@
 -- What is wrong with an object as a whole.
-use Rattle.std.specs.Prelude.{ℕ, suc, [], ◌∷◌, ◌++◌, Bool, true, false, not, ◌&&◌, Option, Some, None, codes}
+use Rattle.std.specs.Prelude.{ℕ, suc, List, [], ◌∷◌, ◌++◌, Bool, true, false, not, ◌&&◌, Option, Some, None, codes}
 use Rattle.std.specs.List.{list_any}
 use Rattle.std.specs.Map.{lookup}
 use Rattle.std.specs.Str.{bytes_eq}
 use Rattle.serde_json.specs.Data.{Data, array, number, no_items, item as data_item}
 use Rattle.gltf_checked.specs.Keys.{Key, positions}
 use Rattle.gltf_checked.specs.Spelling.{by_name}
-use Rattle.gltf_choices.specs.ExtensionNames.{enabled_extensions}
 use Rattle.gltf_paths.specs.Steps.{field, item, key, value}
 use Rattle.gltf_paths.specs.Lists.{ListName}
 use Rattle.gltf_paths.specs.declared.validation.Error.TheVariants.{Invalid, Missing, Unsupported}
@@ -14,6 +13,7 @@ use Rattle.gltf_schema.specs.Tree.{Tree, absent, any, text, chosen, object, Tree
 use Rattle.gltf_schema.specs.Kind.{ObjectName}
 use Rattle.gltf_root.specs.Lists.{list_in}
 use Rattle.gltf_sinks.specs.Report.{From, report}
+use Rattle.gltf_faults.specs.Context.{Context}
 use Rattle.gltf_faults.specs.Faults.{report_if}
 
 -- ---- the members that the rules speak of, by their rows in the table
@@ -97,28 +97,28 @@ positions_faults (Some n) root base = bounds_faults (tree_at n (list_in ListName
 abbrev pub primitive_rule : Trees → Tree → From
 primitive_rule ts root base = positions_faults (lookup is_positions (entries_in (primitive_attributes ts))) root ((base ++ field (codes "attributes") ∷ []) ++ key (codes "POSITION") ∷ [])
 
-abbrev pub extension_faults : Tree → From
-extension_faults (text s) base = report_if (not (list_any (λ e. bytes_eq e s) enabled_extensions)) Unsupported (base ++ value s ∷ [])
-extension_faults _ base = []
+abbrev pub extension_faults : List (List ℕ) → Tree → From
+extension_faults enabled (text s) base = report_if (not (list_any (λ e. bytes_eq e s) enabled)) Unsupported (base ++ value s ∷ [])
+extension_faults enabled _ base = []
 
-abbrev pub extensions_faults : ℕ → Trees → From
-extensions_faults i end base = []
-extensions_faults i (with_tree t ts) base = extension_faults t (base ++ item i ∷ []) ++ extensions_faults (suc i) ts base
+abbrev pub extensions_faults : List (List ℕ) → ℕ → Trees → From
+extensions_faults enabled i end base = []
+extensions_faults enabled i (with_tree t ts) base = extension_faults enabled t (base ++ item i ∷ []) ++ extensions_faults enabled (suc i) ts base
 
 -- a document requires only extensions that are enabled
-abbrev pub root_rule : Trees → From
-root_rule ts base = extensions_faults 0 (items_in (root_extensions_required ts)) (base ++ field (codes "extensionsRequired") ∷ [])
+abbrev pub root_rule : List (List ℕ) → Trees → From
+root_rule enabled ts base = extensions_faults enabled 0 (items_in (root_extensions_required ts)) (base ++ field (codes "extensionsRequired") ∷ [])
 
--- the rule of an object's members against a document; most objects have none
-abbrev pub rule : ObjectName → Trees → Tree → From
-rule ObjectName.accessor ts root base = accessor_rule ts base
-rule ObjectName.camera ts root base = camera_rule ts base
-rule ObjectName.light ts root base = light_rule ts base
-rule ObjectName.primitive ts root base = primitive_rule ts root base
-rule ObjectName.root ts root base = root_rule ts base
-rule _ ts root base = []
+-- the rule of an object's members; most objects have none
+abbrev pub rule : ObjectName → Trees → Context → From
+rule ObjectName.accessor ts context base = accessor_rule ts base
+rule ObjectName.camera ts context base = camera_rule ts base
+rule ObjectName.light ts context base = light_rule ts base
+rule ObjectName.primitive ts context base = primitive_rule ts context.root base
+rule ObjectName.root ts context base = root_rule context.rules.enabled ts base
+rule _ ts context base = []
 
 -- an object's rule, where there is an object
-abbrev pub object_faults : Tree → ObjectName → Tree → From
-object_faults (object ts others) named root base = rule named ts root base
-object_faults _ named root base = []
+abbrev pub object_faults : Tree → ObjectName → Context → From
+object_faults (object ts others) named context base = rule named ts context base
+object_faults _ named context base = []

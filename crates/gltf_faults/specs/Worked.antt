@@ -1,10 +1,10 @@
 -- Documents worked by hand, to test the definitions by.
-use Rattle.std.specs.Prelude.{ℕ, List, [], ◌∷◌, codes, Option, option_map, option_and_then}
+use Rattle.std.specs.Prelude.{ℕ, Bool, List, [], ◌∷◌, codes, Option, option_map, option_and_then}
 use Rattle.serde_json.specs.Data.{Data, number, unsigned, string, array, object, no_items, item as data_item, Members, no_members, member}
 use Rattle.gltf_paths.specs.Lists.{ListName}
 use Rattle.gltf_paths.specs.Steps.{Step, field, item, key}
 use Rattle.gltf_sinks.specs.Report.{Report}
-use Rattle.gltf_faults.specs.Reports.{reports_of}
+use Rattle.gltf_faults.specs.Reports.{reports_by_rules, reports_of}
 use Rattle.gltf_root.specs.Pushed.{item_kind, pushed}
 use Rattle.gltf_root.specs.RootTable.{root_kind}
 use Rattle.gltf_schema.specs.Read.{read}
@@ -14,6 +14,11 @@ use Rattle.gltf_schema.specs.Write.{write}
 -- what is wrong in the document that a JSON value is, if it is one
 abbrev pub reports_in : Data → Option (List Report)
 reports_in d = option_map (λ t. reports_of root_kind t t []) (read root_kind d)
+
+-- and what is wrong in it by rules: whether textures may be empty, and what may be required
+abbrev pub reports_ruled : Bool → List (List ℕ) → Data → Option (List Report)
+reports_ruled may_be_empty enabled d =
+    option_map (λ t. reports_by_rules (record { empty_texture = may_be_empty; enabled = enabled }) root_kind t t []) (read root_kind d)
 
 -- what the document that a JSON value is is written as
 abbrev pub written_of : Data → Option Data
@@ -89,6 +94,10 @@ extended extension name d = member (codes "extensions") (object (member extensio
 
 abbrev pub in_extension : List ℕ → List Step → List Step
 in_extension extension steps = field (codes "extensions") ∷ field extension ∷ steps
+
+-- a document that requires one extension
+abbrev pub requiring : List ℕ → Data
+requiring name = with_asset (member (codes "extensionsRequired") (one (text name)) no_members)
 
 -- a light without a range, an extension object of one variant, and a node with one child
 abbrev pub point_light : Data

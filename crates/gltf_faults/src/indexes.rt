@@ -10,8 +10,10 @@ ghost use Rattle.gltf_animations.specs.AnimationTrees.{animation_members};
 ghost use Rattle.gltf_root.specs.Lists.{count_in, sampler_count};
 ghost use Rattle.gltf_root.specs.RootTrees.{root_tree};
 ghost use Rattle.gltf_sinks.specs.Report.{found_at};
+ghost use Rattle.gltf_faults.specs.Context.{context_of};
 ghost use Rattle.gltf_faults.specs.Faults.{index_faults, source_faults};
 
+use crate::context::Context;
 use gltf_animations::animation::{Animation, Channel, Sampler};
 use gltf_base::validation::Error;
 use gltf_base::{Index, IndexTo, Names};
@@ -31,16 +33,18 @@ where
     }
 }
 
-/// What is wrong with the image that a texture names: `Missing` where its number is 4294967295, which
-/// stands for none, else what is wrong with the index.
-pub fn source_fault(texture: &Texture, root: &Root) -> Option<Error>
+/// What is wrong with the image that a texture names. Where its number is 4294967295, which stands for
+/// none, that is `Missing`, and nothing where the rules allow it; else what is wrong with the index.
+pub fn source_fault(texture: &Texture, context: &Context<'_>) -> Option<Error>
     ensures { (base : List Step) → found_at result base
-        ≡ source_faults (count_in ListName.images (root_tree root.now)) (index_tree texture.now.source) base }
+        ≡ source_faults (context_of context.now).rules.empty_texture (count_in ListName.images (context_of context.now).root) (index_tree texture.now.source) base }
 {
-    if texture.source == Index::new(u32::MAX) {
-        Some(Error::Missing)
+    if texture.source != Index::new(u32::MAX) {
+        index_fault(&texture.source, context.root)
+    } else if context.rules.empty_texture {
+        None
     } else {
-        index_fault(&texture.source, root)
+        Some(Error::Missing)
     }
 }
 

@@ -12,7 +12,8 @@ ghost use Rattle.gltf_schema.specs.Write.{write};
 ghost use Rattle.gltf_schema.specs.Kind.{Kind};
 ghost use Rattle.gltf_faults.specs.Inserted.{IsInserted};
 ghost use Rattle.gltf_faults.specs.Naming.{Avoids};
-ghost use Rattle.gltf_faults.specs.Reports.{reports, reports_of};
+ghost use Rattle.gltf_faults.specs.Context.{Rules, under};
+ghost use Rattle.gltf_faults.specs.Reports.{reports, reports_by_rules};
 ghost use Rattle.gltf_faults.specs.Places.{reports_by_places};
 ghost use Rattle.gltf_faults.specs.Closed.{IsClosed};
 ghost use Rattle.gltf_faults.specs.Standing.{is_below};
@@ -34,55 +35,56 @@ ghost use Rattle.gltf_root.specs.declared.root.Root.{Root as Document};
 
 pub mod worked;
 
-/// The reports of a value are the faults of its places, in order.
+/// The reports of a value are the faults of its places, in order, whatever the rules.
 pub fn reports_are_the_faults_of_places()
-    ensures { (kind : Kind) (tree root : Tree) (base : List Step)
-        → reports_of kind tree root base ≡ reports_by_places kind tree root base }
+    ensures { (rules : Rules) (kind : Kind) (tree root : Tree) (base : List Step)
+        → reports_by_rules rules kind tree root base ≡ reports_by_places rules kind tree root base }
 {}
 
 /// A document without reports is closed: every index in it names an item, a channel's sampler one
 /// of its own animation, and every choice and every key is one that is known. So is a document of
-/// which validation against itself left a new count at zero.
+/// which validation against itself left a new count at zero. It is so by any rules; where they let
+/// textures be empty, the number that stands for no image needs to name none.
 pub fn clean_documents_are_closed()
-    ensures clean { (r : Document) → reports_of root_kind (root_tree r) (root_tree r) [] ≡ []
-        → IsClosed root_kind (root_tree r) (root_tree r) absent }
-    ensures none_counted { (r : Document) → run one_more 0 (reports_of root_kind (root_tree r) (root_tree r) []) ≡ 0
-        → IsClosed root_kind (root_tree r) (root_tree r) absent }
+    ensures clean { (rules : Rules) (r : Document) → reports_by_rules rules root_kind (root_tree r) (root_tree r) [] ≡ []
+        → IsClosed root_kind (root_tree r) (under rules (root_tree r)) absent }
+    ensures none_counted { (rules : Rules) (r : Document) → run one_more 0 (reports_by_rules rules root_kind (root_tree r) (root_tree r) []) ≡ 0
+        → IsClosed root_kind (root_tree r) (under rules (root_tree r)) absent }
 {}
 
 /// An item more at the end of a list of a document leaves what is wrong in a value as it was, unless
 /// some index in the value is the very number that the item takes.
 pub fn pushes_leave_other_reports()
-    ensures { (r : Document) (named : ListName) (x : Tree) (kind : Kind) (t above : Tree) (base : List Step)
+    ensures { (rules : Rules) (r : Document) (named : ListName) (x : Tree) (kind : Kind) (t above : Tree) (base : List Step)
         → Avoids named (count_in named (root_tree r)) kind t
-        → reports kind t (pushed named x (root_tree r)) above base ≡ reports kind t (root_tree r) above base }
+        → reports kind t (under rules (pushed named x (root_tree r))) above base ≡ reports kind t (under rules (root_tree r)) above base }
 {}
 
 /// An item more in a document without reports: what is wrong then is what is wrong with the item,
 /// where it stands.
 pub fn pushes_onto_clean_documents()
-    ensures { (r : Document) (named : ListName) (x : Tree)
+    ensures { (rules : Rules) (r : Document) (named : ListName) (x : Tree)
         → let new = pushed named x (root_tree r) in
-        reports_of root_kind (root_tree r) (root_tree r) [] ≡ []
-        → reports_of root_kind new new [] ≡ reports_of (item_kind named) x new (item_place named (count_in named (root_tree r))) }
+        reports_by_rules rules root_kind (root_tree r) (root_tree r) [] ≡ []
+        → reports_by_rules rules root_kind new new [] ≡ reports_by_rules rules (item_kind named) x new (item_place named (count_in named (root_tree r))) }
 {}
 
 /// Where no index in a document is the number that the item takes, what is wrong in the longer
 /// document at the item's place or below it is what is wrong with the item, and the rest is what was
 /// wrong before, both in order. The item's stand all together among the others.
 pub fn pushes_add_reports_of_the_item()
-    ensures of_item { (r : Document) (named : ListName) (x : Tree)
+    ensures of_item { (rules : Rules) (r : Document) (named : ListName) (x : Tree)
         → let n = count_in named (root_tree r) in let new = pushed named x (root_tree r) in
         Avoids named n root_kind (root_tree r)
-        → filter (is_below (item_place named n)) (reports_of root_kind new new []) ≡ reports_of (item_kind named) x new (item_place named n) }
-    ensures of_others { (r : Document) (named : ListName) (x : Tree)
+        → filter (is_below (item_place named n)) (reports_by_rules rules root_kind new new []) ≡ reports_by_rules rules (item_kind named) x new (item_place named n) }
+    ensures of_others { (rules : Rules) (r : Document) (named : ListName) (x : Tree)
         → let n = count_in named (root_tree r) in let new = pushed named x (root_tree r) in
         Avoids named n root_kind (root_tree r)
-        → filter (λ q. not (is_below (item_place named n) q)) (reports_of root_kind new new []) ≡ reports_of root_kind (root_tree r) (root_tree r) [] }
-    ensures together { (r : Document) (named : ListName) (x : Tree)
+        → filter (λ q. not (is_below (item_place named n) q)) (reports_by_rules rules root_kind new new []) ≡ reports_by_rules rules root_kind (root_tree r) (root_tree r) [] }
+    ensures together { (rules : Rules) (r : Document) (named : ListName) (x : Tree)
         → let n = count_in named (root_tree r) in let new = pushed named x (root_tree r) in
         Avoids named n root_kind (root_tree r)
-        → IsInserted (reports_of root_kind (root_tree r) (root_tree r) []) (reports_of (item_kind named) x new (item_place named n)) (reports_of root_kind new new []) }
+        → IsInserted (reports_by_rules rules root_kind (root_tree r) (root_tree r) []) (reports_by_rules rules (item_kind named) x new (item_place named n)) (reports_by_rules rules root_kind new new []) }
 {}
 
 /// A document that was read is refused for writing exactly where an item of a choice or the key of an

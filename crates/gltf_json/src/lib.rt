@@ -22,6 +22,7 @@ pub use serde_json::Value;
 
 /// Extension objects: what stands behind the member `extensions` of an object.
 pub mod extensions {
+    pub use gltf_faults::ENABLED_WITH_EMPTY_TEXTURES;
     pub use gltf_parts::extensions::{accessor, buffer, image, material, texture};
     pub use gltf_scene::extensions::{
         ENABLED_EXTENSIONS, SUPPORTED_EXTENSIONS, animation, asset, camera, mesh, scene, skin,
@@ -40,18 +41,20 @@ pub mod laws {
         pushes_onto_clean_documents, read_documents_are_refused_where_invalid,
         reports_are_the_faults_of_places,
     };
+    pub use gltf_root::laws::pushes_are_taken_back;
 }
 
 /// Whole documents, and the lists in them.
 pub mod root {
     pub use gltf_base::{Index, PushError};
     pub use gltf_devices::{ByteIn, ByteOut, Failed, Watched};
-    pub use gltf_root::root::{Get, Root, RootItem};
+    pub use gltf_root::root::{Get, Mark, Root, RootItem};
 }
 
 /// What is wrong in a document, place by place.
 pub mod validation {
     pub use gltf_base::validation::{Checked, Error, USize64};
+    pub use gltf_faults::Rules;
     pub use gltf_sinks::{Collect, Count, Sink, Stop};
     pub use gltf_validation::validation::Validate;
     pub use gltf_walk::Walk;

@@ -1,11 +1,12 @@
--- What is written and answered for the bytes of a document.
+-- What is written and answered for the bytes of a document, by rules.
 use Rattle.std.specs.Prelude.{ℕ, List, [], ◌∷◌, ◌++◌, codes}
 use Rattle.gltf_paths.specs.Errors.{error_text}
 use Rattle.gltf_paths.specs.Text.{path_text}
 use Rattle.gltf_schema.specs.Tree.{Tree}
 use Rattle.gltf_root.specs.Answer.{Answer, no_json, no_document, document, answer}
 use Rattle.gltf_sinks.specs.Report.{Report}
-use Rattle.gltf_faults.specs.Reports.{reports_of}
+use Rattle.gltf_faults.specs.Context.{Rules}
+use Rattle.gltf_faults.specs.Reports.{reports_by_rules}
 use Rattle.gltf_root.specs.RootTable.{root_kind}
 
 -- a text, and an exit status
@@ -26,20 +27,20 @@ report_lines [] = []
 report_lines (r ∷ rs) = report_line r ++ report_lines rs
 
 -- what is wrong in a document, its indexes resolved in itself
-abbrev pub document_reports : Tree → List Report
-document_reports t = reports_of root_kind t t []
+abbrev pub document_reports : Rules → Tree → List Report
+document_reports rules t = reports_by_rules rules root_kind t t []
 
 abbrev pub reports_output : List Report → Output
 reports_output [] = record { text = line (codes "clean"); status = 0 }
 reports_output (r ∷ rs) = record { text = report_lines (r ∷ rs); status = 1 }
 
-abbrev pub answer_output : Answer → Output
-answer_output no_json = record { text = line (codes "refused: not JSON"); status = 2 }
-answer_output no_document = record { text = line (codes "refused: not a glTF document"); status = 3 }
-answer_output (document t) = reports_output (document_reports t)
+abbrev pub answer_output : Rules → Answer → Output
+answer_output rules no_json = record { text = line (codes "refused: not JSON"); status = 2 }
+answer_output rules no_document = record { text = line (codes "refused: not a glTF document"); status = 3 }
+answer_output rules (document t) = reports_output (document_reports rules t)
 
-abbrev pub output : List ℕ → Output
-output bytes = answer_output (answer bytes)
+abbrev pub output : Rules → List ℕ → Output
+output rules bytes = answer_output rules (answer bytes)
 
 -- where the document was not read to its end, or there is no memory
 abbrev pub refusal : Output

@@ -5,19 +5,20 @@ use Rattle.gltf_schema.specs.declared.error.Error.{Error}
 use Rattle.gltf_schema.specs.declared.error.Error.TheVariants as errors
 use Rattle.gltf_root.specs.Answer.{no_json, no_document, document, byte_limit, call_limit}
 use Rattle.gltf_devices.specs.Device.{Seen, IsWithin, AppendsFront}
+use Rattle.gltf_faults.specs.Context.{Rules}
 use Rattle.gltf_root.specs.RootTrees.{root_tree}
 use Rattle.gltf_root.specs.declared.root.Root.{Root}
 use Rattle.gltf_lines.specs.Output.{Output, answer_output, output, refusal}
 
--- by the bytes that the reader told at the start, if any, what the writer told before and after, whether it has failed then
+-- by the rules, the bytes that the reader told at the start, if any, what the writer told before and after, whether it has failed then
 -- though it hadn't before, and the status
-pub record IsRun (input old new : Option (List ℕ)) (failed : Bool) (status : ℕ) : Type 0 where
+pub record IsRun (rules : Rules) (input old new : Option (List ℕ)) (failed : Bool) (status : ℕ) : Type 0 where
   -- the bytes' output is written
-  pub answered : status ≢ 4 → (failed ≡ false) × IfSome input (λ bytes. (status ≡ (output bytes).status) × Appends old new (output bytes).text)
+  pub answered : status ≢ 4 → (failed ≡ false) × IfSome input (λ bytes. (status ≡ (output rules bytes).status) × Appends old new (output rules bytes).text)
   -- the refusal is written
   pub refused : status ≡ 4 → failed ≡ false → Appends old new refusal.text
   -- a front of one of the two is written
-  pub broke_off : failed ≡ true → (status ≡ 4) × (AppendsFront old new refusal.text ⊎ IfSome input (λ bytes. AppendsFront old new (output bytes).text))
+  pub broke_off : failed ≡ true → (status ≡ 4) × (AppendsFront old new refusal.text ⊎ IfSome input (λ bytes. AppendsFront old new (output rules bytes).text))
 
 -- an output was written, as far as the writer took it
 pub record IsWritten (due : Output) (old new : Option (List ℕ)) (failed : Bool) (status : ℕ) : Type 0 where
@@ -29,8 +30,8 @@ abbrev pub IsReadWhole : Seen → Type 0
 IsReadWhole seen = IsWithin byte_limit call_limit seen
 
 -- the output of a document that was read or refused; none where reading was given up
-abbrev pub reading_output : Result Root Error → Option Output
-reading_output (Ok root) = Some (answer_output (document (root_tree root)))
-reading_output (Err errors.Json) = Some (answer_output no_json)
-reading_output (Err errors.Schema) = Some (answer_output no_document)
-reading_output (Err _) = None
+abbrev pub reading_output : Rules → Result Root Error → Option Output
+reading_output rules (Ok root) = Some (answer_output rules (document (root_tree root)))
+reading_output rules (Err errors.Json) = Some (answer_output rules no_json)
+reading_output rules (Err errors.Schema) = Some (answer_output rules no_document)
+reading_output rules (Err _) = None

@@ -3,11 +3,14 @@
 
 ghost use Rattle.std.specs.Prelude.{◌≡◌, ◌≢◌, ◌≤◌, ◌⊎◌, false, true, None, IsSomeAnd};
 ghost use Rattle.gltf_devices.specs.Device.{IsFresh, AppendsFront};
+ghost use Rattle.gltf_faults.specs.Context.{rules_of, standard_rules};
 ghost use Rattle.gltf_lines.specs.Output.{refusal};
 ghost use Rattle.gltf_lines.specs.Run.{IsReadWhole, IsRun, IsWritten, reading_output};
 
-use gltf_json::root::{ByteIn, ByteOut};
-use gltf_json::{Error, Root};
+use gltf_devices::{ByteIn, ByteOut};
+use gltf_faults::Rules;
+use gltf_root::root::Root;
+use gltf_schema::Error;
 use std::alloc::Global;
 
 mod lines;
@@ -32,7 +35,26 @@ const REFUSAL: &str = "refused: input or output\n";
 /// The whole output is made before its first byte is written.
 pub fn run<R: ByteIn, W: ByteOut>(alloc: Global, reader: &mut R, writer: &mut W) -> u8
     ensures status { result ≤ 4 }
-    ensures run { W.has_failed writer.old ≡ false → IsRun (R.left reader.old) (W.taken writer.old)
+    ensures run { W.has_failed writer.old ≡ false → IsRun standard_rules (R.left reader.old) (W.taken writer.old)
+        (W.taken writer.new) (W.has_failed writer.new) result }
+    ensures reader_failed { IsFresh (R.seen reader.old) → (R.seen reader.new).has_failed ≡ true
+        → (result ≡ 4) × AppendsFront (W.taken writer.old) (W.taken writer.new) refusal.text }
+    ensures not_read { IsFresh (R.seen reader.old) → ¬ (IsReadWhole (R.seen reader.new))
+        → (result ≡ 4) × AppendsFront (W.taken writer.old) (W.taken writer.new) refusal.text }
+    ensures within { IsFresh (R.seen reader.old) → result ≢ 4 → IsReadWhole (R.seen reader.new) }
+{
+    run_with(alloc, &Rules::new(), reader, writer)
+}
+
+/// [`run`], but by rules of the caller's: what is wrong in the document is what is wrong by them.
+pub fn run_with<R: ByteIn, W: ByteOut>(
+    alloc: Global,
+    rules: &Rules<'_>,
+    reader: &mut R,
+    writer: &mut W,
+) -> u8
+    ensures status { result ≤ 4 }
+    ensures run { W.has_failed writer.old ≡ false → IsRun (rules_of rules.now) (R.left reader.old) (W.taken writer.old)
         (W.taken writer.new) (W.has_failed writer.new) result }
     ensures reader_failed { IsFresh (R.seen reader.old) → (R.seen reader.new).has_failed ≡ true
         → (result ≡ 4) × AppendsFront (W.taken writer.old) (W.taken writer.new) refusal.text }
@@ -41,21 +63,26 @@ pub fn run<R: ByteIn, W: ByteOut>(alloc: Global, reader: &mut R, writer: &mut W)
     ensures within { IsFresh (R.seen reader.old) → result ≢ 4 → IsReadWhole (R.seen reader.new) }
 {
     let reading = Root::from_reader(alloc, reader);
-    answer(alloc, &reading, writer)
+    answer(alloc, rules, &reading, writer)
 }
 
-/// Writes the output of a reading.
-fn answer<W: ByteOut>(alloc: Global, reading: &Result<Root, Error>, writer: &mut W) -> u8
+/// Writes the output of a reading, by the rules.
+fn answer<W: ByteOut>(
+    alloc: Global,
+    rules: &Rules<'_>,
+    reading: &Result<Root, Error>,
+    writer: &mut W,
+) -> u8
     ensures status { result ≤ 4 }
-    ensures given_up { reading_output reading.now ≡ None
+    ensures given_up { reading_output (rules_of rules.now) reading.now ≡ None
         → (result ≡ 4) × AppendsFront (W.taken writer.old) (W.taken writer.new) refusal.text }
     ensures written { W.has_failed writer.old ≡ false
         → IsWritten refusal (W.taken writer.old) (W.taken writer.new) (W.has_failed writer.new) result
-        ⊎ IsSomeAnd (reading_output reading.now) (λ due.
+        ⊎ IsSomeAnd (reading_output (rules_of rules.now) reading.now) (λ due.
         IsWritten due (W.taken writer.old) (W.taken writer.new) (W.has_failed writer.new) result) }
 {
     match reading {
-        Ok(root) => match lines_of(alloc, root) {
+        Ok(root) => match lines_of(alloc, rules, root) {
             Ok(lines) if lines.is_empty() => write_output(writer, "clean\n", 0),
             Ok(lines) => write_output(writer, &lines, 1),
             Err(_) => write_output(writer, REFUSAL, 4),

@@ -1,20 +1,23 @@
 //! A line for each report.
 
 ghost use Rattle.std.specs.Prelude.{◌≡◌, IfOk, string_bytes};
+ghost use Rattle.gltf_faults.specs.Context.{rules_of};
 ghost use Rattle.gltf_root.specs.RootTrees.{root_tree};
 ghost use Rattle.gltf_lines.specs.Output.{document_reports, report_lines};
 
-use gltf_json::validation::Walk;
-use gltf_json::{Path, Root};
+use gltf_faults::Rules;
+use gltf_paths::Path;
+use gltf_root::root::Root;
+use gltf_walk::Walk;
 use std::alloc::{AllocError, Global};
 use std::fmt::Write;
 
-/// The lines of everything that is wrong in a document.
-pub(crate) fn lines_of(alloc: Global, root: &Root) -> Result<String, AllocError>
-    ensures { IfOk result (λ lines. string_bytes lines ≡ report_lines (document_reports (root_tree root.now))) }
+/// The lines of everything that is wrong in a document by the rules.
+pub(crate) fn lines_of(alloc: Global, rules: &Rules<'_>, root: &Root) -> Result<String, AllocError>
+    ensures { IfOk result (λ lines. string_bytes lines ≡ report_lines (document_reports (rules_of rules.now) (root_tree root.now))) }
 {
     let mut lines = String::new(alloc);
-    let mut walk = Walk::new(root);
+    let mut walk = Walk::with_rules(*rules, root);
     while let Some(error) = walk.next_report() {
         let place = Path::of(alloc, walk.steps())?;
         writeln!(lines, "{place}: {error}")?;

@@ -4,8 +4,7 @@ ghost use Rattle.std.specs.Prelude.{◌≡◌, ◌⊎◌, false};
 ghost use Rattle.gltf_devices.specs.Device.{AppendsFront};
 ghost use Rattle.gltf_lines.specs.Run.{IsWritten};
 
-use gltf_devices::write_all;
-use gltf_json::root::{ByteOut, Failed};
+use gltf_devices::{ByteOut, Failed, write_all};
 
 /// Writes a text and answers the status that goes with it, or 4 where the writer failed.
 pub(crate) fn write_output<W: ByteOut>(writer: &mut W, text: &str, status: u8) -> u8

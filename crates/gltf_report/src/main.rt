@@ -5,19 +5,20 @@
 ghost use Rattle.std.specs.Prelude.{◌≡◌, ◌≢◌, ◌≤◌, false};
 ghost use Rattle.std.specs.Process.{exit_status};
 ghost use Rattle.gltf_devices.specs.Device.{IsFresh};
+ghost use Rattle.gltf_faults.specs.Context.{standard_rules};
 ghost use Rattle.gltf_lines.specs.Run.{IsReadWhole, IsRun};
 
 use gltf_devices::{ByteIn, ByteOut, Watched};
 use std::alloc::Global;
 use std::process::ExitCode;
 
-// No crate can stand on a program: from Rust, `run` is called in `gltf_lines`.
-pub use gltf_lines::run;
+// No crate can stand on a program: from Rust, these are called in `gltf_lines`.
+pub use gltf_lines::{run, run_with};
 
 /// Runs, and makes the status of the run that of the program.
 fn exit_code<R: ByteIn, W: ByteOut>(alloc: Global, reader: &mut R, writer: &mut W) -> ExitCode
     ensures status { exit_status result ≤ 4 }
-    ensures run { W.has_failed writer.old ≡ false → IsRun (R.left reader.old) (W.taken writer.old)
+    ensures run { W.has_failed writer.old ≡ false → IsRun standard_rules (R.left reader.old) (W.taken writer.old)
         (W.taken writer.new) (W.has_failed writer.new) (exit_status result) }
     ensures within { IsFresh (R.seen reader.old) → exit_status result ≢ 4 → IsReadWhole (R.seen reader.new) }
 {

@@ -5,6 +5,7 @@ pub mod RootExtensionTrees
 pub mod Lists
 pub mod Lending
 pub mod Pushed
+pub mod Undone
 pub mod Items
 pub mod ItemTrees
 pub mod Answer

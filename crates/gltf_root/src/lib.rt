@@ -3,4 +3,5 @@
 #![tactic(auto)]
 
 pub mod extensions;
+pub mod laws;
 pub mod root;

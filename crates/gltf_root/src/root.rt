@@ -27,10 +27,12 @@ use std::alloc::{AllocError, Global};
 
 mod get;
 mod items;
+mod mark;
 mod parse;
 mod print;
 
 pub use get::{Get, RootItem};
+pub use mark::Mark;
 
 /// A whole document.
 // What takes longest to drop stands last (docs/DECISIONS.md).

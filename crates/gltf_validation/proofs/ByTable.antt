@@ -8,29 +8,30 @@ use Rattle.gltf_schema.specs.Tree.{Tree, absent, trees, list, tree_or_absent}
 use Rattle.gltf_schema.specs.Kind.{Kind}
 use Rattle.gltf_schema.specs.Leaves.{checked_tree}
 use Rattle.gltf_sinks.specs.Report.{From, each_at}
+use Rattle.gltf_faults.specs.Context.{Context}
 use Rattle.gltf_faults.specs.Faults.{choice_faults}
 use Rattle.gltf_faults.specs.Reports.{reports, items_reports}
 use Rattle.gltf_validation.specs.ByType.{reports_by, reports_in, checked_reports, option_reports, list_reports, list_kind}
 
 -- each item by itself
-pub items-each : {X : Type 0} (kind : Kind) (tree : X → Tree) (root animation : Tree) (i : ℕ) (xs : List X) (base : List Step)
-    → items_reports (λ t. reports kind t root animation) i (trees (map tree xs)) base ≡ each_at (λ x. reports kind (tree x) root animation) i xs base
-items-each kind tree root animation i [] base = refl
-items-each kind tree root animation i (x ∷ xs) base =
-    ap (λ rs. reports kind (tree x) root animation (base ++ item i ∷ []) ++ rs) (items-each kind tree root animation (suc i) xs base)
+pub items-each : {X : Type 0} (kind : Kind) (tree : X → Tree) (context : Context) (animation : Tree) (i : ℕ) (xs : List X) (base : List Step)
+    → items_reports (λ t. reports kind t context animation) i (trees (map tree xs)) base ≡ each_at (λ x. reports kind (tree x) context animation) i xs base
+items-each kind tree context animation i [] base = refl
+items-each kind tree context animation i (x ∷ xs) base =
+    ap (λ rs. reports kind (tree x) context animation (base ++ item i ∷ []) ++ rs) (items-each kind tree context animation (suc i) xs base)
 
 -- a list has the reports of its items
-pub list-each : {X : Type 0} (kind : Option Kind) (tree : X → Tree) (own : X → Tree → From) (root : Tree) (xs : List X) (base : List Step)
-    → reports_by (list_kind kind) (list (trees (map tree xs))) (list_reports own xs) root base ≡ each_at (reports_in kind tree own root) 0 xs base
-list-each None tree own root xs base = refl
-list-each (Some kind) tree own root xs base = items-each kind tree root absent 0 xs base
+pub list-each : {X : Type 0} (kind : Option Kind) (tree : X → Tree) (own : X → Context → From) (context : Context) (xs : List X) (base : List Step)
+    → reports_by (list_kind kind) (list (trees (map tree xs))) (list_reports own xs) context base ≡ each_at (reports_in kind tree own context) 0 xs base
+list-each None tree own context xs base = refl
+list-each (Some kind) tree own context xs base = items-each kind tree context absent 0 xs base
 
 -- an item of a choice has the reports of the table's choices
-pub choice-checked : {X : Type 0} (spell : X → Spelling) (root : Tree) (x : Checked X) (base : List Step) → choice_faults (checked_tree spell x) base ≡ checked_reports x root base
-choice-checked spell root (Valid x) base = refl
-choice-checked spell root Invalid base = refl
+pub choice-checked : {X : Type 0} (spell : X → Spelling) (context : Context) (x : Checked X) (base : List Step) → choice_faults (checked_tree spell x) base ≡ checked_reports x context base
+choice-checked spell context (Valid x) base = refl
+choice-checked spell context Invalid base = refl
 
-pub choice-optional : {X : Type 0} (spell : X → Spelling) (root : Tree) (x : Option (Checked X)) (base : List Step)
-    → choice_faults (tree_or_absent (checked_tree spell) x) base ≡ option_reports checked_reports x root base
-choice-optional spell root None base = refl
-choice-optional spell root (Some x) base = choice-checked spell root x base
+pub choice-optional : {X : Type 0} (spell : X → Spelling) (context : Context) (x : Option (Checked X)) (base : List Step)
+    → choice_faults (tree_or_absent (checked_tree spell) x) base ≡ option_reports checked_reports x context base
+choice-optional spell context None base = refl
+choice-optional spell context (Some x) base = choice-checked spell context x base

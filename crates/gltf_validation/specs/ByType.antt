@@ -4,37 +4,38 @@ use Rattle.gltf_paths.specs.Steps.{item, key}
 use Rattle.gltf_paths.specs.declared.validation.Error.TheVariants as error
 use Rattle.gltf_checked.specs.declared.validation.Checked.{Checked}
 use Rattle.gltf_checked.specs.declared.validation.Checked.TheVariants as checked
-use Rattle.gltf_schema.specs.Tree.{Tree}
+use Rattle.gltf_schema.specs.Tree.{Tree, absent}
 use Rattle.gltf_schema.specs.Kind.{Kind, ListOf}
 use Rattle.gltf_sinks.specs.Report.{report, From, each_at}
-use Rattle.gltf_faults.specs.Reports.{reports_of}
+use Rattle.gltf_faults.specs.Context.{Context}
+use Rattle.gltf_faults.specs.Reports.{reports}
 
--- by the table, where it has the value's kind; else by the type itself, against a document
-abbrev pub reports_by : Option Kind → Tree → (Tree → From) → Tree → From
-reports_by None t own root base = own root base
-reports_by (Some kind) t own root base = reports_of kind t root base
+-- by the table, where it has the value's kind; else by the type itself
+abbrev pub reports_by : Option Kind → Tree → (Context → From) → Context → From
+reports_by None t own context base = own context base
+reports_by (Some kind) t own context base = reports kind t context absent base
 
 -- of each value of a type
-abbrev pub reports_in : {X : Type 0} → Option Kind → (X → Tree) → (X → Tree → From) → Tree → X → From
-reports_in kind tree own root x base = reports_by kind (tree x) (own x) root base
+abbrev pub reports_in : {X : Type 0} → Option Kind → (X → Tree) → (X → Context → From) → Context → X → From
+reports_in kind tree own context x base = reports_by kind (tree x) (own x) context base
 
 -- of a value of a type without reports
-abbrev pub no_reports : {X : Type 0} → X → Tree → From
-no_reports x root base = []
+abbrev pub no_reports : {X : Type 0} → X → Context → From
+no_reports x context base = []
 
 -- of an item of a choice
-abbrev pub checked_reports : {X : Type 0} → Checked X → Tree → From
-checked_reports (checked.Valid x) root base = []
-checked_reports checked.Invalid root base = report base error.Invalid ∷ []
+abbrev pub checked_reports : {X : Type 0} → Checked X → Context → From
+checked_reports (checked.Valid x) context base = []
+checked_reports checked.Invalid context base = report base error.Invalid ∷ []
 
 -- of an option: those of what it holds
-abbrev pub option_reports : {X : Type 0} → (X → Tree → From) → Option X → Tree → From
-option_reports own None root base = []
-option_reports own (Some x) root base = own x root base
+abbrev pub option_reports : {X : Type 0} → (X → Context → From) → Option X → Context → From
+option_reports own None context base = []
+option_reports own (Some x) context base = own x context base
 
 -- of a list: those of each item, at its number
-abbrev pub list_reports : {X : Type 0} → (X → Tree → From) → List X → Tree → From
-list_reports own xs root base = each_at (λ x. own x root) 0 xs base
+abbrev pub list_reports : {X : Type 0} → (X → Context → From) → List X → Context → From
+list_reports own xs context base = each_at (λ x. own x context) 0 xs base
 
 abbrev pub list_kind : Option Kind → Option Kind
 list_kind None = None

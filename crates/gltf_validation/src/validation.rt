@@ -2,6 +2,7 @@
 
 ghost use Rattle.std.specs.Prelude.{◌≡◌, ℕ, Option, None};
 ghost use Rattle.gltf_schema.specs.Tree.{Tree, absent};
+ghost use Rattle.gltf_faults.specs.Context.{Context, rules_of, standard_rules, under};
 ghost use Rattle.gltf_schema.specs.Kind.{Kind};
 ghost use Rattle.gltf_sinks.specs.Report.{From};
 ghost use Rattle.gltf_root.specs.RootTrees.{root_tree};
@@ -9,6 +10,7 @@ ghost use Rattle.gltf_sinks.specs.Handed.{Walked};
 ghost use Rattle.gltf_validation.specs.ByType.{reports_by, no_reports};
 
 use gltf_base::Steps;
+use gltf_faults::Rules;
 use gltf_root::root::Root;
 use gltf_sinks::{Sink, Stop};
 
@@ -24,6 +26,7 @@ mod leaves;
 mod light;
 mod maps;
 mod material;
+mod members;
 mod mesh;
 mod normal_texture;
 mod occlusion_texture;
@@ -42,19 +45,32 @@ pub trait Validate {
     /// The value as the table sees it.
     ghost tree: { Self → Tree } = { λ _. absent };
 
-    /// The reports of a type that isn't in the table, against a document's tree, from a base.
-    ghost own: { Self → Tree → From } = { no_reports };
+    /// The reports of a type that isn't in the table, against a document by rules, from a base.
+    ghost own: { Self → Context → From } = { no_reports };
 
     /// A bound on the steps from a value's place to what its walk visits: the members and the items in
     /// which something can be wrong, and the places of its reports.
     ghost depth: { ℕ } = { 0 };
 
-    /// Hands the sink what is wrong in the value, in order, each step list beginning with the steps
-    /// of `path`. Indexes are looked up in `root`. On every exit `path` is as it was. Nothing is
-    /// allocated.
+    /// Hands the sink what is wrong in the value by `rules`, in order, each step list beginning with
+    /// the steps of `path`. Indexes are looked up in `root`. On every exit `path` is as it was.
+    /// Nothing is allocated.
     ///
     /// It stops with `StepsFull` only where the steps of `path` and the depth of the type are more
     /// than 16 together, and with `Sink` where the sink refuses a report.
+    fn validate_with<'a, S: Sink>(
+        &'a self,
+        rules: &Rules<'_>,
+        root: &Root,
+        path: &mut Steps<'a>,
+        sink: &mut S,
+    ) -> Result<(), Stop<S::Refusal>>
+        ensures path { path.new ≡ path.old }
+        ensures walked { Walked S.next S.refuses path.old (S.state sink.old)
+            (reports_by kind (tree self.now) (own self.now) (under (rules_of rules.now) (root_tree root.now))) depth result path.new (S.state sink.new) };
+
+    /// Hands the sink what is wrong in the value where nobody rules otherwise: `validate_with` by
+    /// `Rules::new()`.
     fn validate<'a, S: Sink>(
         &'a self,
         root: &Root,
@@ -63,5 +79,8 @@ pub trait Validate {
     ) -> Result<(), Stop<S::Refusal>>
         ensures path { path.new ≡ path.old }
         ensures walked { Walked S.next S.refuses path.old (S.state sink.old)
-            (reports_by kind (tree self.now) (own self.now) (root_tree root.now)) depth result path.new (S.state sink.new) };
+            (reports_by kind (tree self.now) (own self.now) (under standard_rules (root_tree root.now))) depth result path.new (S.state sink.new) }
+    {
+        self.validate_with(&Rules::new(), root, path, sink)
+    }
 }

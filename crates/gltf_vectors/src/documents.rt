@@ -9,11 +9,13 @@ mod other_roots;
 mod refused_growths;
 mod refused_pushes;
 mod reports;
+mod rules;
 mod sources;
+mod walks;
 mod written;
 
 use gltf_base::{Step, Steps};
-use gltf_json::validation::{Collect, Validate};
+use gltf_json::validation::{Collect, Rules, Validate};
 use gltf_json::{Error, Root};
 use std::alloc::Global;
 use std::fmt::Write;
@@ -66,8 +68,20 @@ pub(crate) fn lines_of<'a, T: Validate>(
 ) -> Result<String, Error> {
     let mut sink = Collect::new(alloc);
     let ended = part.validate(root, path, &mut sink);
+    collected(alloc, ended.is_err(), &sink)
+}
+
+/// What is wrong in a document by rules, a line for each report.
+fn lines_by(alloc: Global, rules: &Rules<'_>, root: &Root) -> Result<String, Error> {
+    let mut sink = Collect::new(alloc);
+    let ended = root.validate_with(rules, root, &mut Steps::new(), &mut sink);
+    collected(alloc, ended.is_err(), &sink)
+}
+
+/// What was collected, a line for each report, below a line that says so where it isn't all.
+fn collected(alloc: Global, stopped: bool, sink: &Collect) -> Result<String, Error> {
     let mut lines = String::new(alloc);
-    if ended.is_err() {
+    if stopped {
         lines.push_str("stopped\n")?;
     }
     for (place, error) in sink.reports() {
@@ -84,8 +98,13 @@ fn first_of<'a>(list: &'a str) -> Steps<'a> {
     path
 }
 
-/// Whether the reports of a document against itself are these lines.
+/// Whether the reports of a document against itself are these lines, collected and one at a time.
 pub(crate) fn has_lines(alloc: Global, root: &Root, lines: &str) -> bool {
+    collects_lines(alloc, root, lines) && walks::gives_lines(alloc, Rules::new(), root, lines)
+}
+
+/// Whether the reports that a sink collects of a document are these lines.
+fn collects_lines(alloc: Global, root: &Root, lines: &str) -> bool {
     match lines_of(alloc, root, root, &mut Steps::new()) {
         Ok(found) => found.as_str() == lines,
         Err(_) => false,

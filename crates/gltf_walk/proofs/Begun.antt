@@ -5,7 +5,8 @@ use Rattle.gltf_root.specs.RootTable.{root_kind}
 use Rattle.gltf_root.specs.RootTrees.{root_tree}
 use Rattle.gltf_root.specs.declared.root.Root.{Root}
 use Rattle.gltf_schema.specs.Tree.{absent}
-use Rattle.gltf_faults.specs.Reports.{reports_of}
+use Rattle.gltf_faults.specs.Context.{Context}
+use Rattle.gltf_faults.specs.Reports.{reports}
 use Rattle.gltf_walk.specs.Parts.{plans_left}
 use Rattle.gltf_walk.specs.Planned.{planned}
 use Rattle.gltf_walk.specs.Stacks.{reach, to_come_of}
@@ -18,11 +19,11 @@ use Rattle.gltf_walk.proofs.Stacks.{of_last}
 abbrev pub first_frame : Bor Root → Frame
 first_frame document = record { part = part.Root document; number = 0 }
 
-pub begun_fits : (document root : Bor Root) (fs : List Frame) → fs ≡ first_frame document ∷ [] → reach 0 (plans_left (root_tree root.now) fs) ≤ 10
-begun_fits document root fs h = rw h (omega (arith, planned_height (root_tree document.now) (root_tree root.now)))
+pub begun_fits : (document : Bor Root) (context : Context) (fs : List Frame) → fs ≡ first_frame document ∷ [] → reach 0 (plans_left context fs) ≤ 10
+begun_fits document context fs h = rw h (omega (arith, planned_height (root_tree document.now) context))
 
-pub begun_to_come : (document root : Bor Root) (fs : List Frame) (steps : List Step) → fs ≡ first_frame document ∷ []
-    → to_come_of steps (plans_left (root_tree root.now) fs) ≡ reports_of root_kind (root_tree document.now) (root_tree root.now) steps
-begun_to_come document root fs steps h =
-    let p = planned root_kind (root_tree document.now) (root_tree root.now) absent in
-    rw h (of_last steps [] p (omega arith) ∙ (append-nil _ ∙ planned_told root_kind (root_tree document.now) (root_tree root.now) absent steps))
+pub begun_to_come : (document : Bor Root) (context : Context) (fs : List Frame) (steps : List Step) → fs ≡ first_frame document ∷ []
+    → to_come_of steps (plans_left context fs) ≡ reports root_kind (root_tree document.now) context absent steps
+begun_to_come document context fs steps h =
+    let p = planned root_kind (root_tree document.now) context absent in
+    rw h (of_last steps [] p (omega arith) ∙ (append-nil _ ∙ planned_told root_kind (root_tree document.now) context absent steps))

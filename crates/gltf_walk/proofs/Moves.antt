@@ -4,7 +4,7 @@ use Rattle.std.proofs.lemmas.List.{map-append, length-map}
 use Rattle.std.specs.Option.{option_to_list}
 use Rattle.gltf_paths.specs.Steps.{Step, step_of}
 use Rattle.gltf_paths.specs.declared.path.Step.{Step as Borrowed}
-use Rattle.gltf_schema.specs.Tree.{Tree}
+use Rattle.gltf_faults.specs.Context.{Context}
 use Rattle.gltf_walk.specs.Parts.{plan_of, plan_left, plans_left}
 use Rattle.gltf_walk.specs.Plan.{Plan, place, nothing, below, told, down, over, left, first, weight, height}
 use Rattle.gltf_walk.specs.Stacks.{reach, to_come_of, weight_of}
@@ -14,10 +14,10 @@ use Rattle.gltf_walk.proofs.Stacks.{rest, left_further, told_by, height_by, heig
 
 -- ---- one plan
 
-pub further_left : (r : Tree) (f g : Frame) → g.part ≡ f.part → g.number ≡ f.number + 1 → plan_left r g ≡ rest (plan_left r f)
-further_left r f g e n =
+pub further_left : (context : Context) (f g : Frame) → g.part ≡ f.part → g.number ≡ f.number + 1 → plan_left context g ≡ rest (plan_left context f)
+further_left context f g e n =
     let h : f.number + 1 ≡ suc f.number = omega arith in
-    ap (λ q. left (plan_of r q) g.number) e ∙ (ap (left (plan_of r f.part)) (n ∙ h) ∙ left_further (plan_of r f.part) f.number)
+    ap (λ q. left (plan_of context q) g.number) e ∙ (ap (left (plan_of context f.part)) (n ∙ h) ∙ left_further (plan_of context f.part) f.number)
 
 pub left_none : (p : Plan) → left p 0 ≡ p
 left_none (place ps es) = refl
@@ -35,25 +35,25 @@ over_tells (place nothing []) base e = refl
 
 -- ---- frames
 
-pub plans_last : (r : Tree) (fs gs : List Frame) (f : Frame) → fs ≡ gs ++ f ∷ [] → plans_left r fs ≡ plans_left r gs ++ plan_left r f ∷ []
-plans_last r fs gs f e = ap (plans_left r) e ∙ map-append (plan_left r) gs (f ∷ [])
+pub plans_last : (context : Context) (fs gs : List Frame) (f : Frame) → fs ≡ gs ++ f ∷ [] → plans_left context fs ≡ plans_left context gs ++ plan_left context f ∷ []
+plans_last context fs gs f e = ap (plans_left context) e ∙ map-append (plan_left context) gs (f ∷ [])
 
-pub popped_fits : (r : Tree) (fs gs : List Frame) (f : Frame) → fs ≡ gs ++ f ∷ [] → reach 0 (plans_left r fs) ≤ 10
-    → (reach 0 (plans_left r gs) ≤ 10) × (length gs + height (plan_left r f) ≤ 10)
-popped_fits r fs gs f e h =
-    let whole : reach 0 (plans_left r gs ++ plan_left r f ∷ []) ≤ 10 = subst (λ ps. reach 0 ps ≤ 10) (plans_last r fs gs f e) h in
-    let here = reach_last 0 (plans_left r gs) (plan_left r f) in
-    (omega (arith, whole, here), omega (arith, whole, here, length-map gs (plan_left r)))
+pub popped_fits : (context : Context) (fs gs : List Frame) (f : Frame) → fs ≡ gs ++ f ∷ [] → reach 0 (plans_left context fs) ≤ 10
+    → (reach 0 (plans_left context gs) ≤ 10) × (length gs + height (plan_left context f) ≤ 10)
+popped_fits context fs gs f e h =
+    let whole : reach 0 (plans_left context gs ++ plan_left context f ∷ []) ≤ 10 = subst (λ ps. reach 0 ps ≤ 10) (plans_last context fs gs f e) h in
+    let here = reach_last 0 (plans_left context gs) (plan_left context f) in
+    (omega (arith, whole, here), omega (arith, whole, here, length-map gs (plan_left context)))
 
-pub pushed_fits : (r : Tree) (fs gs : List Frame) (f : Frame) → fs ≡ gs ++ f ∷ [] → reach 0 (plans_left r gs) ≤ 10 → length gs + height (plan_left r f) ≤ 10
-    → reach 0 (plans_left r fs) ≤ 10
-pushed_fits r fs gs f e h l =
-    let here = reach_last 0 (plans_left r gs) (plan_left r f) in
-    let whole : reach 0 (plans_left r gs ++ plan_left r f ∷ []) ≤ 10 = omega (arith, h, l, here, length-map gs (plan_left r)) in
-    subst (λ ps. reach 0 ps ≤ 10) (sym (plans_last r fs gs f e)) whole
+pub pushed_fits : (context : Context) (fs gs : List Frame) (f : Frame) → fs ≡ gs ++ f ∷ [] → reach 0 (plans_left context gs) ≤ 10 → length gs + height (plan_left context f) ≤ 10
+    → reach 0 (plans_left context fs) ≤ 10
+pushed_fits context fs gs f e h l =
+    let here = reach_last 0 (plans_left context gs) (plan_left context f) in
+    let whole : reach 0 (plans_left context gs ++ plan_left context f ∷ []) ≤ 10 = omega (arith, h, l, here, length-map gs (plan_left context)) in
+    subst (λ ps. reach 0 ps ≤ 10) (sym (plans_last context fs gs f e)) whole
 
-pub frames_weight : (r : Tree) (fs gs : List Frame) (f : Frame) → fs ≡ gs ++ f ∷ [] → weight_of (plans_left r fs) ≡ weight_of (plans_left r gs) + weight (plan_left r f)
-frames_weight r fs gs f e = ap weight_of (plans_last r fs gs f e) ∙ weight_last (plans_left r gs) (plan_left r f)
+pub frames_weight : (context : Context) (fs gs : List Frame) (f : Frame) → fs ≡ gs ++ f ∷ [] → weight_of (plans_left context fs) ≡ weight_of (plans_left context gs) + weight (plan_left context f)
+frames_weight context fs gs f e = ap weight_of (plans_last context fs gs f e) ∙ weight_last (plans_left context gs) (plan_left context f)
 
 pub frames_length : (fs gs : List Frame) (f : Frame) → fs ≡ gs ++ f ∷ [] → length fs ≡ length gs + 1
 frames_length fs gs f e = ap length e ∙ length-append gs (f ∷ [])
@@ -61,36 +61,36 @@ frames_length fs gs f e = ap length e ∙ length-append gs (f ∷ [])
 -- ---- what is still to come
 
 -- a part that is over goes, and its step with it
-pub over_goes : (r : Tree) (fs gs : List Frame) (f : Frame) (bs cs : List Borrowed) (o : Option Borrowed) → fs ≡ gs ++ f ∷ [] → length fs ≤ suc (length bs)
-    → over ≡ first (plan_left r f) → bs ≡ cs ++ option_to_list o → length cs ≡ length bs - 1
-    → to_come_of (map step_of bs) (plans_left r fs) ≡ to_come_of (map step_of cs) (plans_left r gs)
-over_goes r fs gs f bs cs o e l v d m =
+pub over_goes : (context : Context) (fs gs : List Frame) (f : Frame) (bs cs : List Borrowed) (o : Option Borrowed) → fs ≡ gs ++ f ∷ [] → length fs ≤ suc (length bs)
+    → over ≡ first (plan_left context f) → bs ≡ cs ++ option_to_list o → length cs ≡ length bs - 1
+    → to_come_of (map step_of bs) (plans_left context fs) ≡ to_come_of (map step_of cs) (plans_left context gs)
+over_goes context fs gs f bs cs o e l v d m =
     let steps = map step_of bs in
     let shorter : length (map step_of cs) ≡ length steps - 1 = omega (arith, m, length-map bs step_of, length-map cs step_of) in
-    let beside : length (plans_left r gs) ≤ length steps = omega (arith, l, frames_length fs gs f e, length-map gs (plan_left r), length-map bs step_of) in
-    ap (to_come_of steps) (plans_last r fs gs f e)
-    ∙ left_behind steps (map step_of cs) (map step_of (option_to_list o)) (plans_left r gs) (plan_left r f) beside (over_tells (plan_left r f) steps v)
+    let beside : length (plans_left context gs) ≤ length steps = omega (arith, l, frames_length fs gs f e, length-map gs (plan_left context), length-map bs step_of) in
+    ap (to_come_of steps) (plans_last context fs gs f e)
+    ∙ left_behind steps (map step_of cs) (map step_of (option_to_list o)) (plans_left context gs) (plan_left context f) beside (over_tells (plan_left context f) steps v)
     (ap (map step_of) d ∙ map-append step_of cs (option_to_list o)) shorter
 
 -- what a move reports comes before what is left
-pub move_made : (r : Tree) (fs gs hs : List Frame) (f g : Frame) (bs : List Borrowed) → fs ≡ gs ++ f ∷ [] → hs ≡ gs ++ g ∷ [] → plan_left r g ≡ rest (plan_left r f)
+pub move_made : (context : Context) (fs gs hs : List Frame) (f g : Frame) (bs : List Borrowed) → fs ≡ gs ++ f ∷ [] → hs ≡ gs ++ g ∷ [] → plan_left context g ≡ rest (plan_left context f)
     → length fs ≤ suc (length bs)
-    → to_come_of (map step_of bs) (plans_left r fs) ≡ told_by (first (plan_left r f)) (map step_of bs) ++ to_come_of (map step_of bs) (plans_left r hs)
-move_made r fs gs hs f g bs e d n l =
+    → to_come_of (map step_of bs) (plans_left context fs) ≡ told_by (first (plan_left context f)) (map step_of bs) ++ to_come_of (map step_of bs) (plans_left context hs)
+move_made context fs gs hs f g bs e d n l =
     let steps = map step_of bs in
-    let beside : length (plans_left r gs) ≤ length steps = omega (arith, l, frames_length fs gs f e, length-map gs (plan_left r), length-map bs step_of) in
-    let after : plans_left r gs ++ rest (plan_left r f) ∷ [] ≡ plans_left r hs = ap (λ p. plans_left r gs ++ p ∷ []) (sym n) ∙ sym (plans_last r hs gs g d) in
-    ap (to_come_of steps) (plans_last r fs gs f e)
-    ∙ (moved steps (plans_left r gs) (plan_left r f) beside ∙ ap (λ ps. told_by (first (plan_left r f)) steps ++ to_come_of steps ps) after)
+    let beside : length (plans_left context gs) ≤ length steps = omega (arith, l, frames_length fs gs f e, length-map gs (plan_left context), length-map bs step_of) in
+    let after : plans_left context gs ++ rest (plan_left context f) ∷ [] ≡ plans_left context hs = ap (λ p. plans_left context gs ++ p ∷ []) (sym n) ∙ sym (plans_last context hs gs g d) in
+    ap (to_come_of steps) (plans_last context fs gs f e)
+    ∙ (moved steps (plans_left context gs) (plan_left context f) beside ∙ ap (λ ps. told_by (first (plan_left context f)) steps ++ to_come_of steps ps) after)
 
 -- the part at the step is gone into
-pub part_entered : (r : Tree) (hs is : List Frame) (q : Part) (bs cs : List Borrowed) (s : Borrowed) → is ≡ hs ++ record { part = q; number = 0 } ∷ []
+pub part_entered : (context : Context) (hs is : List Frame) (q : Part) (bs cs : List Borrowed) (s : Borrowed) → is ≡ hs ++ record { part = q; number = 0 } ∷ []
     → cs ≡ bs ++ s ∷ [] → 1 ≤ length hs → length hs ≤ suc (length bs)
-    → to_come_of (map step_of cs) (plans_left r is) ≡ told (plan_of r q) (map step_of bs ++ step_of s ∷ []) ++ to_come_of (map step_of bs) (plans_left r hs)
-part_entered r hs is q bs cs s e d some l =
+    → to_come_of (map step_of cs) (plans_left context is) ≡ told (plan_of context q) (map step_of bs ++ step_of s ∷ []) ++ to_come_of (map step_of bs) (plans_left context hs)
+part_entered context hs is q bs cs s e d some l =
     let steps = map step_of bs in
     let here : map step_of cs ≡ steps ++ step_of s ∷ [] = ap (map step_of) d ∙ map-append step_of bs (s ∷ []) in
-    let plans : plans_left r is ≡ plans_left r hs ++ plan_of r q ∷ [] = plans_last r is hs _ e ∙ ap (λ p. plans_left r hs ++ p ∷ []) (left_none (plan_of r q)) in
-    ap (λ us. to_come_of us (plans_left r is)) here
+    let plans : plans_left context is ≡ plans_left context hs ++ plan_of context q ∷ [] = plans_last context is hs _ e ∙ ap (λ p. plans_left context hs ++ p ∷ []) (left_none (plan_of context q)) in
+    ap (λ us. to_come_of us (plans_left context is)) here
     ∙ (ap (to_come_of (steps ++ step_of s ∷ [])) plans
-    ∙ entered steps (step_of s) (plans_left r hs) (plan_of r q) (omega (arith, some, length-map hs (plan_left r))) (omega (arith, l, length-map hs (plan_left r), length-map bs step_of)))
+    ∙ entered steps (step_of s) (plans_left context hs) (plan_of context q) (omega (arith, some, length-map hs (plan_left context))) (omega (arith, l, length-map hs (plan_left context), length-map bs step_of)))

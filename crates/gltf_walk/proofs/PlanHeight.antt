@@ -18,6 +18,7 @@ use Rattle.gltf_nodes.specs.SceneTable.{node_extension_rows, node_rows, scene_ro
 use Rattle.gltf_animations.specs.AnimationTable.{animation_sampler_rows, animation_target_rows, animation_channel_rows, animation_rows}
 use Rattle.gltf_root.specs.RootExtensionTable.{lights_rows, variants_rows, root_extension_rows}
 use Rattle.gltf_root.specs.RootTable.{root_rows, root_kind}
+use Rattle.gltf_faults.specs.Context.{Context}
 use Rattle.gltf_faults.specs.Reports.{animation_below}
 use Rattle.gltf_faults.specs.Silence.{is_silent}
 use Rattle.gltf_faults.specs.Rules.{root_extensions_required}
@@ -63,17 +64,17 @@ items_height f n each i (with_tree t ts) =
 
 -- ---- rules
 
-name_height : (t : Tree) → height (name_plan t) ≤ 1
-name_height (tree.text s) = omega arith
-name_height t = omega arith
+name_height : (enabled : List (List ℕ)) (t : Tree) → height (name_plan enabled t) ≤ 1
+name_height enabled (tree.text s) = omega arith
+name_height enabled t = omega arith
 
-rules_height : (named : ObjectName) (t root : Tree) → heights (rule_plans named t root) ≤ rule_height named
-rules_height ObjectName.accessor (tree.object ts others) root = omega arith
-rules_height ObjectName.light (tree.object ts others) root = omega arith
-rules_height ObjectName.primitive (tree.object ts others) root = omega arith
-rules_height ObjectName.root (tree.object ts others) root =
-    let names = items_height name_plan 1 name_height 0 (items_in (root_extensions_required ts)) in omega (arith, names)
-rules_height named t root = omega arith
+rules_height : (named : ObjectName) (t : Tree) (context : Context) → heights (rule_plans named t context) ≤ rule_height named
+rules_height ObjectName.accessor (tree.object ts others) context = omega arith
+rules_height ObjectName.light (tree.object ts others) context = omega arith
+rules_height ObjectName.primitive (tree.object ts others) context = omega arith
+rules_height ObjectName.root (tree.object ts others) context =
+    let names = items_height (name_plan context.rules.enabled) 1 (name_height context.rules.enabled) 0 (items_in (root_extensions_required ts)) in omega (arith, names)
+rules_height named t context = omega arith
 
 -- ---- kinds
 
@@ -84,24 +85,24 @@ row_height true n p ps k m here rest = omega (arith, rest)
 row_height false n p ps k m here rest = omega (arith, here, rest)
 
 mutual
-  bounded : (kind : Kind) (t root animation : Tree) → height (planned kind t root animation) ≤ kind_height kind
-  bounded (Attributes named) t root animation = entries_height (count_in named root) (entries_in t)
-  bounded (ListOf kind) t root animation =
-      items_height (λ x. planned kind x root animation) (kind_height kind) (λ x. bounded kind x root animation) 0 (items_in t)
-  bounded (Object named rows keeps) t root animation =
+  bounded : (kind : Kind) (t : Tree) (context : Context) (animation : Tree) → height (planned kind t context animation) ≤ kind_height kind
+  bounded (Attributes named) t context animation = entries_height (count_in named context.root) (entries_in t)
+  bounded (ListOf kind) t context animation =
+      items_height (λ x. planned kind x context animation) (kind_height kind) (λ x. bounded kind x context animation) 0 (items_in t)
+  bounded (Object named rows keeps) t context animation =
       let above = animation_below named t animation in
-      let members = rows_bounded (members_in t) rows root above in
-      let rule = rules_height named t root in
-      also_height (member_plans (members_in t) rows root above) (rule_plans named t root) (max (rows_height rows) (rule_height named))
+      let members = rows_bounded (members_in t) rows context above in
+      let rule = rules_height named t context in
+      also_height (member_plans (members_in t) rows context above) (rule_plans named t context) (max (rows_height rows) (rule_height named))
       (omega (arith, members)) (omega (arith, rule))
-  bounded kind t root animation = omega arith
+  bounded kind t context animation = omega arith
 
-  rows_bounded : (ts : Trees) (rows : Rows) (root animation : Tree) → heights (member_plans ts rows root animation) ≤ rows_height rows
-  rows_bounded end rows root animation = omega arith
-  rows_bounded (with_tree t ts) no_rows root animation = omega arith
-  rows_bounded (with_tree t ts) (row n mark kind rows) root animation =
-      row_height (is_silent kind) n (planned kind t root animation) (member_plans ts rows root animation) (kind_height kind) (rows_height rows)
-      (bounded kind t root animation) (rows_bounded ts rows root animation)
+  rows_bounded : (ts : Trees) (rows : Rows) (context : Context) (animation : Tree) → heights (member_plans ts rows context animation) ≤ rows_height rows
+  rows_bounded end rows context animation = omega arith
+  rows_bounded (with_tree t ts) no_rows context animation = omega arith
+  rows_bounded (with_tree t ts) (row n mark kind rows) context animation =
+      row_height (is_silent kind) n (planned kind t context animation) (member_plans ts rows context animation) (kind_height kind) (rows_height rows)
+      (bounded kind t context animation) (rows_bounded ts rows context animation)
 
 -- ---- documents
 
@@ -116,5 +117,5 @@ unfolding root_rows root_extension_rows lights_rows variants_rows light_rows var
 document_height = refl
 
 -- any tree, walked as a document
-pub planned_height : (t root : Tree) → height (planned root_kind t root absent) ≤ 10
-planned_height t root = let low = bounded root_kind t root absent in omega (arith, low, document_height)
+pub planned_height : (t : Tree) (context : Context) → height (planned root_kind t context absent) ≤ 10
+planned_height t context = let low = bounded root_kind t context absent in omega (arith, low, document_height)

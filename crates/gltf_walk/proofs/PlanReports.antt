@@ -1,5 +1,5 @@
 -- A plan tells what is wrong in the tree that it was made for.
-use Rattle.std.proofs.Common.{◌≡◌, ℕ, suc, List, [], ◌∷◌, ◌++◌, Bool, true, false, cond, codes, Option, Some, None, nat_eq, refl, sym, ◌∙◌, ap, append_assoc}
+use Rattle.std.proofs.Common.{◌≡◌, ℕ, suc, List, [], ◌∷◌, ◌++◌, Bool, true, false, cond, not, codes, Option, Some, None, nat_eq, refl, sym, ◌∙◌, ap, append_assoc}
 use Rattle.std.proofs.lemmas.List.{append-nil}
 use Rattle.std.specs.Map.{lookup}
 use Rattle.gltf_checked.specs.Keys.{Key, key_text}
@@ -13,6 +13,7 @@ use Rattle.gltf_schema.specs.Tree.{Tree, Trees, end, with_tree, tree_at, items_i
 use Rattle.gltf_schema.specs.Kind.{Kind, IndexInto, SourceImage, ChannelSampler, Stride, Choice, Attributes, ListOf, Object, ObjectName, Rows, no_rows, row}
 use Rattle.gltf_root.specs.Lists.{list_in, count_in, sampler_count}
 use Rattle.gltf_sinks.specs.Report.{From, Report, report}
+use Rattle.gltf_faults.specs.Context.{Context}
 use Rattle.gltf_faults.specs.Faults.{report_if, number_faults, index_faults, source_faults, stride_faults, choice_faults, key_faults, entries_faults}
 use Rattle.gltf_faults.specs.Reports.{animation_below, items_reports, reports, member_reports}
 use Rattle.gltf_faults.specs.Rules.{is_positions, accessor_min, accessor_max, primitive_attributes, root_extensions_required, bound_faults, bounds_faults, positions_faults, extension_faults, extensions_faults, rule, object_faults}
@@ -42,14 +43,15 @@ index_told : (count : ℕ) (t : Tree) (base : List Step) → told (leaf_of (inde
 index_told count (tree.index n) base = if_told _ _ base
 index_told count t base = refl
 
-source_at : (b : Bool) (count n : ℕ) (base : List Step)
-    → told (leaf_of (λ at. cond b (report at Missing ∷ []) (number_faults count n at))) base ≡ cond b (report base Missing ∷ []) (number_faults count n base)
-source_at true count n base = refl
-source_at false count n base = if_told _ _ base
+source_at : (may_be_empty is_none : Bool) (count n : ℕ) (base : List Step)
+    → told (leaf_of (λ at. cond is_none (report_if (not may_be_empty) Missing at) (number_faults count n at))) base
+    ≡ cond is_none (report_if (not may_be_empty) Missing base) (number_faults count n base)
+source_at may_be_empty true count n base = if_told _ _ base
+source_at may_be_empty false count n base = if_told _ _ base
 
-source_told : (count : ℕ) (t : Tree) (base : List Step) → told (leaf_of (source_faults count t)) base ≡ source_faults count t base
-source_told count (tree.index n) base = source_at (nat_eq n 4294967295) count n base
-source_told count t base = refl
+source_told : (may_be_empty : Bool) (count : ℕ) (t : Tree) (base : List Step) → told (leaf_of (source_faults may_be_empty count t)) base ≡ source_faults may_be_empty count t base
+source_told may_be_empty count (tree.index n) base = source_at may_be_empty (nat_eq n 4294967295) count n base
+source_told may_be_empty count t base = refl
 
 stride_told : (t : Tree) (base : List Step) → told (leaf_of (stride_faults t)) base ≡ stride_faults t base
 stride_told (tree.whole n) base = if_told _ _ base
@@ -119,40 +121,41 @@ positions_told : (found : Option ℕ) (root : Tree) (base : List Step)
 positions_told None root base = refl
 positions_told (Some n) root base = bounds_told (tree_at n (list_in ListName.accessors root)) base
 
-name_told : (t : Tree) (base : List Step) → told (name_plan t) base ≡ extension_faults t base
-name_told (tree.text s) base = append-nil _ ∙ if_told_below _ _ (value s) base
-name_told t base = refl
+name_told : (enabled : List (List ℕ)) (t : Tree) (base : List Step) → told (name_plan enabled t) base ≡ extension_faults enabled t base
+name_told enabled (tree.text s) base = append-nil _ ∙ if_told_below _ _ (value s) base
+name_told enabled t base = refl
 
 -- the names stand as the items of a list do
-names_apart : (i : ℕ) (ts : Trees) (base : List Step) → items_reports extension_faults i ts base ≡ extensions_faults i ts base
-names_apart i end base = refl
-names_apart i (with_tree t ts) base = ap (λ rs. extension_faults t (base ++ item i ∷ []) ++ rs) (names_apart (suc i) ts base)
+names_apart : (enabled : List (List ℕ)) (i : ℕ) (ts : Trees) (base : List Step) → items_reports (extension_faults enabled) i ts base ≡ extensions_faults enabled i ts base
+names_apart enabled i end base = refl
+names_apart enabled i (with_tree t ts) base = ap (λ rs. extension_faults enabled t (base ++ item i ∷ []) ++ rs) (names_apart enabled (suc i) ts base)
 
 -- nothing is wrong with an object without a rule
-unruled : (named : ObjectName) (t root : Tree) (base : List Step)
-    → ((ts : Trees) → rule named ts root base ≡ []) → [] ≡ object_faults t named root base
-unruled named (tree.object ts others) root base none = sym (none ts)
-unruled named t root base none = refl
+unruled : (named : ObjectName) (t : Tree) (context : Context) (base : List Step)
+    → ((ts : Trees) → rule named ts context base ≡ []) → [] ≡ object_faults t named context base
+unruled named (tree.object ts others) context base none = sym (none ts)
+unruled named t context base none = refl
 
-rule_told : (named : ObjectName) (t root : Tree) (base : List Step)
-    → told_below (rule_plans named t root) base ++ told_here (errors (own_error named t)) base ≡ object_faults t named root base
-rule_told ObjectName.accessor (tree.object ts others) root base = append-nil _ ∙ if_told_below _ _ (field (codes "bufferView")) base
-rule_told ObjectName.light (tree.object ts others) root base = append-nil _ ∙ if_told_below _ _ (field (codes "spot")) base
-rule_told ObjectName.camera (tree.object ts others) root base = if_told _ _ base
-rule_told ObjectName.primitive (tree.object ts others) root base =
+rule_told : (named : ObjectName) (t : Tree) (context : Context) (base : List Step)
+    → told_below (rule_plans named t context) base ++ told_here (errors (own_error named t)) base ≡ object_faults t named context base
+rule_told ObjectName.accessor (tree.object ts others) context base = append-nil _ ∙ if_told_below _ _ (field (codes "bufferView")) base
+rule_told ObjectName.light (tree.object ts others) context base = append-nil _ ∙ if_told_below _ _ (field (codes "spot")) base
+rule_told ObjectName.camera (tree.object ts others) context base = if_told _ _ base
+rule_told ObjectName.primitive (tree.object ts others) context base =
     let found = lookup is_positions (entries_in (primitive_attributes ts)) in
     let at = base ++ field (codes "attributes") ∷ [] in
-    append-nil _ ∙ append-nil _ ∙ append-nil _ ∙ append-nil _ ∙ positions_told found root (at ++ key (codes "POSITION") ∷ [])
-rule_told ObjectName.root (tree.object ts others) root base =
+    append-nil _ ∙ append-nil _ ∙ append-nil _ ∙ append-nil _ ∙ positions_told found context.root (at ++ key (codes "POSITION") ∷ [])
+rule_told ObjectName.root (tree.object ts others) context base =
     let names = items_in (root_extensions_required ts) in
     let at = base ++ field (codes "extensionsRequired") ∷ [] in
-    append-nil _ ∙ append-nil _ ∙ append-nil _ ∙ items_told name_plan extension_faults name_told 0 names at ∙ names_apart 0 names at
-rule_told ObjectName.accessor t root base = refl
-rule_told ObjectName.light t root base = refl
-rule_told ObjectName.camera t root base = refl
-rule_told ObjectName.primitive t root base = refl
-rule_told ObjectName.root t root base = refl
-rule_told named t root base = unruled named t root base (λ ts. refl)
+    let enabled = context.rules.enabled in
+    append-nil _ ∙ append-nil _ ∙ append-nil _ ∙ items_told (name_plan enabled) (extension_faults enabled) (name_told enabled) 0 names at ∙ names_apart enabled 0 names at
+rule_told ObjectName.accessor t context base = refl
+rule_told ObjectName.light t context base = refl
+rule_told ObjectName.camera t context base = refl
+rule_told ObjectName.primitive t context base = refl
+rule_told ObjectName.root t context base = refl
+rule_told named t context base = unruled named t context base (λ ts. refl)
 
 -- ---- kinds
 
@@ -163,29 +166,29 @@ row_told true n p ps rs qs base over here further = let none = over refl in rw n
 row_told false n p ps rs qs base over here further = joined here further
 
 mutual
-  pub planned_told : (kind : Kind) (t root animation : Tree) (base : List Step) → told (planned kind t root animation) base ≡ reports kind t root animation base
-  planned_told (IndexInto named) t root animation base = index_told (count_in named root) t base
-  planned_told SourceImage t root animation base = source_told (count_in ListName.images root) t base
-  planned_told ChannelSampler t root animation base = index_told (sampler_count animation) t base
-  planned_told Stride t root animation base = stride_told t base
-  planned_told (Choice form listed) t root animation base = choice_told t base
-  planned_told (Attributes named) t root animation base = append-nil _ ∙ entries_told (count_in named root) (entries_in t) base
-  planned_told (ListOf kind) t root animation base =
+  pub planned_told : (kind : Kind) (t : Tree) (context : Context) (animation : Tree) (base : List Step) → told (planned kind t context animation) base ≡ reports kind t context animation base
+  planned_told (IndexInto named) t context animation base = index_told (count_in named context.root) t base
+  planned_told SourceImage t context animation base = source_told context.rules.empty_texture (count_in ListName.images context.root) t base
+  planned_told ChannelSampler t context animation base = index_told (sampler_count animation) t base
+  planned_told Stride t context animation base = stride_told t base
+  planned_told (Choice form listed) t context animation base = choice_told t base
+  planned_told (Attributes named) t context animation base = append-nil _ ∙ entries_told (count_in named context.root) (entries_in t) base
+  planned_told (ListOf kind) t context animation base =
       append-nil _
-      ∙ items_told (λ x. planned kind x root animation) (λ x. reports kind x root animation) (λ x at. planned_told kind x root animation at) 0 (items_in t) base
-  planned_told (Object named rows keeps) t root animation base =
-      let ps = member_plans (members_in t) rows root (animation_below named t animation) in
-      let qs = rule_plans named t root in
+      ∙ items_told (λ x. planned kind x context animation) (λ x. reports kind x context animation) (λ x at. planned_told kind x context animation at) 0 (items_in t) base
+  planned_told (Object named rows keeps) t context animation base =
+      let ps = member_plans (members_in t) rows context (animation_below named t animation) in
+      let qs = rule_plans named t context in
       let own = told_here (errors (own_error named t)) base in
       ap (λ rs. rs ++ own) (also_told ps qs base) ∙ append_assoc (told_below ps base) (told_below qs base) own
-      ∙ joined (members_told (members_in t) rows root (animation_below named t animation) base) (rule_told named t root base)
-  planned_told kind t root animation base = refl
+      ∙ joined (members_told (members_in t) rows context (animation_below named t animation) base) (rule_told named t context base)
+  planned_told kind t context animation base = refl
 
-  members_told : (ts : Trees) (rows : Rows) (root animation : Tree) (base : List Step)
-      → told_below (member_plans ts rows root animation) base ≡ member_reports ts rows root animation base
-  members_told end rows root animation base = refl
-  members_told (with_tree t ts) no_rows root animation base = refl
-  members_told (with_tree t ts) (row n mark kind rows) root animation base =
-      row_told (is_silent kind) n (planned kind t root animation) (member_plans ts rows root animation) (reports kind t root animation (base ++ field n ∷ []))
-      (member_reports ts rows root animation base) base (λ over. silent kind over t root animation (base ++ field n ∷ []))
-      (planned_told kind t root animation (base ++ field n ∷ [])) (members_told ts rows root animation base)
+  members_told : (ts : Trees) (rows : Rows) (context : Context) (animation : Tree) (base : List Step)
+      → told_below (member_plans ts rows context animation) base ≡ member_reports ts rows context animation base
+  members_told end rows context animation base = refl
+  members_told (with_tree t ts) no_rows context animation base = refl
+  members_told (with_tree t ts) (row n mark kind rows) context animation base =
+      row_told (is_silent kind) n (planned kind t context animation) (member_plans ts rows context animation) (reports kind t context animation (base ++ field n ∷ []))
+      (member_reports ts rows context animation base) base (λ over. silent kind over t context animation (base ++ field n ∷ []))
+      (planned_told kind t context animation (base ++ field n ∷ [])) (members_told ts rows context animation base)

@@ -33,7 +33,8 @@ use Rattle.gltf_paths.specs.Lists.{ListName}
 use Rattle.gltf_paths.specs.Steps.{step_of}
 use Rattle.gltf_schema.specs.Fields.{attributes_tree, closed_object, index_tree, list_tree, text_tree}
 use Rattle.gltf_schema.specs.Kind.{Attributes, IndexInto, ListOf}
-use Rattle.gltf_schema.specs.Tree.{Tree, absent, items_in}
+use Rattle.gltf_schema.specs.Tree.{absent, items_in}
+use Rattle.gltf_faults.specs.Context.{Context}
 use Rattle.gltf_faults.specs.declared.primitive.PositionFaults.{PositionFaults}
 use Rattle.gltf_walk.specs.Plan.{Plan, place, leaf, left, Move, down, fault, over}
 use Rattle.gltf_walk.specs.Planned.{planned, entry_plan, bounds_plan, at_positions, item_plans, name_plan}
@@ -46,75 +47,75 @@ use Rattle.gltf_walk.specs.declared.part.Part.TheVariants as part
 abbrev pub found_plan : PositionFaults → Plan
 found_plan f = bounds_plan f.positions f.min f.max
 
--- the plan of a part, against a document
-abbrev pub plan_of : Tree → Part → Plan
-plan_of root (part.Leaf e) = leaf e
-plan_of root (part.Accessor x) = planned accessor_kind (closed_object (accessor_members x.now)) root absent
-plan_of root (part.Accessors xs) = planned (ListOf accessor_kind) (list_tree (λ x. closed_object (accessor_members x)) xs.now.items) root absent
-plan_of root (part.Sparse x) = planned sparse_kind (closed_object (sparse_members x.now)) root absent
-plan_of root (part.SparseIndices x) = planned sparse_indices_kind (closed_object (sparse_indices_members x.now)) root absent
-plan_of root (part.SparseValues x) = planned sparse_values_kind (closed_object (sparse_values_members x.now)) root absent
-plan_of root (part.View x) = planned view_kind (closed_object (view_members x.now)) root absent
-plan_of root (part.Views xs) = planned (ListOf view_kind) (list_tree (λ x. closed_object (view_members x)) xs.now.items) root absent
-plan_of root (part.Image x) = planned image_kind (closed_object (image_members x.now)) root absent
-plan_of root (part.Images xs) = planned (ListOf image_kind) (list_tree (λ x. closed_object (image_members x)) xs.now.items) root absent
-plan_of root (part.Sampler x) = planned sampler_kind (closed_object (sampler_members x.now)) root absent
-plan_of root (part.Samplers xs) = planned (ListOf sampler_kind) (list_tree (λ x. closed_object (sampler_members x)) xs.now.items) root absent
-plan_of root (part.Texture x) = planned texture_kind (closed_object (texture_members x.now)) root absent
-plan_of root (part.Textures xs) = planned (ListOf texture_kind) (list_tree (λ x. closed_object (texture_members x)) xs.now.items) root absent
-plan_of root (part.Info x) = planned info_kind (closed_object (info_members x.now)) root absent
-plan_of root (part.Material x) = planned material_kind (closed_object (material_members x.now)) root absent
-plan_of root (part.Materials xs) = planned (ListOf material_kind) (list_tree (λ x. closed_object (material_members x)) xs.now.items) root absent
-plan_of root (part.PbrMetallicRoughness x) = planned pbr_metallic_roughness_kind (closed_object (pbr_metallic_roughness_members x.now)) root absent
-plan_of root (part.NormalTexture x) = planned normal_texture_kind (closed_object (normal_texture_members x.now)) root absent
-plan_of root (part.OcclusionTexture x) = planned occlusion_texture_kind (closed_object (occlusion_texture_members x.now)) root absent
-plan_of root (part.MaterialExtensions x) = planned material_extensions_kind (material_extensions x.now) root absent
-plan_of root (part.PbrSpecularGlossiness x) = planned pbr_specular_glossiness_kind (pbr_specular_glossiness_tree x.now) root absent
-plan_of root (part.Transmission x) = planned transmission_kind (closed_object (transmission_members x.now)) root absent
-plan_of root (part.Volume x) = planned volume_kind (closed_object (volume_members x.now)) root absent
-plan_of root (part.Specular x) = planned specular_kind (closed_object (specular_members x.now)) root absent
-plan_of root (part.Mesh x) = planned mesh_kind (closed_object (mesh_members x.now)) root absent
-plan_of root (part.Meshes xs) = planned (ListOf mesh_kind) (list_tree (λ x. closed_object (mesh_members x)) xs.now.items) root absent
-plan_of root (part.Primitive x) = planned primitive_kind (closed_object (primitive_members x.now)) root absent
-plan_of root (part.Primitives xs) = planned (ListOf primitive_kind) (list_tree (λ x. closed_object (primitive_members x)) xs.now.items) root absent
-plan_of root (part.MorphTarget x) = planned morph_target_kind (closed_object (morph_target_members x.now)) root absent
-plan_of root (part.MorphTargets xs) = planned (ListOf morph_target_kind) (list_tree (λ x. closed_object (morph_target_members x)) xs.now.items) root absent
-plan_of root (part.Node x) = planned node_kind (closed_object (node_members x.now)) root absent
-plan_of root (part.Nodes xs) = planned (ListOf node_kind) (list_tree (λ x. closed_object (node_members x)) xs.now.items) root absent
-plan_of root (part.NodeExtensions x) = planned node_extensions_kind (node_extensions x.now) root absent
-plan_of root (part.Scene x) = planned scene_kind (closed_object (scene_members x.now)) root absent
-plan_of root (part.Scenes xs) = planned (ListOf scene_kind) (list_tree (λ x. closed_object (scene_members x)) xs.now.items) root absent
-plan_of root (part.Skin x) = planned skin_kind (closed_object (skin_members x.now)) root absent
-plan_of root (part.Skins xs) = planned (ListOf skin_kind) (list_tree (λ x. closed_object (skin_members x)) xs.now.items) root absent
-plan_of root (part.Camera x) = planned camera_kind (closed_object (camera_members x.now)) root absent
-plan_of root (part.Cameras xs) = planned (ListOf camera_kind) (list_tree (λ x. closed_object (camera_members x)) xs.now.items) root absent
-plan_of root (part.Light x) = planned light_kind (closed_object (light_members x.now)) root absent
-plan_of root (part.LightList xs) = planned (ListOf light_kind) (list_tree (λ x. closed_object (light_members x)) xs.now.items) root absent
-plan_of root (part.NodeLight x) = planned light_of_node_kind (closed_object (light_of_node_members x.now)) root absent
-plan_of root (part.Target x) = planned animation_target_kind (closed_object (animation_target_members x.now)) root absent
-plan_of root (part.AnimationSampler x) = planned animation_sampler_kind (closed_object (animation_sampler_members x.now)) root absent
-plan_of root (part.AnimationSamplers xs) = planned (ListOf animation_sampler_kind) (list_tree (λ x. closed_object (animation_sampler_members x)) xs.now.items) root absent
-plan_of root (part.Animation x) = planned animation_kind (closed_object (animation_members x.now)) root absent
-plan_of root (part.Animations xs) = planned (ListOf animation_kind) (list_tree (λ x. closed_object (animation_members x)) xs.now.items) root absent
-plan_of root (part.Root x) = planned root_kind (root_tree x.now) root absent
-plan_of root (part.RootExtensions x) = planned root_extensions_kind (root_extensions x.now) root absent
-plan_of root (part.Lights x) = planned lights_kind (closed_object (lights_members x.now)) root absent
-plan_of root (part.NodeIndexes xs) = planned (ListOf (IndexInto ListName.nodes)) (list_tree index_tree xs.now.items) root absent
-plan_of root (part.Channels a) =
-    planned (ListOf animation_channel_kind) (list_tree (λ x. closed_object (animation_channel_members x)) a.now.channels.items) root (closed_object (animation_members a.now))
-plan_of root (part.Channel x a) = planned animation_channel_kind (closed_object (animation_channel_members x.now)) root (closed_object (animation_members a.now))
-plan_of root (part.Attributes m) = planned (Attributes ListName.accessors) (attributes_tree m.now) root absent
-plan_of root (part.Attribute k i) = entry_plan k i
-plan_of root (part.AtPositions f) = at_positions (found_plan f)
-plan_of root (part.Positions f) = found_plan f
-plan_of root (part.RequiredExtensions xs) = place (item_plans name_plan 0 (items_in (list_tree text_tree xs.now.items))) []
-plan_of root (part.RequiredExtension x) = name_plan (text_tree x.now)
+-- the plan of a part, in a context
+abbrev pub plan_of : Context → Part → Plan
+plan_of context (part.Leaf e) = leaf e
+plan_of context (part.Accessor x) = planned accessor_kind (closed_object (accessor_members x.now)) context absent
+plan_of context (part.Accessors xs) = planned (ListOf accessor_kind) (list_tree (λ x. closed_object (accessor_members x)) xs.now.items) context absent
+plan_of context (part.Sparse x) = planned sparse_kind (closed_object (sparse_members x.now)) context absent
+plan_of context (part.SparseIndices x) = planned sparse_indices_kind (closed_object (sparse_indices_members x.now)) context absent
+plan_of context (part.SparseValues x) = planned sparse_values_kind (closed_object (sparse_values_members x.now)) context absent
+plan_of context (part.View x) = planned view_kind (closed_object (view_members x.now)) context absent
+plan_of context (part.Views xs) = planned (ListOf view_kind) (list_tree (λ x. closed_object (view_members x)) xs.now.items) context absent
+plan_of context (part.Image x) = planned image_kind (closed_object (image_members x.now)) context absent
+plan_of context (part.Images xs) = planned (ListOf image_kind) (list_tree (λ x. closed_object (image_members x)) xs.now.items) context absent
+plan_of context (part.Sampler x) = planned sampler_kind (closed_object (sampler_members x.now)) context absent
+plan_of context (part.Samplers xs) = planned (ListOf sampler_kind) (list_tree (λ x. closed_object (sampler_members x)) xs.now.items) context absent
+plan_of context (part.Texture x) = planned texture_kind (closed_object (texture_members x.now)) context absent
+plan_of context (part.Textures xs) = planned (ListOf texture_kind) (list_tree (λ x. closed_object (texture_members x)) xs.now.items) context absent
+plan_of context (part.Info x) = planned info_kind (closed_object (info_members x.now)) context absent
+plan_of context (part.Material x) = planned material_kind (closed_object (material_members x.now)) context absent
+plan_of context (part.Materials xs) = planned (ListOf material_kind) (list_tree (λ x. closed_object (material_members x)) xs.now.items) context absent
+plan_of context (part.PbrMetallicRoughness x) = planned pbr_metallic_roughness_kind (closed_object (pbr_metallic_roughness_members x.now)) context absent
+plan_of context (part.NormalTexture x) = planned normal_texture_kind (closed_object (normal_texture_members x.now)) context absent
+plan_of context (part.OcclusionTexture x) = planned occlusion_texture_kind (closed_object (occlusion_texture_members x.now)) context absent
+plan_of context (part.MaterialExtensions x) = planned material_extensions_kind (material_extensions x.now) context absent
+plan_of context (part.PbrSpecularGlossiness x) = planned pbr_specular_glossiness_kind (pbr_specular_glossiness_tree x.now) context absent
+plan_of context (part.Transmission x) = planned transmission_kind (closed_object (transmission_members x.now)) context absent
+plan_of context (part.Volume x) = planned volume_kind (closed_object (volume_members x.now)) context absent
+plan_of context (part.Specular x) = planned specular_kind (closed_object (specular_members x.now)) context absent
+plan_of context (part.Mesh x) = planned mesh_kind (closed_object (mesh_members x.now)) context absent
+plan_of context (part.Meshes xs) = planned (ListOf mesh_kind) (list_tree (λ x. closed_object (mesh_members x)) xs.now.items) context absent
+plan_of context (part.Primitive x) = planned primitive_kind (closed_object (primitive_members x.now)) context absent
+plan_of context (part.Primitives xs) = planned (ListOf primitive_kind) (list_tree (λ x. closed_object (primitive_members x)) xs.now.items) context absent
+plan_of context (part.MorphTarget x) = planned morph_target_kind (closed_object (morph_target_members x.now)) context absent
+plan_of context (part.MorphTargets xs) = planned (ListOf morph_target_kind) (list_tree (λ x. closed_object (morph_target_members x)) xs.now.items) context absent
+plan_of context (part.Node x) = planned node_kind (closed_object (node_members x.now)) context absent
+plan_of context (part.Nodes xs) = planned (ListOf node_kind) (list_tree (λ x. closed_object (node_members x)) xs.now.items) context absent
+plan_of context (part.NodeExtensions x) = planned node_extensions_kind (node_extensions x.now) context absent
+plan_of context (part.Scene x) = planned scene_kind (closed_object (scene_members x.now)) context absent
+plan_of context (part.Scenes xs) = planned (ListOf scene_kind) (list_tree (λ x. closed_object (scene_members x)) xs.now.items) context absent
+plan_of context (part.Skin x) = planned skin_kind (closed_object (skin_members x.now)) context absent
+plan_of context (part.Skins xs) = planned (ListOf skin_kind) (list_tree (λ x. closed_object (skin_members x)) xs.now.items) context absent
+plan_of context (part.Camera x) = planned camera_kind (closed_object (camera_members x.now)) context absent
+plan_of context (part.Cameras xs) = planned (ListOf camera_kind) (list_tree (λ x. closed_object (camera_members x)) xs.now.items) context absent
+plan_of context (part.Light x) = planned light_kind (closed_object (light_members x.now)) context absent
+plan_of context (part.LightList xs) = planned (ListOf light_kind) (list_tree (λ x. closed_object (light_members x)) xs.now.items) context absent
+plan_of context (part.NodeLight x) = planned light_of_node_kind (closed_object (light_of_node_members x.now)) context absent
+plan_of context (part.Target x) = planned animation_target_kind (closed_object (animation_target_members x.now)) context absent
+plan_of context (part.AnimationSampler x) = planned animation_sampler_kind (closed_object (animation_sampler_members x.now)) context absent
+plan_of context (part.AnimationSamplers xs) = planned (ListOf animation_sampler_kind) (list_tree (λ x. closed_object (animation_sampler_members x)) xs.now.items) context absent
+plan_of context (part.Animation x) = planned animation_kind (closed_object (animation_members x.now)) context absent
+plan_of context (part.Animations xs) = planned (ListOf animation_kind) (list_tree (λ x. closed_object (animation_members x)) xs.now.items) context absent
+plan_of context (part.Root x) = planned root_kind (root_tree x.now) context absent
+plan_of context (part.RootExtensions x) = planned root_extensions_kind (root_extensions x.now) context absent
+plan_of context (part.Lights x) = planned lights_kind (closed_object (lights_members x.now)) context absent
+plan_of context (part.NodeIndexes xs) = planned (ListOf (IndexInto ListName.nodes)) (list_tree index_tree xs.now.items) context absent
+plan_of context (part.Channels a) =
+    planned (ListOf animation_channel_kind) (list_tree (λ x. closed_object (animation_channel_members x)) a.now.channels.items) context (closed_object (animation_members a.now))
+plan_of context (part.Channel x a) = planned animation_channel_kind (closed_object (animation_channel_members x.now)) context (closed_object (animation_members a.now))
+plan_of context (part.Attributes m) = planned (Attributes ListName.accessors) (attributes_tree m.now) context absent
+plan_of context (part.Attribute k i) = entry_plan k i
+plan_of context (part.AtPositions f) = at_positions (found_plan f)
+plan_of context (part.Positions f) = found_plan f
+plan_of context (part.RequiredExtensions xs) = place (item_plans (name_plan context.rules.enabled) 0 (items_in (list_tree text_tree xs.now.items))) []
+plan_of context (part.RequiredExtension x) = name_plan context.rules.enabled (text_tree x.now)
 
 -- the move that comes next
-abbrev pub move_of : Tree → Next → Move
-move_of root (next.Down s q) = down (step_of s) (plan_of root q)
-move_of root (next.Fault e) = fault e
-move_of root next.Done = over
+abbrev pub move_of : Context → Next → Move
+move_of context (next.Down s q) = down (step_of s) (plan_of context q)
+move_of context (next.Fault e) = fault e
+move_of context next.Done = over
 
 -- something comes
 abbrev pub IsMore : Next → Type 0
@@ -122,8 +123,8 @@ IsMore next.Done = ⊥
 IsMore _ = Unit {0}
 
 -- what is left of the plans of frames
-abbrev pub plan_left : Tree → Frame → Plan
-plan_left root f = left (plan_of root f.part) f.number
+abbrev pub plan_left : Context → Frame → Plan
+plan_left context f = left (plan_of context f.part) f.number
 
-abbrev pub plans_left : Tree → List Frame → List Plan
-plans_left root fs = map (plan_left root) fs
+abbrev pub plans_left : Context → List Frame → List Plan
+plans_left context fs = map (plan_left context) fs

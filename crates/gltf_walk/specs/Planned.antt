@@ -9,6 +9,7 @@ use Rattle.gltf_schema.specs.Tree.{Tree, text, object, Trees, end, with_tree, it
 use Rattle.gltf_schema.specs.Kind.{Kind, IndexInto, SourceImage, ChannelSampler, Stride, Choice, Attributes, ListOf, Object, ObjectName, Rows, no_rows, row}
 use Rattle.gltf_root.specs.Lists.{count_in, sampler_count}
 use Rattle.gltf_sinks.specs.Report.{Report, From}
+use Rattle.gltf_faults.specs.Context.{Context}
 use Rattle.gltf_faults.specs.Faults.{index_faults, source_faults, stride_faults, choice_faults, key_faults, number_faults}
 use Rattle.gltf_faults.specs.Reports.{animation_below}
 use Rattle.gltf_faults.specs.Rules.{accessor_rule, camera_rule, light_rule, positions_faults, is_positions, primitive_attributes, root_extensions_required, extension_faults}
@@ -69,18 +70,18 @@ positions_plan f =
 abbrev pub at_positions : Plan → Plan
 at_positions p = place (below (key (codes "POSITION")) p nothing) []
 
-abbrev pub name_plan : Tree → Plan
-name_plan (text s) = place (below (value s) (leaf_of (extension_faults (text s))) nothing) []
-name_plan _ = leaf None
+abbrev pub name_plan : List (List ℕ) → Tree → Plan
+name_plan enabled (text s) = place (below (value s) (leaf_of (extension_faults enabled (text s))) nothing) []
+name_plan enabled _ = leaf None
 
-abbrev pub rule_plans : ObjectName → Tree → Tree → Plans
-rule_plans ObjectName.accessor (object ts others) root = below (field (codes "bufferView")) (leaf_of (accessor_rule ts)) nothing
-rule_plans ObjectName.light (object ts others) root = below (field (codes "spot")) (leaf_of (light_rule ts)) nothing
-rule_plans ObjectName.primitive (object ts others) root =
-    below (field (codes "attributes")) (at_positions (positions_plan (positions_faults (lookup is_positions (entries_in (primitive_attributes ts))) root))) nothing
-rule_plans ObjectName.root (object ts others) root =
-    below (field (codes "extensionsRequired")) (place (item_plans name_plan 0 (items_in (root_extensions_required ts))) []) nothing
-rule_plans _ _ root = nothing
+abbrev pub rule_plans : ObjectName → Tree → Context → Plans
+rule_plans ObjectName.accessor (object ts others) context = below (field (codes "bufferView")) (leaf_of (accessor_rule ts)) nothing
+rule_plans ObjectName.light (object ts others) context = below (field (codes "spot")) (leaf_of (light_rule ts)) nothing
+rule_plans ObjectName.primitive (object ts others) context =
+    below (field (codes "attributes")) (at_positions (positions_plan (positions_faults (lookup is_positions (entries_in (primitive_attributes ts))) context.root))) nothing
+rule_plans ObjectName.root (object ts others) context =
+    below (field (codes "extensionsRequired")) (place (item_plans (name_plan context.rules.enabled) 0 (items_in (root_extensions_required ts))) []) nothing
+rule_plans _ _ context = nothing
 
 -- the rule of an object, as far as it speaks of the object itself
 abbrev pub own_error : ObjectName → Tree → Option Error
@@ -93,21 +94,21 @@ abbrev pub unless_silent : Bool → List ℕ → Plan → Plans → Plans
 unless_silent is_silent n p ps = cond is_silent ps (below (field n) p ps)
 
 abbrev mutual
-  -- of a tree of a kind, against a document, below an animation or none; what cannot be wrong is passed over
-  pub planned : Kind → Tree → Tree → Tree → Plan
-  planned (IndexInto named) t root animation = leaf_of (index_faults (count_in named root) t)
-  planned SourceImage t root animation = leaf_of (source_faults (count_in ListName.images root) t)
-  planned ChannelSampler t root animation = leaf_of (index_faults (sampler_count animation) t)
-  planned Stride t root animation = leaf_of (stride_faults t)
-  planned (Choice form listed) t root animation = leaf_of (choice_faults t)
-  planned (Attributes named) t root animation = place (entry_plans (count_in named root) (entries_in t)) []
-  planned (ListOf kind) t root animation = place (item_plans (λ x. planned kind x root animation) 0 (items_in t)) []
-  planned (Object named rows keeps) t root animation =
-      place (also (member_plans (members_in t) rows root (animation_below named t animation)) (rule_plans named t root)) (errors (own_error named t))
-  planned _ t root animation = leaf None
+  -- of a tree of a kind, in a context, below an animation or none; what cannot be wrong is passed over
+  pub planned : Kind → Tree → Context → Tree → Plan
+  planned (IndexInto named) t context animation = leaf_of (index_faults (count_in named context.root) t)
+  planned SourceImage t context animation = leaf_of (source_faults context.rules.empty_texture (count_in ListName.images context.root) t)
+  planned ChannelSampler t context animation = leaf_of (index_faults (sampler_count animation) t)
+  planned Stride t context animation = leaf_of (stride_faults t)
+  planned (Choice form listed) t context animation = leaf_of (choice_faults t)
+  planned (Attributes named) t context animation = place (entry_plans (count_in named context.root) (entries_in t)) []
+  planned (ListOf kind) t context animation = place (item_plans (λ x. planned kind x context animation) 0 (items_in t)) []
+  planned (Object named rows keeps) t context animation =
+      place (also (member_plans (members_in t) rows context (animation_below named t animation)) (rule_plans named t context)) (errors (own_error named t))
+  planned _ t context animation = leaf None
 
-  pub member_plans : Trees → Rows → Tree → Tree → Plans
-  member_plans end rows root animation = nothing
-  member_plans (with_tree t ts) no_rows root animation = nothing
-  member_plans (with_tree t ts) (row n mark kind rows) root animation =
-      unless_silent (is_silent kind) n (planned kind t root animation) (member_plans ts rows root animation)
+  pub member_plans : Trees → Rows → Context → Tree → Plans
+  member_plans end rows context animation = nothing
+  member_plans (with_tree t ts) no_rows context animation = nothing
+  member_plans (with_tree t ts) (row n mark kind rows) context animation =
+      unless_silent (is_silent kind) n (planned kind t context animation) (member_plans ts rows context animation)

@@ -4,12 +4,17 @@ use Rattle.gltf_paths.specs.Steps.{Step, steps_of}
 use Rattle.gltf_paths.specs.declared.validation.Error.{Error}
 use Rattle.gltf_root.specs.RootTrees.{root_tree}
 use Rattle.gltf_sinks.specs.Report.{Report, report}
+use Rattle.gltf_faults.specs.Context.{Context, rules_of, under}
 use Rattle.gltf_walk.specs.Parts.{plans_left}
 use Rattle.gltf_walk.specs.Stacks.{to_come_of}
 use Rattle.gltf_walk.specs.declared.state.Descent.{Descent}
 use Rattle.gltf_walk.specs.declared.state.Walk.{Walk}
 
 -- ---- what contracts say of a descent
+
+-- the rules and the document that it goes by
+abbrev pub context_in : Descent → Context
+context_in d = under (rules_of d.rules) (root_tree d.root.now)
 
 -- the steps from which it began
 abbrev pub base_count : Descent → ℕ
@@ -19,7 +24,7 @@ abbrev pub path_of_descent : Descent → List Step
 path_of_descent d = steps_of d.steps
 
 abbrev pub left_of_descent : Descent → List Report
-left_of_descent d = to_come_of (steps_of d.steps) (plans_left (root_tree d.root.now) d.frames.items)
+left_of_descent d = to_come_of (steps_of d.steps) (plans_left (context_in d) d.frames.items)
 
 -- what a descent answered: the first of the reports that were left, with the path to it, or nothing where there were none,
 -- with a path no longer than the one from which it began

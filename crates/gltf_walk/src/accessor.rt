@@ -11,27 +11,26 @@ use crate::part::Part;
 use crate::visited::{Object, Visited};
 use gltf_data::accessor::Accessor;
 use gltf_data::accessor::sparse::{Indices, Sparse, Values};
-use gltf_faults::data_fault;
-use gltf_root::root::Root;
+use gltf_faults::{Context, data_fault};
 
 impl Visited for Accessor {
     ghost kind = { accessor_kind };
 
     ghost tree = { λ v. closed_object (accessor_members v) };
 
-    fn part<'a>(&'a self, _root: &Root) -> Part<'a> {
+    fn part<'a>(&'a self, _context: &Context<'_>) -> Part<'a> {
         Part::Accessor(self)
     }
 }
 
 impl Object for Accessor {
     #[tactic(auto, using(crate::proofs::Past::past), unfolding(gltf_data::specs::AccessorTable::accessor_rows, gltf_data::specs::AccessorTable::sparse_indices_rows, gltf_data::specs::AccessorTable::sparse_rows, gltf_data::specs::AccessorTrees::accessor_members))]
-    fn next<'a>(&'a self, number: usize, root: &Root) -> Next<'a> {
+    fn next<'a>(&'a self, number: usize, context: &Context<'_>) -> Next<'a> {
         match number {
-            0 => member("bufferView", &self.buffer_view, root),
-            1 => member("componentType", &self.component_type, root),
-            2 => member("type", &self.type_, root),
-            3 => member("sparse", &self.sparse, root),
+            0 => member("bufferView", &self.buffer_view, context),
+            1 => member("componentType", &self.component_type, context),
+            2 => member("type", &self.type_, context),
+            3 => member("sparse", &self.sparse, context),
             4 => found("bufferView", data_fault(self)),
             _ => Next::Done,
         }
@@ -43,7 +42,7 @@ impl Visited for Vec<Accessor> {
 
     ghost tree = { λ v. list_tree (λ x. closed_object (accessor_members x)) v.items };
 
-    fn part<'a>(&'a self, _root: &Root) -> Part<'a> {
+    fn part<'a>(&'a self, _context: &Context<'_>) -> Part<'a> {
         Part::Accessors(self)
     }
 }
@@ -53,17 +52,17 @@ impl Visited for Sparse {
 
     ghost tree = { λ v. closed_object (sparse_members v) };
 
-    fn part<'a>(&'a self, _root: &Root) -> Part<'a> {
+    fn part<'a>(&'a self, _context: &Context<'_>) -> Part<'a> {
         Part::Sparse(self)
     }
 }
 
 impl Object for Sparse {
     #[tactic(auto, using(crate::proofs::Past::past), unfolding(gltf_data::specs::AccessorTable::sparse_rows, gltf_data::specs::AccessorTable::sparse_indices_rows, gltf_data::specs::AccessorTable::sparse_values_rows, gltf_data::specs::AccessorTrees::sparse_members))]
-    fn next<'a>(&'a self, number: usize, root: &Root) -> Next<'a> {
+    fn next<'a>(&'a self, number: usize, context: &Context<'_>) -> Next<'a> {
         match number {
-            0 => member("indices", &self.indices, root),
-            1 => member("values", &self.values, root),
+            0 => member("indices", &self.indices, context),
+            1 => member("values", &self.values, context),
             _ => Next::Done,
         }
     }
@@ -74,17 +73,17 @@ impl Visited for Indices {
 
     ghost tree = { λ v. closed_object (sparse_indices_members v) };
 
-    fn part<'a>(&'a self, _root: &Root) -> Part<'a> {
+    fn part<'a>(&'a self, _context: &Context<'_>) -> Part<'a> {
         Part::SparseIndices(self)
     }
 }
 
 impl Object for Indices {
     #[tactic(auto, using(crate::proofs::Past::past), unfolding(gltf_data::specs::AccessorTable::sparse_indices_rows, gltf_data::specs::AccessorTrees::sparse_indices_members))]
-    fn next<'a>(&'a self, number: usize, root: &Root) -> Next<'a> {
+    fn next<'a>(&'a self, number: usize, context: &Context<'_>) -> Next<'a> {
         match number {
-            0 => member("bufferView", &self.buffer_view, root),
-            1 => member("componentType", &self.component_type, root),
+            0 => member("bufferView", &self.buffer_view, context),
+            1 => member("componentType", &self.component_type, context),
             _ => Next::Done,
         }
     }
@@ -95,16 +94,16 @@ impl Visited for Values {
 
     ghost tree = { λ v. closed_object (sparse_values_members v) };
 
-    fn part<'a>(&'a self, _root: &Root) -> Part<'a> {
+    fn part<'a>(&'a self, _context: &Context<'_>) -> Part<'a> {
         Part::SparseValues(self)
     }
 }
 
 impl Object for Values {
     #[tactic(auto, using(crate::proofs::Past::past), unfolding(gltf_data::specs::AccessorTable::sparse_values_rows, gltf_data::specs::AccessorTrees::sparse_values_members))]
-    fn next<'a>(&'a self, number: usize, root: &Root) -> Next<'a> {
+    fn next<'a>(&'a self, number: usize, context: &Context<'_>) -> Next<'a> {
         match number {
-            0 => member("bufferView", &self.buffer_view, root),
+            0 => member("bufferView", &self.buffer_view, context),
             _ => Next::Done,
         }
     }

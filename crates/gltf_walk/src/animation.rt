@@ -11,24 +11,24 @@ use crate::part::Part;
 use crate::visited::{Object, Visited};
 use gltf_animations::animation::{Animation, Sampler, Target};
 use gltf_base::Step;
-use gltf_root::root::Root;
+use gltf_faults::Context;
 
 impl Visited for Target {
     ghost kind = { animation_target_kind };
 
     ghost tree = { λ v. closed_object (animation_target_members v) };
 
-    fn part<'a>(&'a self, _root: &Root) -> Part<'a> {
+    fn part<'a>(&'a self, _context: &Context<'_>) -> Part<'a> {
         Part::Target(self)
     }
 }
 
 impl Object for Target {
     #[tactic(auto, using(crate::proofs::Past::past), unfolding(gltf_animations::specs::AnimationTable::animation_target_rows, gltf_animations::specs::AnimationTrees::animation_target_members))]
-    fn next<'a>(&'a self, number: usize, root: &Root) -> Next<'a> {
+    fn next<'a>(&'a self, number: usize, context: &Context<'_>) -> Next<'a> {
         match number {
-            0 => member("node", &self.node, root),
-            1 => member("path", &self.path, root),
+            0 => member("node", &self.node, context),
+            1 => member("path", &self.path, context),
             _ => Next::Done,
         }
     }
@@ -39,18 +39,18 @@ impl Visited for Sampler {
 
     ghost tree = { λ v. closed_object (animation_sampler_members v) };
 
-    fn part<'a>(&'a self, _root: &Root) -> Part<'a> {
+    fn part<'a>(&'a self, _context: &Context<'_>) -> Part<'a> {
         Part::AnimationSampler(self)
     }
 }
 
 impl Object for Sampler {
     #[tactic(auto, using(crate::proofs::Past::past), unfolding(gltf_animations::specs::AnimationTable::animation_sampler_rows, gltf_animations::specs::AnimationTrees::animation_sampler_members))]
-    fn next<'a>(&'a self, number: usize, root: &Root) -> Next<'a> {
+    fn next<'a>(&'a self, number: usize, context: &Context<'_>) -> Next<'a> {
         match number {
-            0 => member("input", &self.input, root),
-            1 => member("interpolation", &self.interpolation, root),
-            2 => member("output", &self.output, root),
+            0 => member("input", &self.input, context),
+            1 => member("interpolation", &self.interpolation, context),
+            2 => member("output", &self.output, context),
             _ => Next::Done,
         }
     }
@@ -61,7 +61,7 @@ impl Visited for Vec<Sampler> {
 
     ghost tree = { λ v. list_tree (λ x. closed_object (animation_sampler_members x)) v.items };
 
-    fn part<'a>(&'a self, _root: &Root) -> Part<'a> {
+    fn part<'a>(&'a self, _context: &Context<'_>) -> Part<'a> {
         Part::AnimationSamplers(self)
     }
 }
@@ -71,16 +71,16 @@ impl Visited for Animation {
 
     ghost tree = { λ v. closed_object (animation_members v) };
 
-    fn part<'a>(&'a self, _root: &Root) -> Part<'a> {
+    fn part<'a>(&'a self, _context: &Context<'_>) -> Part<'a> {
         Part::Animation(self)
     }
 }
 
 impl Object for Animation {
     #[tactic(auto, using(crate::proofs::Past::past), unfolding(gltf_animations::specs::AnimationTable::animation_rows, gltf_animations::specs::AnimationTable::animation_channel_rows, gltf_animations::specs::AnimationTable::animation_sampler_rows, gltf_animations::specs::AnimationTrees::animation_members))]
-    fn next<'a>(&'a self, number: usize, root: &Root) -> Next<'a> {
+    fn next<'a>(&'a self, number: usize, context: &Context<'_>) -> Next<'a> {
         match number {
-            0 => member("samplers", &self.samplers, root),
+            0 => member("samplers", &self.samplers, context),
             1 => Next::Down(Step::Field("channels"), Part::Channels(self)),
             _ => Next::Done,
         }
@@ -92,7 +92,7 @@ impl Visited for Vec<Animation> {
 
     ghost tree = { λ v. list_tree (λ x. closed_object (animation_members x)) v.items };
 
-    fn part<'a>(&'a self, _root: &Root) -> Part<'a> {
+    fn part<'a>(&'a self, _context: &Context<'_>) -> Part<'a> {
         Part::Animations(self)
     }
 }

@@ -13,25 +13,25 @@ use crate::part::Part;
 use crate::visited::{Object, Visited};
 use gltf_data::buffer::View;
 use gltf_data::image::Image;
-use gltf_root::root::Root;
+use gltf_faults::Context;
 
 impl Visited for View {
     ghost kind = { view_kind };
 
     ghost tree = { λ v. closed_object (view_members v) };
 
-    fn part<'a>(&'a self, _root: &Root) -> Part<'a> {
+    fn part<'a>(&'a self, _context: &Context<'_>) -> Part<'a> {
         Part::View(self)
     }
 }
 
 impl Object for View {
     #[tactic(auto, using(crate::proofs::Past::past), unfolding(gltf_data::specs::BufferTable::view_rows, gltf_data::specs::BufferTrees::view_members))]
-    fn next<'a>(&'a self, number: usize, root: &Root) -> Next<'a> {
+    fn next<'a>(&'a self, number: usize, context: &Context<'_>) -> Next<'a> {
         match number {
-            0 => member("buffer", &self.buffer, root),
-            1 => member("byteStride", &self.byte_stride, root),
-            2 => member("target", &self.target, root),
+            0 => member("buffer", &self.buffer, context),
+            1 => member("byteStride", &self.byte_stride, context),
+            2 => member("target", &self.target, context),
             _ => Next::Done,
         }
     }
@@ -42,7 +42,7 @@ impl Visited for Vec<View> {
 
     ghost tree = { λ v. list_tree (λ x. closed_object (view_members x)) v.items };
 
-    fn part<'a>(&'a self, _root: &Root) -> Part<'a> {
+    fn part<'a>(&'a self, _context: &Context<'_>) -> Part<'a> {
         Part::Views(self)
     }
 }
@@ -52,16 +52,16 @@ impl Visited for Image {
 
     ghost tree = { λ v. closed_object (image_members v) };
 
-    fn part<'a>(&'a self, _root: &Root) -> Part<'a> {
+    fn part<'a>(&'a self, _context: &Context<'_>) -> Part<'a> {
         Part::Image(self)
     }
 }
 
 impl Object for Image {
     #[tactic(auto, using(crate::proofs::Past::past), unfolding(gltf_data::specs::ImageTable::image_rows, gltf_data::specs::ImageTrees::image_members))]
-    fn next<'a>(&'a self, number: usize, root: &Root) -> Next<'a> {
+    fn next<'a>(&'a self, number: usize, context: &Context<'_>) -> Next<'a> {
         match number {
-            0 => member("bufferView", &self.buffer_view, root),
+            0 => member("bufferView", &self.buffer_view, context),
             _ => Next::Done,
         }
     }
@@ -72,7 +72,7 @@ impl Visited for Vec<Image> {
 
     ghost tree = { λ v. list_tree (λ x. closed_object (image_members x)) v.items };
 
-    fn part<'a>(&'a self, _root: &Root) -> Part<'a> {
+    fn part<'a>(&'a self, _context: &Context<'_>) -> Part<'a> {
         Part::Images(self)
     }
 }

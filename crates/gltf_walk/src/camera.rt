@@ -9,25 +9,24 @@ ghost use Rattle.gltf_schema.specs.Kind.{ListOf};
 use crate::next::{Next, member, told};
 use crate::part::Part;
 use crate::visited::{Object, Visited};
-use gltf_faults::projection_fault;
+use gltf_faults::{Context, projection_fault};
 use gltf_nodes::camera::Camera;
-use gltf_root::root::Root;
 
 impl Visited for Camera {
     ghost kind = { camera_kind };
 
     ghost tree = { λ v. closed_object (camera_members v) };
 
-    fn part<'a>(&'a self, _root: &Root) -> Part<'a> {
+    fn part<'a>(&'a self, _context: &Context<'_>) -> Part<'a> {
         Part::Camera(self)
     }
 }
 
 impl Object for Camera {
     #[tactic(auto, using(crate::proofs::Past::past), unfolding(gltf_nodes::specs::CameraTable::camera_rows, gltf_nodes::specs::CameraTable::orthographic_rows, gltf_nodes::specs::CameraTable::perspective_rows, gltf_nodes::specs::CameraTrees::camera_members))]
-    fn next<'a>(&'a self, number: usize, root: &Root) -> Next<'a> {
+    fn next<'a>(&'a self, number: usize, context: &Context<'_>) -> Next<'a> {
         match number {
-            0 => member("type", &self.type_, root),
+            0 => member("type", &self.type_, context),
             1 => told(projection_fault(self)),
             _ => Next::Done,
         }
@@ -39,7 +38,7 @@ impl Visited for Vec<Camera> {
 
     ghost tree = { λ v. list_tree (λ x. closed_object (camera_members x)) v.items };
 
-    fn part<'a>(&'a self, _root: &Root) -> Part<'a> {
+    fn part<'a>(&'a self, _context: &Context<'_>) -> Part<'a> {
         Part::Cameras(self)
     }
 }

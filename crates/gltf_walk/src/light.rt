@@ -9,25 +9,24 @@ ghost use Rattle.gltf_schema.specs.Kind.{ListOf};
 use crate::next::{Next, found, member};
 use crate::part::Part;
 use crate::visited::{Object, Visited};
-use gltf_faults::spot_fault;
+use gltf_faults::{Context, spot_fault};
 use gltf_nodes::extensions::scene::khr_lights_punctual::{KhrLightsPunctual, Light};
-use gltf_root::root::Root;
 
 impl Visited for Light {
     ghost kind = { light_kind };
 
     ghost tree = { λ v. closed_object (light_members v) };
 
-    fn part<'a>(&'a self, _root: &Root) -> Part<'a> {
+    fn part<'a>(&'a self, _context: &Context<'_>) -> Part<'a> {
         Part::Light(self)
     }
 }
 
 impl Object for Light {
     #[tactic(auto, using(crate::proofs::Past::past), unfolding(gltf_nodes::specs::LightTable::light_rows, gltf_nodes::specs::LightTable::spot_rows, gltf_nodes::specs::LightTrees::light_members))]
-    fn next<'a>(&'a self, number: usize, root: &Root) -> Next<'a> {
+    fn next<'a>(&'a self, number: usize, context: &Context<'_>) -> Next<'a> {
         match number {
-            0 => member("type", &self.type_, root),
+            0 => member("type", &self.type_, context),
             1 => found("spot", spot_fault(self)),
             _ => Next::Done,
         }
@@ -39,7 +38,7 @@ impl Visited for Vec<Light> {
 
     ghost tree = { λ v. list_tree (λ x. closed_object (light_members x)) v.items };
 
-    fn part<'a>(&'a self, _root: &Root) -> Part<'a> {
+    fn part<'a>(&'a self, _context: &Context<'_>) -> Part<'a> {
         Part::LightList(self)
     }
 }
@@ -49,16 +48,16 @@ impl Visited for KhrLightsPunctual {
 
     ghost tree = { λ v. closed_object (light_of_node_members v) };
 
-    fn part<'a>(&'a self, _root: &Root) -> Part<'a> {
+    fn part<'a>(&'a self, _context: &Context<'_>) -> Part<'a> {
         Part::NodeLight(self)
     }
 }
 
 impl Object for KhrLightsPunctual {
     #[tactic(auto, using(crate::proofs::Past::past), unfolding(gltf_nodes::specs::LightTable::light_of_node_rows, gltf_nodes::specs::LightTrees::light_of_node_members))]
-    fn next<'a>(&'a self, number: usize, root: &Root) -> Next<'a> {
+    fn next<'a>(&'a self, number: usize, context: &Context<'_>) -> Next<'a> {
         match number {
-            0 => member("light", &self.light, root),
+            0 => member("light", &self.light, context),
             _ => Next::Done,
         }
     }

@@ -5,10 +5,10 @@ ghost use Rattle.std.specs.Prelude.{◌≡◌, ◌+◌, ◌<◌, ◌^◌, []};
 ghost use Rattle.gltf_animations.specs.AnimationTable.{animation_channel_kind};
 ghost use Rattle.gltf_animations.specs.AnimationTrees.{animation_channel_members, animation_members};
 ghost use Rattle.gltf_paths.specs.Lists.{ListName};
-ghost use Rattle.gltf_root.specs.RootTrees.{root_tree};
 ghost use Rattle.gltf_schema.specs.Fields.{attributes_tree, closed_object, list_tree, text_tree};
 ghost use Rattle.gltf_schema.specs.Kind.{Attributes, ListOf};
 ghost use Rattle.gltf_schema.specs.Tree.{absent, items_in};
+ghost use Rattle.gltf_faults.specs.Context.{context_of};
 ghost use Rattle.gltf_walk.specs.Parts.{found_plan, move_of, IsMore};
 ghost use Rattle.gltf_walk.specs.Plan.{at, leaf, place};
 ghost use Rattle.gltf_walk.specs.Planned.{at_positions, entry_plan, item_plans, name_plan, planned};
@@ -21,13 +21,14 @@ use gltf_base::mesh::Semantic;
 use gltf_base::validation::{Checked, Error};
 use gltf_base::{Index, KeyStep, Step};
 use gltf_data::accessor::Accessor;
-use gltf_faults::{PositionFaults, choice_fault, extension_fault, index_fault, sampler_fault};
-use gltf_root::root::Root;
+use gltf_faults::{
+    Context, PositionFaults, choice_fault, extension_fault, index_fault, sampler_fault,
+};
 use std::collections::BTreeMap;
 
 /// A place with nothing below, at which something is wrong or not.
 pub(crate) fn leaf_at<'a>(fault: Option<Error>, number: usize) -> Next<'a>
-    ensures comes { (root : _) → move_of root result ≡ at (leaf fault) number }
+    ensures comes { (context : _) → move_of context result ≡ at (leaf fault) number }
     ensures small { IsMore result → number + 1 < 2 ^ 64 }
 {
     match number {
@@ -37,12 +38,16 @@ pub(crate) fn leaf_at<'a>(fault: Option<Error>, number: usize) -> Next<'a>
 }
 
 /// The item of a list at a number.
-pub(crate) fn item_at<'a, T: Visited>(items: &'a Vec<T>, number: usize, root: &Root) -> Next<'a>
-    ensures comes { move_of (root_tree root.now) result ≡ at (planned (ListOf T.kind) (list_tree T.tree items.now.items) (root_tree root.now) absent) number }
+pub(crate) fn item_at<'a, T: Visited>(
+    items: &'a Vec<T>,
+    number: usize,
+    context: &Context<'_>,
+) -> Next<'a>
+    ensures comes { move_of (context_of context.now) result ≡ at (planned (ListOf T.kind) (list_tree T.tree items.now.items) (context_of context.now) absent) number }
     ensures small { IsMore result → number + 1 < 2 ^ 64 }
 {
     match items.get(number) {
-        Some(item) => Next::Down(Step::Index(number), item.part(root)),
+        Some(item) => Next::Down(Step::Index(number), item.part(context)),
         None => Next::Done,
     }
 }
@@ -51,14 +56,14 @@ pub(crate) fn item_at<'a, T: Visited>(items: &'a Vec<T>, number: usize, root: &R
 pub(crate) fn attribute_at<'a>(
     attributes: &'a BTreeMap<Checked<Semantic>, Index<Accessor>>,
     number: usize,
-    root: &Root,
+    context: &Context<'_>,
 ) -> Next<'a>
-    ensures comes { move_of (root_tree root.now) result ≡ at (planned (Attributes ListName.accessors) (attributes_tree attributes.now) (root_tree root.now) absent) number }
+    ensures comes { move_of (context_of context.now) result ≡ at (planned (Attributes ListName.accessors) (attributes_tree attributes.now) (context_of context.now) absent) number }
     ensures small { IsMore result → number + 1 < 2 ^ 64 }
 {
     for (i, (semantic, index)) in attributes.iter().enumerate() {
         if i == number {
-            let part = Part::Attribute(choice_fault(semantic), index_fault(index, root));
+            let part = Part::Attribute(choice_fault(semantic), index_fault(index, context.root));
             return Next::Down(semantic.key_step(), part);
         }
     }
@@ -67,7 +72,7 @@ pub(crate) fn attribute_at<'a>(
 
 /// What comes at a number in an attribute: what is wrong with its key, and with its index.
 pub(crate) fn in_attribute<'a>(key: Option<Error>, index: Option<Error>, number: usize) -> Next<'a>
-    ensures comes { (root : _) → move_of root result ≡ at (entry_plan key index) number }
+    ensures comes { (context : _) → move_of context result ≡ at (entry_plan key index) number }
     ensures small { IsMore result → number + 1 < 2 ^ 64 }
 {
     match (key, index) {
@@ -83,8 +88,8 @@ pub(crate) fn in_attribute<'a>(key: Option<Error>, index: Option<Error>, number:
 
 /// The channel of an animation at a number.
 pub(crate) fn channel_at<'a>(animation: &'a Animation, number: usize) -> Next<'a>
-    ensures comes { (root : _) → move_of root result ≡ at (planned (ListOf animation_channel_kind)
-        (list_tree (λ x. closed_object (animation_channel_members x)) animation.now.channels.items) root (closed_object (animation_members animation.now))) number }
+    ensures comes { (context : _) → move_of context result ≡ at (planned (ListOf animation_channel_kind)
+        (list_tree (λ x. closed_object (animation_channel_members x)) animation.now.channels.items) context (closed_object (animation_members animation.now))) number }
     ensures small { IsMore result → number + 1 < 2 ^ 64 }
 {
     match animation.channels.get(number) {
@@ -99,22 +104,22 @@ pub(crate) fn in_channel<'a>(
     channel: &'a Channel,
     animation: &Animation,
     number: usize,
-    root: &Root,
+    context: &Context<'_>,
 ) -> Next<'a>
-    ensures comes { move_of (root_tree root.now) result ≡ at (planned animation_channel_kind (closed_object (animation_channel_members channel.now))
-        (root_tree root.now) (closed_object (animation_members animation.now))) number }
+    ensures comes { move_of (context_of context.now) result ≡ at (planned animation_channel_kind (closed_object (animation_channel_members channel.now))
+        (context_of context.now) (closed_object (animation_members animation.now))) number }
     ensures small { IsMore result → number + 1 < 2 ^ 64 }
 {
     match number {
         0 => found("sampler", sampler_fault(channel, animation)),
-        1 => member("target", &channel.target, root),
+        1 => member("target", &channel.target, context),
         _ => Next::Done,
     }
 }
 
 /// What comes at a number in the attributes of a primitive, as its rule looks at them.
 pub(crate) fn at_attributes<'a>(faults: PositionFaults, number: usize) -> Next<'a>
-    ensures comes { (root : _) → move_of root result ≡ at (at_positions (found_plan faults)) number }
+    ensures comes { (context : _) → move_of context result ≡ at (at_positions (found_plan faults)) number }
     ensures small { IsMore result → number + 1 < 2 ^ 64 }
 {
     match number {
@@ -126,7 +131,7 @@ pub(crate) fn at_attributes<'a>(faults: PositionFaults, number: usize) -> Next<'
 /// What comes at a number in the positions of a primitive: the bounds of their accessor, and that
 /// there are none.
 pub(crate) fn in_positions<'a>(faults: PositionFaults, number: usize) -> Next<'a>
-    ensures comes { (root : _) → move_of root result ≡ at (found_plan faults) number }
+    ensures comes { (context : _) → move_of context result ≡ at (found_plan faults) number }
     ensures small { IsMore result → number + 1 < 2 ^ 64 }
 {
     match number {
@@ -139,7 +144,7 @@ pub(crate) fn in_positions<'a>(faults: PositionFaults, number: usize) -> Next<'a
 
 /// The required extension at a number.
 pub(crate) fn extension_at<'a>(names: &'a Vec<String>, number: usize) -> Next<'a>
-    ensures comes { (root : _) → move_of root result ≡ at (place (item_plans name_plan 0 (items_in (list_tree text_tree names.now.items))) []) number }
+    ensures comes { (context : _) → move_of context result ≡ at (place (item_plans (name_plan context.rules.enabled) 0 (items_in (list_tree text_tree names.now.items))) []) number }
     ensures small { IsMore result → number + 1 < 2 ^ 64 }
 {
     match names.get(number) {
@@ -149,12 +154,15 @@ pub(crate) fn extension_at<'a>(names: &'a Vec<String>, number: usize) -> Next<'a
 }
 
 /// What comes at a number in the name of a required extension: the name, as a step.
-pub(crate) fn in_extension<'a>(name: &'a String, number: usize) -> Next<'a>
-    ensures comes { (root : _) → move_of root result ≡ at (name_plan (text_tree name.now)) number }
+pub(crate) fn in_extension<'a>(name: &'a String, number: usize, context: &Context<'_>) -> Next<'a>
+    ensures comes { move_of (context_of context.now) result ≡ at (name_plan (context_of context.now).rules.enabled (text_tree name.now)) number }
     ensures small { IsMore result → number + 1 < 2 ^ 64 }
 {
     match number {
-        0 => Next::Down(Step::Value(name), Part::Leaf(extension_fault(name))),
+        0 => Next::Down(
+            Step::Value(name),
+            Part::Leaf(extension_fault(context.rules, name)),
+        ),
         _ => Next::Done,
     }
 }

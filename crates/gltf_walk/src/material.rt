@@ -9,29 +9,33 @@ ghost use Rattle.gltf_schema.specs.Kind.{ListOf};
 use crate::next::{Next, member};
 use crate::part::Part;
 use crate::visited::{Object, Visited};
+use gltf_faults::Context;
 use gltf_materials::material::{Material, NormalTexture, OcclusionTexture, PbrMetallicRoughness};
-use gltf_root::root::Root;
 
 impl Visited for Material {
     ghost kind = { material_kind };
 
     ghost tree = { λ v. closed_object (material_members v) };
 
-    fn part<'a>(&'a self, _root: &Root) -> Part<'a> {
+    fn part<'a>(&'a self, _context: &Context<'_>) -> Part<'a> {
         Part::Material(self)
     }
 }
 
 impl Object for Material {
     #[tactic(auto, using(crate::proofs::Past::past), unfolding(gltf_materials::specs::MaterialTable::material_rows, gltf_textures::specs::TextureTable::info_rows, gltf_shading::specs::MaterialExtensionTable::material_extension_rows, gltf_materials::specs::MaterialTable::normal_texture_rows, gltf_materials::specs::MaterialTable::occlusion_texture_rows, gltf_materials::specs::MaterialTable::pbr_metallic_roughness_rows, gltf_shading::specs::MaterialExtensionTable::pbr_specular_glossiness_rows, gltf_materials::specs::MaterialTrees::material_members))]
-    fn next<'a>(&'a self, number: usize, root: &Root) -> Next<'a> {
+    fn next<'a>(&'a self, number: usize, context: &Context<'_>) -> Next<'a> {
         match number {
-            0 => member("alphaMode", &self.alpha_mode, root),
-            1 => member("pbrMetallicRoughness", &self.pbr_metallic_roughness, root),
-            2 => member("normalTexture", &self.normal_texture, root),
-            3 => member("occlusionTexture", &self.occlusion_texture, root),
-            4 => member("emissiveTexture", &self.emissive_texture, root),
-            5 => member("extensions", &self.extensions, root),
+            0 => member("alphaMode", &self.alpha_mode, context),
+            1 => member(
+                "pbrMetallicRoughness",
+                &self.pbr_metallic_roughness,
+                context,
+            ),
+            2 => member("normalTexture", &self.normal_texture, context),
+            3 => member("occlusionTexture", &self.occlusion_texture, context),
+            4 => member("emissiveTexture", &self.emissive_texture, context),
+            5 => member("extensions", &self.extensions, context),
             _ => Next::Done,
         }
     }
@@ -42,7 +46,7 @@ impl Visited for Vec<Material> {
 
     ghost tree = { λ v. list_tree (λ x. closed_object (material_members x)) v.items };
 
-    fn part<'a>(&'a self, _root: &Root) -> Part<'a> {
+    fn part<'a>(&'a self, _context: &Context<'_>) -> Part<'a> {
         Part::Materials(self)
     }
 }
@@ -52,20 +56,20 @@ impl Visited for PbrMetallicRoughness {
 
     ghost tree = { λ v. closed_object (pbr_metallic_roughness_members v) };
 
-    fn part<'a>(&'a self, _root: &Root) -> Part<'a> {
+    fn part<'a>(&'a self, _context: &Context<'_>) -> Part<'a> {
         Part::PbrMetallicRoughness(self)
     }
 }
 
 impl Object for PbrMetallicRoughness {
     #[tactic(auto, using(crate::proofs::Past::past), unfolding(gltf_materials::specs::MaterialTable::pbr_metallic_roughness_rows, gltf_textures::specs::TextureTable::info_rows, gltf_materials::specs::MaterialTrees::pbr_metallic_roughness_members))]
-    fn next<'a>(&'a self, number: usize, root: &Root) -> Next<'a> {
+    fn next<'a>(&'a self, number: usize, context: &Context<'_>) -> Next<'a> {
         match number {
-            0 => member("baseColorTexture", &self.base_color_texture, root),
+            0 => member("baseColorTexture", &self.base_color_texture, context),
             1 => member(
                 "metallicRoughnessTexture",
                 &self.metallic_roughness_texture,
-                root,
+                context,
             ),
             _ => Next::Done,
         }
@@ -77,16 +81,16 @@ impl Visited for NormalTexture {
 
     ghost tree = { λ v. closed_object (normal_texture_members v) };
 
-    fn part<'a>(&'a self, _root: &Root) -> Part<'a> {
+    fn part<'a>(&'a self, _context: &Context<'_>) -> Part<'a> {
         Part::NormalTexture(self)
     }
 }
 
 impl Object for NormalTexture {
     #[tactic(auto, using(crate::proofs::Past::past), unfolding(gltf_materials::specs::MaterialTable::normal_texture_rows, gltf_materials::specs::MaterialTrees::normal_texture_members))]
-    fn next<'a>(&'a self, number: usize, root: &Root) -> Next<'a> {
+    fn next<'a>(&'a self, number: usize, context: &Context<'_>) -> Next<'a> {
         match number {
-            0 => member("index", &self.index, root),
+            0 => member("index", &self.index, context),
             _ => Next::Done,
         }
     }
@@ -97,16 +101,16 @@ impl Visited for OcclusionTexture {
 
     ghost tree = { λ v. closed_object (occlusion_texture_members v) };
 
-    fn part<'a>(&'a self, _root: &Root) -> Part<'a> {
+    fn part<'a>(&'a self, _context: &Context<'_>) -> Part<'a> {
         Part::OcclusionTexture(self)
     }
 }
 
 impl Object for OcclusionTexture {
     #[tactic(auto, using(crate::proofs::Past::past), unfolding(gltf_materials::specs::MaterialTable::occlusion_texture_rows, gltf_materials::specs::MaterialTrees::occlusion_texture_members))]
-    fn next<'a>(&'a self, number: usize, root: &Root) -> Next<'a> {
+    fn next<'a>(&'a self, number: usize, context: &Context<'_>) -> Next<'a> {
         match number {
-            0 => member("index", &self.index, root),
+            0 => member("index", &self.index, context),
             _ => Next::Done,
         }
     }

@@ -10,25 +10,24 @@ use crate::next::{Next, member};
 use crate::part::Part;
 use crate::visited::{Object, Visited};
 use gltf_base::Step;
-use gltf_faults::position_faults;
+use gltf_faults::{Context, position_faults};
 use gltf_meshes::mesh::{Mesh, MorphTarget, Primitive};
-use gltf_root::root::Root;
 
 impl Visited for Mesh {
     ghost kind = { mesh_kind };
 
     ghost tree = { λ v. closed_object (mesh_members v) };
 
-    fn part<'a>(&'a self, _root: &Root) -> Part<'a> {
+    fn part<'a>(&'a self, _context: &Context<'_>) -> Part<'a> {
         Part::Mesh(self)
     }
 }
 
 impl Object for Mesh {
     #[tactic(auto, using(crate::proofs::Past::past), unfolding(gltf_meshes::specs::MeshTable::mesh_rows, gltf_meshes::specs::MeshTrees::mesh_members))]
-    fn next<'a>(&'a self, number: usize, root: &Root) -> Next<'a> {
+    fn next<'a>(&'a self, number: usize, context: &Context<'_>) -> Next<'a> {
         match number {
-            0 => member("primitives", &self.primitives, root),
+            0 => member("primitives", &self.primitives, context),
             _ => Next::Done,
         }
     }
@@ -39,7 +38,7 @@ impl Visited for Vec<Mesh> {
 
     ghost tree = { λ v. list_tree (λ x. closed_object (mesh_members x)) v.items };
 
-    fn part<'a>(&'a self, _root: &Root) -> Part<'a> {
+    fn part<'a>(&'a self, _context: &Context<'_>) -> Part<'a> {
         Part::Meshes(self)
     }
 }
@@ -49,23 +48,23 @@ impl Visited for Primitive {
 
     ghost tree = { λ v. closed_object (primitive_members v) };
 
-    fn part<'a>(&'a self, _root: &Root) -> Part<'a> {
+    fn part<'a>(&'a self, _context: &Context<'_>) -> Part<'a> {
         Part::Primitive(self)
     }
 }
 
 impl Object for Primitive {
     #[tactic(auto, using(crate::proofs::Past::past), unfolding(gltf_meshes::specs::MeshTable::primitive_rows, gltf_meshes::specs::MeshTable::morph_target_rows, gltf_meshes::specs::MeshTable::primitive_extension_rows, gltf_meshes::specs::MeshTable::variant_mapping_rows, gltf_meshes::specs::MeshTable::variant_mappings_rows, gltf_meshes::specs::MeshTrees::primitive_members))]
-    fn next<'a>(&'a self, number: usize, root: &Root) -> Next<'a> {
+    fn next<'a>(&'a self, number: usize, context: &Context<'_>) -> Next<'a> {
         match number {
-            0 => member("attributes", &self.attributes, root),
-            1 => member("indices", &self.indices, root),
-            2 => member("material", &self.material, root),
-            3 => member("mode", &self.mode, root),
-            4 => member("targets", &self.targets, root),
+            0 => member("attributes", &self.attributes, context),
+            1 => member("indices", &self.indices, context),
+            2 => member("material", &self.material, context),
+            3 => member("mode", &self.mode, context),
+            4 => member("targets", &self.targets, context),
             5 => Next::Down(
                 Step::Field("attributes"),
-                Part::AtPositions(position_faults(self, root)),
+                Part::AtPositions(position_faults(self, context.root)),
             ),
             _ => Next::Done,
         }
@@ -77,7 +76,7 @@ impl Visited for Vec<Primitive> {
 
     ghost tree = { λ v. list_tree (λ x. closed_object (primitive_members x)) v.items };
 
-    fn part<'a>(&'a self, _root: &Root) -> Part<'a> {
+    fn part<'a>(&'a self, _context: &Context<'_>) -> Part<'a> {
         Part::Primitives(self)
     }
 }
@@ -87,18 +86,18 @@ impl Visited for MorphTarget {
 
     ghost tree = { λ v. closed_object (morph_target_members v) };
 
-    fn part<'a>(&'a self, _root: &Root) -> Part<'a> {
+    fn part<'a>(&'a self, _context: &Context<'_>) -> Part<'a> {
         Part::MorphTarget(self)
     }
 }
 
 impl Object for MorphTarget {
     #[tactic(auto, using(crate::proofs::Past::past), unfolding(gltf_meshes::specs::MeshTable::morph_target_rows, gltf_meshes::specs::MeshTrees::morph_target_members))]
-    fn next<'a>(&'a self, number: usize, root: &Root) -> Next<'a> {
+    fn next<'a>(&'a self, number: usize, context: &Context<'_>) -> Next<'a> {
         match number {
-            0 => member("POSITION", &self.positions, root),
-            1 => member("NORMAL", &self.normals, root),
-            2 => member("TANGENT", &self.tangents, root),
+            0 => member("POSITION", &self.positions, context),
+            1 => member("NORMAL", &self.normals, context),
+            2 => member("TANGENT", &self.tangents, context),
             _ => Next::Done,
         }
     }
@@ -109,7 +108,7 @@ impl Visited for Vec<MorphTarget> {
 
     ghost tree = { λ v. list_tree (λ x. closed_object (morph_target_members x)) v.items };
 
-    fn part<'a>(&'a self, _root: &Root) -> Part<'a> {
+    fn part<'a>(&'a self, _context: &Context<'_>) -> Part<'a> {
         Part::MorphTargets(self)
     }
 }

@@ -2,8 +2,8 @@
 
 ghost use Rattle.std.specs.Prelude.{◌≡◌};
 ghost use Rattle.gltf_paths.specs.Steps.{field};
-ghost use Rattle.gltf_root.specs.RootTrees.{root_tree};
 ghost use Rattle.gltf_schema.specs.Tree.{absent};
+ghost use Rattle.gltf_faults.specs.Context.{context_of};
 ghost use Rattle.gltf_walk.specs.Parts.{move_of};
 ghost use Rattle.gltf_walk.specs.Plan.{down, first, leaf};
 ghost use Rattle.gltf_walk.specs.Planned.{planned};
@@ -12,7 +12,7 @@ use crate::part::Part;
 use crate::visited::Visited;
 use gltf_base::Step;
 use gltf_base::validation::Error;
-use gltf_root::root::Root;
+use gltf_faults::Context;
 
 /// What comes next in a part of a document.
 #[derive(Clone, Copy, Drop)]
@@ -26,22 +26,26 @@ pub(crate) enum Next<'a> {
 }
 
 /// A member of an object.
-pub(crate) fn member<'a, T: Visited>(name: &'static str, value: &'a T, root: &Root) -> Next<'a>
-    ensures { move_of (root_tree root.now) result ≡ down (field name.now) (planned T.kind (T.tree value.now) (root_tree root.now) absent) }
+pub(crate) fn member<'a, T: Visited>(
+    name: &'static str,
+    value: &'a T,
+    context: &Context<'_>,
+) -> Next<'a>
+    ensures { move_of (context_of context.now) result ≡ down (field name.now) (planned T.kind (T.tree value.now) (context_of context.now) absent) }
 {
-    Next::Down(Step::Field(name), value.part(root))
+    Next::Down(Step::Field(name), value.part(context))
 }
 
 /// What was found at a member of an object.
 pub(crate) fn found<'a>(name: &'static str, fault: Option<Error>) -> Next<'a>
-    ensures { (root : _) → move_of root result ≡ down (field name.now) (leaf fault) }
+    ensures { (context : _) → move_of context result ≡ down (field name.now) (leaf fault) }
 {
     Next::Down(Step::Field(name), Part::Leaf(fault))
 }
 
 /// What was found at a place itself.
 pub(crate) fn told<'a>(fault: Option<Error>) -> Next<'a>
-    ensures { (root : _) → move_of root result ≡ first (leaf fault) }
+    ensures { (context : _) → move_of context result ≡ first (leaf fault) }
 {
     match fault {
         Some(error) => Next::Fault(error),

@@ -11,30 +11,30 @@ use crate::next::{Next, member};
 use crate::part::Part;
 use crate::visited::{Object, Visited};
 use gltf_base::Index;
+use gltf_faults::Context;
 use gltf_nodes::extensions::scene as extensions;
 use gltf_nodes::scene::{Node, Scene};
 use gltf_nodes::skin::Skin;
-use gltf_root::root::Root;
 
 impl Visited for Node {
     ghost kind = { node_kind };
 
     ghost tree = { λ v. closed_object (node_members v) };
 
-    fn part<'a>(&'a self, _root: &Root) -> Part<'a> {
+    fn part<'a>(&'a self, _context: &Context<'_>) -> Part<'a> {
         Part::Node(self)
     }
 }
 
 impl Object for Node {
     #[tactic(auto, using(crate::proofs::Past::past), unfolding(gltf_nodes::specs::SceneTable::node_rows, gltf_nodes::specs::LightTable::light_of_node_rows, gltf_nodes::specs::SceneTable::node_extension_rows, gltf_nodes::specs::SceneTrees::node_members))]
-    fn next<'a>(&'a self, number: usize, root: &Root) -> Next<'a> {
+    fn next<'a>(&'a self, number: usize, context: &Context<'_>) -> Next<'a> {
         match number {
-            0 => member("camera", &self.camera, root),
-            1 => member("children", &self.children, root),
-            2 => member("extensions", &self.extensions, root),
-            3 => member("mesh", &self.mesh, root),
-            4 => member("skin", &self.skin, root),
+            0 => member("camera", &self.camera, context),
+            1 => member("children", &self.children, context),
+            2 => member("extensions", &self.extensions, context),
+            3 => member("mesh", &self.mesh, context),
+            4 => member("skin", &self.skin, context),
             _ => Next::Done,
         }
     }
@@ -45,7 +45,7 @@ impl Visited for Vec<Node> {
 
     ghost tree = { λ v. list_tree (λ x. closed_object (node_members x)) v.items };
 
-    fn part<'a>(&'a self, _root: &Root) -> Part<'a> {
+    fn part<'a>(&'a self, _context: &Context<'_>) -> Part<'a> {
         Part::Nodes(self)
     }
 }
@@ -55,16 +55,16 @@ impl Visited for extensions::Node {
 
     ghost tree = { node_extensions };
 
-    fn part<'a>(&'a self, _root: &Root) -> Part<'a> {
+    fn part<'a>(&'a self, _context: &Context<'_>) -> Part<'a> {
         Part::NodeExtensions(self)
     }
 }
 
 impl Object for extensions::Node {
     #[tactic(auto, using(crate::proofs::Past::past), unfolding(gltf_nodes::specs::SceneTable::node_extension_rows, gltf_nodes::specs::LightTable::light_of_node_rows, gltf_nodes::specs::SceneTrees::node_extension_members))]
-    fn next<'a>(&'a self, number: usize, root: &Root) -> Next<'a> {
+    fn next<'a>(&'a self, number: usize, context: &Context<'_>) -> Next<'a> {
         match number {
-            0 => member("KHR_lights_punctual", &self.khr_lights_punctual, root),
+            0 => member("KHR_lights_punctual", &self.khr_lights_punctual, context),
             _ => Next::Done,
         }
     }
@@ -75,16 +75,16 @@ impl Visited for Scene {
 
     ghost tree = { λ v. closed_object (scene_members v) };
 
-    fn part<'a>(&'a self, _root: &Root) -> Part<'a> {
+    fn part<'a>(&'a self, _context: &Context<'_>) -> Part<'a> {
         Part::Scene(self)
     }
 }
 
 impl Object for Scene {
     #[tactic(auto, using(crate::proofs::Past::past), unfolding(gltf_nodes::specs::SceneTable::scene_rows, gltf_nodes::specs::SceneTrees::scene_members))]
-    fn next<'a>(&'a self, number: usize, root: &Root) -> Next<'a> {
+    fn next<'a>(&'a self, number: usize, context: &Context<'_>) -> Next<'a> {
         match number {
-            0 => member("nodes", &self.nodes, root),
+            0 => member("nodes", &self.nodes, context),
             _ => Next::Done,
         }
     }
@@ -95,7 +95,7 @@ impl Visited for Vec<Scene> {
 
     ghost tree = { λ v. list_tree (λ x. closed_object (scene_members x)) v.items };
 
-    fn part<'a>(&'a self, _root: &Root) -> Part<'a> {
+    fn part<'a>(&'a self, _context: &Context<'_>) -> Part<'a> {
         Part::Scenes(self)
     }
 }
@@ -105,18 +105,18 @@ impl Visited for Skin {
 
     ghost tree = { λ v. closed_object (skin_members v) };
 
-    fn part<'a>(&'a self, _root: &Root) -> Part<'a> {
+    fn part<'a>(&'a self, _context: &Context<'_>) -> Part<'a> {
         Part::Skin(self)
     }
 }
 
 impl Object for Skin {
     #[tactic(auto, using(crate::proofs::Past::past), unfolding(gltf_nodes::specs::SceneTable::skin_rows, gltf_nodes::specs::SceneTrees::skin_members))]
-    fn next<'a>(&'a self, number: usize, root: &Root) -> Next<'a> {
+    fn next<'a>(&'a self, number: usize, context: &Context<'_>) -> Next<'a> {
         match number {
-            0 => member("inverseBindMatrices", &self.inverse_bind_matrices, root),
-            1 => member("joints", &self.joints, root),
-            2 => member("skeleton", &self.skeleton, root),
+            0 => member("inverseBindMatrices", &self.inverse_bind_matrices, context),
+            1 => member("joints", &self.joints, context),
+            2 => member("skeleton", &self.skeleton, context),
             _ => Next::Done,
         }
     }
@@ -127,7 +127,7 @@ impl Visited for Vec<Skin> {
 
     ghost tree = { λ v. list_tree (λ x. closed_object (skin_members x)) v.items };
 
-    fn part<'a>(&'a self, _root: &Root) -> Part<'a> {
+    fn part<'a>(&'a self, _context: &Context<'_>) -> Part<'a> {
         Part::Skins(self)
     }
 }
@@ -137,7 +137,7 @@ impl Visited for Vec<Index<Node>> {
 
     ghost tree = { λ v. list_tree index_tree v.items };
 
-    fn part<'a>(&'a self, _root: &Root) -> Part<'a> {
+    fn part<'a>(&'a self, _context: &Context<'_>) -> Part<'a> {
         Part::NodeIndexes(self)
     }
 }

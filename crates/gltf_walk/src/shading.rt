@@ -9,7 +9,7 @@ ghost use Rattle.gltf_schema.specs.Fields.{closed_object};
 use crate::next::{Next, member};
 use crate::part::Part;
 use crate::visited::{Object, Visited};
-use gltf_root::root::Root;
+use gltf_faults::Context;
 use gltf_shading::extensions::material as extensions;
 use gltf_shading::extensions::material::{PbrSpecularGlossiness, Specular, Transmission, Volume};
 
@@ -18,23 +18,23 @@ impl Visited for extensions::Material {
 
     ghost tree = { material_extensions };
 
-    fn part<'a>(&'a self, _root: &Root) -> Part<'a> {
+    fn part<'a>(&'a self, _context: &Context<'_>) -> Part<'a> {
         Part::MaterialExtensions(self)
     }
 }
 
 impl Object for extensions::Material {
     #[tactic(auto, using(crate::proofs::Past::past), unfolding(gltf_shading::specs::MaterialExtensionTable::material_extension_rows, gltf_shading::specs::MaterialExtensionTable::emissive_strength_rows, gltf_textures::specs::TextureTable::info_rows, gltf_shading::specs::MaterialExtensionTable::ior_rows, gltf_shading::specs::MaterialExtensionTable::pbr_specular_glossiness_rows, gltf_shading::specs::MaterialExtensionTable::specular_rows, gltf_shading::specs::MaterialExtensionTable::transmission_rows, gltf_shading::specs::MaterialExtensionTable::volume_rows, gltf_shading::specs::MaterialExtensionTrees::material_extension_members))]
-    fn next<'a>(&'a self, number: usize, root: &Root) -> Next<'a> {
+    fn next<'a>(&'a self, number: usize, context: &Context<'_>) -> Next<'a> {
         match number {
             0 => member(
                 "KHR_materials_pbrSpecularGlossiness",
                 &self.pbr_specular_glossiness,
-                root,
+                context,
             ),
-            1 => member("KHR_materials_transmission", &self.transmission, root),
-            2 => member("KHR_materials_volume", &self.volume, root),
-            3 => member("KHR_materials_specular", &self.specular, root),
+            1 => member("KHR_materials_transmission", &self.transmission, context),
+            2 => member("KHR_materials_volume", &self.volume, context),
+            3 => member("KHR_materials_specular", &self.specular, context),
             _ => Next::Done,
         }
     }
@@ -45,20 +45,20 @@ impl Visited for PbrSpecularGlossiness {
 
     ghost tree = { pbr_specular_glossiness_tree };
 
-    fn part<'a>(&'a self, _root: &Root) -> Part<'a> {
+    fn part<'a>(&'a self, _context: &Context<'_>) -> Part<'a> {
         Part::PbrSpecularGlossiness(self)
     }
 }
 
 impl Object for PbrSpecularGlossiness {
     #[tactic(auto, using(crate::proofs::Past::past), unfolding(gltf_shading::specs::MaterialExtensionTable::pbr_specular_glossiness_rows, gltf_textures::specs::TextureTable::info_rows, gltf_shading::specs::MaterialExtensionTrees::pbr_specular_glossiness_members))]
-    fn next<'a>(&'a self, number: usize, root: &Root) -> Next<'a> {
+    fn next<'a>(&'a self, number: usize, context: &Context<'_>) -> Next<'a> {
         match number {
-            0 => member("diffuseTexture", &self.diffuse_texture, root),
+            0 => member("diffuseTexture", &self.diffuse_texture, context),
             1 => member(
                 "specularGlossinessTexture",
                 &self.specular_glossiness_texture,
-                root,
+                context,
             ),
             _ => Next::Done,
         }
@@ -70,16 +70,16 @@ impl Visited for Transmission {
 
     ghost tree = { λ v. closed_object (transmission_members v) };
 
-    fn part<'a>(&'a self, _root: &Root) -> Part<'a> {
+    fn part<'a>(&'a self, _context: &Context<'_>) -> Part<'a> {
         Part::Transmission(self)
     }
 }
 
 impl Object for Transmission {
     #[tactic(auto, using(crate::proofs::Past::past), unfolding(gltf_shading::specs::MaterialExtensionTable::transmission_rows, gltf_textures::specs::TextureTable::info_rows, gltf_shading::specs::MaterialExtensionTrees::transmission_members))]
-    fn next<'a>(&'a self, number: usize, root: &Root) -> Next<'a> {
+    fn next<'a>(&'a self, number: usize, context: &Context<'_>) -> Next<'a> {
         match number {
-            0 => member("transmissionTexture", &self.transmission_texture, root),
+            0 => member("transmissionTexture", &self.transmission_texture, context),
             _ => Next::Done,
         }
     }
@@ -90,16 +90,16 @@ impl Visited for Volume {
 
     ghost tree = { λ v. closed_object (volume_members v) };
 
-    fn part<'a>(&'a self, _root: &Root) -> Part<'a> {
+    fn part<'a>(&'a self, _context: &Context<'_>) -> Part<'a> {
         Part::Volume(self)
     }
 }
 
 impl Object for Volume {
     #[tactic(auto, using(crate::proofs::Past::past), unfolding(gltf_shading::specs::MaterialExtensionTable::volume_rows, gltf_textures::specs::TextureTable::info_rows, gltf_shading::specs::MaterialExtensionTrees::volume_members))]
-    fn next<'a>(&'a self, number: usize, root: &Root) -> Next<'a> {
+    fn next<'a>(&'a self, number: usize, context: &Context<'_>) -> Next<'a> {
         match number {
-            0 => member("thicknessTexture", &self.thickness_texture, root),
+            0 => member("thicknessTexture", &self.thickness_texture, context),
             _ => Next::Done,
         }
     }
@@ -110,17 +110,21 @@ impl Visited for Specular {
 
     ghost tree = { λ v. closed_object (specular_members v) };
 
-    fn part<'a>(&'a self, _root: &Root) -> Part<'a> {
+    fn part<'a>(&'a self, _context: &Context<'_>) -> Part<'a> {
         Part::Specular(self)
     }
 }
 
 impl Object for Specular {
     #[tactic(auto, using(crate::proofs::Past::past), unfolding(gltf_shading::specs::MaterialExtensionTable::specular_rows, gltf_textures::specs::TextureTable::info_rows, gltf_shading::specs::MaterialExtensionTrees::specular_members))]
-    fn next<'a>(&'a self, number: usize, root: &Root) -> Next<'a> {
+    fn next<'a>(&'a self, number: usize, context: &Context<'_>) -> Next<'a> {
         match number {
-            0 => member("specularTexture", &self.specular_texture, root),
-            1 => member("specularColorTexture", &self.specular_color_texture, root),
+            0 => member("specularTexture", &self.specular_texture, context),
+            1 => member(
+                "specularColorTexture",
+                &self.specular_color_texture,
+                context,
+            ),
             _ => Next::Done,
         }
     }

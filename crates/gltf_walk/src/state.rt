@@ -1,6 +1,7 @@
 //! Where a walk stands.
 
 ghost use Rattle.std.specs.Prelude.{◌≤◌, ◌-◌, suc, length};
+ghost use Rattle.gltf_faults.specs.Context.{rules_of, under};
 ghost use Rattle.gltf_root.specs.RootTrees.{root_tree};
 ghost use Rattle.gltf_walk.specs.Parts.{plans_left};
 ghost use Rattle.gltf_walk.specs.Stacks.{reach};
@@ -8,16 +9,18 @@ ghost use Rattle.gltf_walk.specs.Stacks.{reach};
 use crate::part::Frame;
 use arrayvec::ArrayVec;
 use gltf_base::Steps;
+use gltf_faults::Rules;
 use gltf_root::root::Root;
 
-/// A walk over a document from any place, against the document itself or another.
+/// A walk over a document from any place, by any rules, against the document itself or another.
 #[derive(Drop)]
 pub struct Descent<'a> {
+    pub(crate) rules: Rules<'a>,
     pub(crate) root: &'a Root,
     /// The parts below each other that the walk is in.
     pub(crate) frames: ArrayVec<Frame<'a>, 16>,
     pub(crate) steps: Steps<'a>,
-    ghost fits: { reach 0 (plans_left (root_tree root.now) frames.items) ≤ 10 },
+    ghost fits: { reach 0 (plans_left (under (rules_of rules) (root_tree root.now)) frames.items) ≤ 10 },
     ghost beside: { length frames.items ≤ suc (length steps.items) },
 }
 

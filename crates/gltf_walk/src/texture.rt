@@ -9,8 +9,7 @@ ghost use Rattle.gltf_schema.specs.Kind.{ListOf};
 use crate::next::{Next, found, member};
 use crate::part::Part;
 use crate::visited::{Object, Visited};
-use gltf_faults::source_fault;
-use gltf_root::root::Root;
+use gltf_faults::{Context, source_fault};
 use gltf_textures::texture::{Info, Sampler, Texture};
 
 impl Visited for Sampler {
@@ -18,19 +17,19 @@ impl Visited for Sampler {
 
     ghost tree = { λ v. closed_object (sampler_members v) };
 
-    fn part<'a>(&'a self, _root: &Root) -> Part<'a> {
+    fn part<'a>(&'a self, _context: &Context<'_>) -> Part<'a> {
         Part::Sampler(self)
     }
 }
 
 impl Object for Sampler {
     #[tactic(auto, using(crate::proofs::Past::past), unfolding(gltf_textures::specs::TextureTable::sampler_rows, gltf_textures::specs::TextureTrees::sampler_members))]
-    fn next<'a>(&'a self, number: usize, root: &Root) -> Next<'a> {
+    fn next<'a>(&'a self, number: usize, context: &Context<'_>) -> Next<'a> {
         match number {
-            0 => member("magFilter", &self.mag_filter, root),
-            1 => member("minFilter", &self.min_filter, root),
-            2 => member("wrapS", &self.wrap_s, root),
-            3 => member("wrapT", &self.wrap_t, root),
+            0 => member("magFilter", &self.mag_filter, context),
+            1 => member("minFilter", &self.min_filter, context),
+            2 => member("wrapS", &self.wrap_s, context),
+            3 => member("wrapT", &self.wrap_t, context),
             _ => Next::Done,
         }
     }
@@ -41,7 +40,7 @@ impl Visited for Vec<Sampler> {
 
     ghost tree = { λ v. list_tree (λ x. closed_object (sampler_members x)) v.items };
 
-    fn part<'a>(&'a self, _root: &Root) -> Part<'a> {
+    fn part<'a>(&'a self, _context: &Context<'_>) -> Part<'a> {
         Part::Samplers(self)
     }
 }
@@ -51,17 +50,17 @@ impl Visited for Texture {
 
     ghost tree = { λ v. closed_object (texture_members v) };
 
-    fn part<'a>(&'a self, _root: &Root) -> Part<'a> {
+    fn part<'a>(&'a self, _context: &Context<'_>) -> Part<'a> {
         Part::Texture(self)
     }
 }
 
 impl Object for Texture {
     #[tactic(auto, using(crate::proofs::Past::past), unfolding(gltf_textures::specs::TextureTable::texture_rows, gltf_textures::specs::TextureTrees::texture_members))]
-    fn next<'a>(&'a self, number: usize, root: &Root) -> Next<'a> {
+    fn next<'a>(&'a self, number: usize, context: &Context<'_>) -> Next<'a> {
         match number {
-            0 => member("sampler", &self.sampler, root),
-            1 => found("source", source_fault(self, root)),
+            0 => member("sampler", &self.sampler, context),
+            1 => found("source", source_fault(self, context)),
             _ => Next::Done,
         }
     }
@@ -72,7 +71,7 @@ impl Visited for Vec<Texture> {
 
     ghost tree = { λ v. list_tree (λ x. closed_object (texture_members x)) v.items };
 
-    fn part<'a>(&'a self, _root: &Root) -> Part<'a> {
+    fn part<'a>(&'a self, _context: &Context<'_>) -> Part<'a> {
         Part::Textures(self)
     }
 }
@@ -82,16 +81,16 @@ impl Visited for Info {
 
     ghost tree = { λ v. closed_object (info_members v) };
 
-    fn part<'a>(&'a self, _root: &Root) -> Part<'a> {
+    fn part<'a>(&'a self, _context: &Context<'_>) -> Part<'a> {
         Part::Info(self)
     }
 }
 
 impl Object for Info {
     #[tactic(auto, using(crate::proofs::Past::past), unfolding(gltf_textures::specs::TextureTable::info_rows, gltf_textures::specs::TextureTable::info_extension_rows, gltf_textures::specs::TextureTable::texture_transform_rows, gltf_textures::specs::TextureTrees::info_members))]
-    fn next<'a>(&'a self, number: usize, root: &Root) -> Next<'a> {
+    fn next<'a>(&'a self, number: usize, context: &Context<'_>) -> Next<'a> {
         match number {
-            0 => member("index", &self.index, root),
+            0 => member("index", &self.index, context),
             _ => Next::Done,
         }
     }

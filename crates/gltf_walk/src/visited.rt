@@ -7,7 +7,7 @@ ghost use Rattle.gltf_schema.specs.Kind.{Kind, Attributes, Choice as ChoiceKind,
 ghost use Rattle.gltf_schema.specs.Leaves.{checked_tree, choice_of};
 ghost use Rattle.gltf_schema.specs.Tree.{Tree, absent, tree_or_absent};
 ghost use Rattle.gltf_paths.specs.Lists.{ListName};
-ghost use Rattle.gltf_root.specs.RootTrees.{root_tree};
+ghost use Rattle.gltf_faults.specs.Context.{context_of};
 ghost use Rattle.gltf_walk.specs.Parts.{move_of, plan_of, IsMore};
 ghost use Rattle.gltf_walk.specs.Plan.{at};
 ghost use Rattle.gltf_walk.specs.Planned.{planned};
@@ -20,8 +20,8 @@ use gltf_base::{Index, IndexTo, Names};
 use gltf_checked::choice::Choice;
 use gltf_data::accessor::Accessor;
 use gltf_data::buffer::Stride;
-use gltf_faults::{choice_fault, index_fault, stride_fault};
-use gltf_root::root::{Root, RootItem};
+use gltf_faults::{Context, choice_fault, index_fault, stride_fault};
+use gltf_root::root::RootItem;
 use std::collections::BTreeMap;
 
 /// A value in which something can be wrong.
@@ -33,17 +33,17 @@ pub(crate) trait Visited {
     ghost tree: { Self → Tree };
 
     /// The value as a part of a document; what is wrong at a place with nothing below is found out
-    /// now, against `root`.
-    fn part<'a>(&'a self, root: &Root) -> Part<'a>
-        ensures { plan_of (root_tree root.now) result ≡ planned kind (tree self.now) (root_tree root.now) absent };
+    /// now, by `context`.
+    fn part<'a>(&'a self, context: &Context<'_>) -> Part<'a>
+        ensures { plan_of (context_of context.now) result ≡ planned kind (tree self.now) (context_of context.now) absent };
 }
 
 /// An object in whose members something can be wrong.
 pub(crate) trait Object: Visited {
     /// What comes at a number: the members in which something can be wrong, in the rows' order, and
     /// then what the object's rule speaks of.
-    fn next<'a>(&'a self, number: usize, root: &Root) -> Next<'a>
-        ensures comes { move_of (root_tree root.now) result ≡ at (planned Self.kind (Self.tree self.now) (root_tree root.now) absent) number }
+    fn next<'a>(&'a self, number: usize, context: &Context<'_>) -> Next<'a>
+        ensures comes { move_of (context_of context.now) result ≡ at (planned Self.kind (Self.tree self.now) (context_of context.now) absent) number }
         ensures small { IsMore result → number + 1 < 2 ^ 64 };
 }
 
@@ -52,9 +52,9 @@ impl<T: Visited> Visited for Option<T> {
 
     ghost tree = { tree_or_absent T.tree };
 
-    fn part<'a>(&'a self, root: &Root) -> Part<'a> {
+    fn part<'a>(&'a self, context: &Context<'_>) -> Part<'a> {
         match self {
-            Some(value) => value.part(root),
+            Some(value) => value.part(context),
             None => Part::Leaf(None),
         }
     }
@@ -68,8 +68,8 @@ where
 
     ghost tree = { index_tree };
 
-    fn part<'a>(&'a self, root: &Root) -> Part<'a> {
-        Part::Leaf(index_fault(self, root))
+    fn part<'a>(&'a self, context: &Context<'_>) -> Part<'a> {
+        Part::Leaf(index_fault(self, context.root))
     }
 }
 
@@ -78,7 +78,7 @@ impl<T: Choice> Visited for Checked<T> {
 
     ghost tree = { checked_tree T.spelling };
 
-    fn part<'a>(&'a self, _root: &Root) -> Part<'a> {
+    fn part<'a>(&'a self, _context: &Context<'_>) -> Part<'a> {
         Part::Leaf(choice_fault(self))
     }
 }
@@ -88,7 +88,7 @@ impl Visited for Stride {
 
     ghost tree = { stride_tree };
 
-    fn part<'a>(&'a self, _root: &Root) -> Part<'a> {
+    fn part<'a>(&'a self, _context: &Context<'_>) -> Part<'a> {
         Part::Leaf(stride_fault(self))
     }
 }
@@ -98,7 +98,7 @@ impl Visited for BTreeMap<Checked<Semantic>, Index<Accessor>> {
 
     ghost tree = { attributes_tree };
 
-    fn part<'a>(&'a self, _root: &Root) -> Part<'a> {
+    fn part<'a>(&'a self, _context: &Context<'_>) -> Part<'a> {
         Part::Attributes(self)
     }
 }

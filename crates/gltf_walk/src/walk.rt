@@ -1,10 +1,13 @@
 //! The walk.
 
-ghost use Rattle.std.specs.Prelude.{◌≡◌, ◌≤◌, ◌<◌, ◌+◌, ◌^◌, [], suc, length, IfOk, OnErr};
+ghost use Rattle.std.specs.Prelude.{◌≡◌, ◌≤◌, ◌<◌, ◌+◌, ◌^◌, [], suc, length, IfOk, None, OnErr, false};
 ghost use Rattle.gltf_paths.specs.Steps.{steps_of};
 ghost use Rattle.gltf_root.specs.RootTable.{root_kind};
 ghost use Rattle.gltf_root.specs.RootTrees.{root_tree};
-ghost use Rattle.gltf_faults.specs.Reports.{reports_of};
+ghost use Rattle.gltf_faults.specs.Context.{rules_of};
+ghost use Rattle.gltf_faults.specs.Reports.{reports_by_rules, reports_of};
+ghost use Rattle.gltf_walk.specs.Parts.{plan_of};
+ghost use Rattle.gltf_walk.specs.Plan.{leaf};
 ghost use Rattle.gltf_walk.specs.ToCome.{base_count, left_of_descent, path_of_descent, to_come, path_of, IsNext, IsNextOf};
 
 use crate::frames::next_in;
@@ -14,6 +17,7 @@ use crate::state::{Descent, Walk};
 use arrayvec::ArrayVec;
 use gltf_base::Steps;
 use gltf_base::validation::Error;
+use gltf_faults::{Context, Rules};
 use gltf_root::root::Root;
 
 /// A path that has no room for one more step.
@@ -21,10 +25,15 @@ use gltf_root::root::Root;
 pub struct StepsFull;
 
 impl<'a> Descent<'a> {
-    /// A walk over `document` that looks its indexes up in `root`; each of its paths begins with the
-    /// steps of `base`.
-    pub fn new(document: &'a Root, root: &'a Root, base: &Steps<'a>) -> Descent<'a>
-        ensures reports { left_of_descent result ≡ reports_of root_kind (root_tree document.now) (root_tree root.now) (steps_of base.now) }
+    /// A walk over `document` by `rules` that looks its indexes up in `root`; each of its paths begins
+    /// with the steps of `base`.
+    pub fn new(
+        rules: Rules<'a>,
+        document: &'a Root,
+        root: &'a Root,
+        base: &Steps<'a>,
+    ) -> Descent<'a>
+        ensures reports { left_of_descent result ≡ reports_by_rules (rules_of rules.entry) root_kind (root_tree document.now) (root_tree root.now) (steps_of base.now) }
         ensures base { base_count result ≡ length (steps_of base.now) }
         ensures path { path_of_descent result ≡ steps_of base.now }
     {
@@ -34,6 +43,7 @@ impl<'a> Descent<'a> {
             number: 0,
         });
         Descent {
+            rules,
             root,
             frames,
             steps: copied(base),
@@ -47,7 +57,11 @@ impl<'a> Descent<'a> {
         ensures full { OnErr result (16 < base_count self.old + 10) }
     {
         while let Some(frame) = self.frames.pop() {
-            match next_in(frame.part, frame.number, self.root) {
+            let context = Context {
+                rules: &self.rules,
+                root: self.root,
+            };
+            match next_in(frame.part, frame.number, &context) {
                 Next::Done => {
                     let _ = self.steps.pop();
                 }
@@ -56,12 +70,15 @@ impl<'a> Descent<'a> {
                     return Ok(Some(error));
                 }
                 Next::Down(step, part) => {
-                    if self.steps.is_full() {
-                        return Err(StepsFull);
-                    }
                     self.frames.push(further(frame));
-                    self.frames.push(Frame { part, number: 0 });
-                    self.steps.push(step);
+                    // Most of what a walk comes to is an index or a choice with nothing wrong.
+                    if needs_frame(&part) {
+                        if self.steps.is_full() {
+                            return Err(StepsFull);
+                        }
+                        self.frames.push(Frame { part, number: 0 });
+                        self.steps.push(step);
+                    }
                 }
             }
         }
@@ -82,8 +99,16 @@ impl<'a> Walk<'a> {
         ensures reports { to_come result ≡ reports_of root_kind (root_tree root.now) (root_tree root.now) [] }
         ensures path { path_of result ≡ [] }
     {
+        Walk::with_rules(Rules::new(), root)
+    }
+
+    /// A walk over `root` by rules of the caller's that has not begun.
+    pub fn with_rules(rules: Rules<'a>, root: &'a Root) -> Walk<'a>
+        ensures reports { to_come result ≡ reports_by_rules (rules_of rules.entry) root_kind (root_tree root.now) (root_tree root.now) [] }
+        ensures path { path_of result ≡ [] }
+    {
         Walk {
-            descent: Descent::new(root, root, &Steps::new()),
+            descent: Descent::new(rules, root, root, &Steps::new()),
         }
     }
 
@@ -115,6 +140,13 @@ fn copied<'a>(base: &Steps<'a>) -> Steps<'a>
     // They fit: both have the same room.
     let _ = steps.try_extend_from_slice(base.as_slice());
     steps
+}
+
+/// Whether a part has to be gone into: not where nothing stands below and nothing is wrong.
+fn needs_frame(part: &Part<'_>) -> bool
+    ensures { result ≡ false → (context : _) → plan_of context part.now ≡ leaf None }
+{
+    !matches!(part, Part::Leaf(None))
 }
 
 /// A frame at its next number.

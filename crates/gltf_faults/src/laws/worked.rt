@@ -1,6 +1,6 @@
 //! Documents worked by hand, computed on the definitions.
 
-ghost use Rattle.std.specs.Prelude.{◌≡◌, [], ◌∷◌, Some, None, codes, negsuc};
+ghost use Rattle.std.specs.Prelude.{◌≡◌, [], ◌∷◌, Some, None, true, false, codes, negsuc};
 ghost use Rattle.serde_json.specs.Data.{no_members, member, number, negative, null, object, array, no_items, item as data_item};
 ghost use Rattle.gltf_paths.specs.Lists.{ListName};
 ghost use Rattle.gltf_paths.specs.Steps.{field, item, value};
@@ -8,7 +8,8 @@ ghost use Rattle.gltf_paths.specs.declared.validation.Error.TheVariants.{IndexOu
 ghost use Rattle.gltf_sinks.specs.Report.{report};
 ghost use Rattle.gltf_root.specs.RootTable.{root_kind};
 ghost use Rattle.gltf_schema.specs.Read.{read};
-ghost use Rattle.gltf_faults.specs.Worked.{reports_in, written_of, pushed_in, reports_pushed, whole, text, one, with_asset, with_accessor, with_view, accessor_of, in_accessor, in_view, with_one, in_one, odd_channel, in_channel, with_attributes, in_attributes, extended, in_extension, point_light, listed_variant, node_of};
+ghost use Rattle.gltf_faults.specs.Context.{enabled_with_empty_textures};
+ghost use Rattle.gltf_faults.specs.Worked.{reports_in, reports_ruled, requiring, written_of, pushed_in, reports_pushed, whole, text, one, with_asset, with_accessor, with_view, accessor_of, in_accessor, in_view, with_one, in_one, odd_channel, in_channel, with_attributes, in_attributes, extended, in_extension, point_light, listed_variant, node_of};
 
 /// Documents that are read, with their reports, and documents that are not.
 pub fn worked_documents()
@@ -70,6 +71,21 @@ pub fn worked_documents()
         ∷ report (in_attributes (codes "POSITION") (field (codes "min") ∷ [])) Missing
         ∷ report (in_attributes (codes "POSITION") (field (codes "max") ∷ [])) Invalid ∷ []) }
     ensures unknown_member { reports_in (with_asset (member (codes "zz") (text (codes "x")) no_members)) ≡ Some [] }
+{}
+
+/// What is wrong in documents by rules of the caller's.
+#[tactic(auto, unfolding(gltf_root::specs::RootTable::root_rows, gltf_nodes::specs::AssetTable::asset_rows, gltf_textures::specs::TextureTable::texture_rows))]
+pub fn worked_rules()
+    ensures no_image { reports_ruled true enabled_with_empty_textures (with_one (codes "textures") no_members) ≡ Some [] }
+    ensures no_such_image { reports_ruled true enabled_with_empty_textures (with_one (codes "textures") (member (codes "source") (whole 0) no_members))
+        ≡ Some (report (in_one (codes "textures") (field (codes "source") ∷ [])) IndexOutOfBounds ∷ []) }
+    ensures no_image_for_others { reports_ruled false enabled_with_empty_textures (with_one (codes "textures") no_members)
+        ≡ Some (report (in_one (codes "textures") (field (codes "source") ∷ [])) Missing ∷ []) }
+    ensures standard { reports_in (requiring (codes "KHR_texture_basisu"))
+        ≡ Some (report (field (codes "extensionsRequired") ∷ item 0 ∷ value (codes "KHR_texture_basisu") ∷ []) Unsupported ∷ []) }
+    ensures enabled { reports_ruled false enabled_with_empty_textures (requiring (codes "KHR_texture_basisu")) ≡ Some [] }
+    ensures none_enabled { reports_ruled false [] (requiring (codes "KHR_lights_punctual"))
+        ≡ Some (report (field (codes "extensionsRequired") ∷ item 0 ∷ value (codes "KHR_lights_punctual") ∷ []) Unsupported ∷ []) }
 {}
 
 /// What documents are written as.

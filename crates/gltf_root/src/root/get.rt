@@ -1,7 +1,8 @@
 //! The items of a document's lists, by their indexes.
 
-ghost use Rattle.std.specs.Prelude.{◌≡◌, ◌↔◌, ◌-◌, ◌^◌, ◌≤◌, ◌++◌, ◌∷◌, [], true, false, None, Err, IfOk, IfErr, OnErr, IfSome, length, List, slice_get, map};
+ghost use Rattle.std.specs.Prelude.{◌≡◌, ◌↔◌, ◌-◌, ◌^◌, ◌≤◌, ◌++◌, ◌∷◌, [], true, false, None, Some, Err, IfOk, IfErr, OnErr, IfSome, IfNone, length, List, slice_get, map};
 ghost use Rattle.std.specs.Borrow.{sem};
+ghost use Rattle.std.specs.List.{last_or};
 ghost use Rattle.std.specs.Option.{option_copied};
 ghost use Rattle.gltf_paths.specs.Indexes.{index_number};
 ghost use Rattle.gltf_paths.specs.Lists.{ListName};
@@ -11,9 +12,12 @@ ghost use Rattle.gltf_root.specs.Lists.{list_in, is_there};
 ghost use Rattle.gltf_root.specs.Lending.{lends_list};
 ghost use Rattle.gltf_root.specs.Pushed.{pushed, with_list};
 ghost use Rattle.gltf_root.specs.RootTrees.{root_tree};
+ghost use Rattle.gltf_root.specs.Undone.{mark_in, undone};
 ghost use Rattle.gltf_root.specs.declared.root.Root.{Root};
+ghost use Rattle.gltf_root.specs.declared.root.mark.Mark.TheVariants.{Listed};
 
 use super::Root;
+use super::mark::Mark;
 use gltf_base::{Index, Listed, PushError};
 
 /// A document has a list of `T`.
@@ -56,6 +60,21 @@ pub trait Get<T> {
         ensures full { (result ≡ Err (PushError.Full item)) ↔ (2 ^ 32 - 1 ≤ length (listed self.old)) }
         ensures handed_back { IfErr result (IsHandedBack item) }
         ensures unchanged { OnErr result (document self.new ≡ document self.old) };
+
+    /// Which of the objects that the list stands in the document has. Taken before a push, it tells
+    /// `undo_push` what the push made.
+    fn mark(&self) -> Mark
+        ensures { result ≡ mark_in named (document self.now) };
+
+    /// Takes the last item out of the list, and answers it; `None` where the list is empty, and then
+    /// nothing changes. What the mark says was missing before the push is missing again. With the
+    /// mark of the document before a push, it is that document again.
+    fn undo_push(&mut self, mark: Mark) -> Option<T>
+        ensures none { (result ≡ None) ↔ (listed self.old ≡ []) }
+        ensures unchanged { IfNone result (document self.new ≡ document self.old) }
+        ensures taken { IfSome result (λ item. (last_or None (listed self.old) ≡ Some item)
+            × (document self.new ≡ undone named mark (document self.old))) }
+        ensures rest { mark ≡ Listed → IfSome result (λ item. listed self.old ≡ listed self.new ++ item ∷ []) };
 }
 
 /// What a document lists: where its list stands in a root.
@@ -90,6 +109,18 @@ pub trait RootItem: Listed + Drop {
         ensures full { (result ≡ Err (PushError.Full item)) ↔ (2 ^ 32 - 1 ≤ length (items root.old)) }
         ensures handed_back { IfErr result (IsHandedBack item) }
         ensures unchanged { OnErr result (root_tree root.new ≡ root_tree root.old) };
+
+    /// Which of the objects that the list stands in a root has.
+    fn mark_of(root: &Root) -> Mark
+        ensures { result ≡ mark_in Self.list (root_tree root.now) };
+
+    /// Takes the last item out of the list of a root, and with it what was missing by the mark.
+    fn undo_push_from(root: &mut Root, mark: Mark) -> Option<Self>
+        ensures none { (result ≡ None) ↔ (items root.old ≡ []) }
+        ensures unchanged { IfNone result (root_tree root.new ≡ root_tree root.old) }
+        ensures taken { IfSome result (λ item. (last_or None (items root.old) ≡ Some item)
+            × (root_tree root.new ≡ undone Self.list mark (root_tree root.old))) }
+        ensures rest { mark ≡ Listed → IfSome result (λ item. items root.old ≡ items root.new ++ item ∷ []) };
 
     // The list of the root's tree holds the trees of the items.
     ghost lists: { (r : Root) → list_in Self.list (root_tree r) ≡ trees (map tree (items r)) };
@@ -128,6 +159,14 @@ impl<T: RootItem> Get<T> for Root {
 
     fn push(&mut self, item: T) -> Result<Index<T>, PushError<T>> {
         T::push_onto(self, item)
+    }
+
+    fn mark(&self) -> Mark {
+        T::mark_of(self)
+    }
+
+    fn undo_push(&mut self, mark: Mark) -> Option<T> {
+        T::undo_push_from(self, mark)
     }
 }
 

@@ -1,6 +1,6 @@
 //! Where the list of each type stands in a document.
 
-#![tactic(auto, using(crate::proofs::Pushing::trees_push), unfolding(crate::specs::RootTrees::root_members))]
+#![tactic(auto, using(crate::proofs::Pushing::trees_push, crate::proofs::Undoing::trees_pop, crate::proofs::Undoing::last_or_pop), unfolding(crate::specs::RootTrees::root_members))]
 
 ghost use Rattle.std.specs.Prelude.{refl};
 ghost use Rattle.gltf_schema.specs.Fields.{closed_object};
@@ -20,6 +20,7 @@ ghost use Rattle.gltf_root.specs.RootTrees.{root_members};
 
 use super::Root;
 use super::get::RootItem;
+use super::mark::Mark;
 use crate::extensions;
 use crate::extensions::root::{KhrLightsPunctual, KhrMaterialsVariants};
 use gltf_animations::animation::Animation;
@@ -58,6 +59,14 @@ impl RootItem for Accessor {
     fn push_onto(root: &mut Root, item: Accessor) -> Result<Index<Accessor>, PushError<Accessor>> {
         Index::push(&mut root.accessors, item)
     }
+
+    fn mark_of(_root: &Root) -> Mark {
+        Mark::Listed
+    }
+
+    fn undo_push_from(root: &mut Root, _mark: Mark) -> Option<Accessor> {
+        root.accessors.pop()
+    }
 }
 
 impl RootItem for Animation {
@@ -85,6 +94,14 @@ impl RootItem for Animation {
     ) -> Result<Index<Animation>, PushError<Animation>> {
         Index::push(&mut root.animations, item)
     }
+
+    fn mark_of(_root: &Root) -> Mark {
+        Mark::Listed
+    }
+
+    fn undo_push_from(root: &mut Root, _mark: Mark) -> Option<Animation> {
+        root.animations.pop()
+    }
 }
 
 impl RootItem for Buffer {
@@ -108,6 +125,14 @@ impl RootItem for Buffer {
 
     fn push_onto(root: &mut Root, item: Buffer) -> Result<Index<Buffer>, PushError<Buffer>> {
         Index::push(&mut root.buffers, item)
+    }
+
+    fn mark_of(_root: &Root) -> Mark {
+        Mark::Listed
+    }
+
+    fn undo_push_from(root: &mut Root, _mark: Mark) -> Option<Buffer> {
+        root.buffers.pop()
     }
 }
 
@@ -133,6 +158,14 @@ impl RootItem for View {
     fn push_onto(root: &mut Root, item: View) -> Result<Index<View>, PushError<View>> {
         Index::push(&mut root.buffer_views, item)
     }
+
+    fn mark_of(_root: &Root) -> Mark {
+        Mark::Listed
+    }
+
+    fn undo_push_from(root: &mut Root, _mark: Mark) -> Option<View> {
+        root.buffer_views.pop()
+    }
 }
 
 impl RootItem for Camera {
@@ -156,6 +189,14 @@ impl RootItem for Camera {
 
     fn push_onto(root: &mut Root, item: Camera) -> Result<Index<Camera>, PushError<Camera>> {
         Index::push(&mut root.cameras, item)
+    }
+
+    fn mark_of(_root: &Root) -> Mark {
+        Mark::Listed
+    }
+
+    fn undo_push_from(root: &mut Root, _mark: Mark) -> Option<Camera> {
+        root.cameras.pop()
     }
 }
 
@@ -181,6 +222,14 @@ impl RootItem for Image {
     fn push_onto(root: &mut Root, item: Image) -> Result<Index<Image>, PushError<Image>> {
         Index::push(&mut root.images, item)
     }
+
+    fn mark_of(_root: &Root) -> Mark {
+        Mark::Listed
+    }
+
+    fn undo_push_from(root: &mut Root, _mark: Mark) -> Option<Image> {
+        root.images.pop()
+    }
 }
 
 impl RootItem for Material {
@@ -204,6 +253,14 @@ impl RootItem for Material {
 
     fn push_onto(root: &mut Root, item: Material) -> Result<Index<Material>, PushError<Material>> {
         Index::push(&mut root.materials, item)
+    }
+
+    fn mark_of(_root: &Root) -> Mark {
+        Mark::Listed
+    }
+
+    fn undo_push_from(root: &mut Root, _mark: Mark) -> Option<Material> {
+        root.materials.pop()
     }
 }
 
@@ -229,6 +286,14 @@ impl RootItem for Mesh {
     fn push_onto(root: &mut Root, item: Mesh) -> Result<Index<Mesh>, PushError<Mesh>> {
         Index::push(&mut root.meshes, item)
     }
+
+    fn mark_of(_root: &Root) -> Mark {
+        Mark::Listed
+    }
+
+    fn undo_push_from(root: &mut Root, _mark: Mark) -> Option<Mesh> {
+        root.meshes.pop()
+    }
 }
 
 impl RootItem for Node {
@@ -252,6 +317,14 @@ impl RootItem for Node {
 
     fn push_onto(root: &mut Root, item: Node) -> Result<Index<Node>, PushError<Node>> {
         Index::push(&mut root.nodes, item)
+    }
+
+    fn mark_of(_root: &Root) -> Mark {
+        Mark::Listed
+    }
+
+    fn undo_push_from(root: &mut Root, _mark: Mark) -> Option<Node> {
+        root.nodes.pop()
     }
 }
 
@@ -277,6 +350,14 @@ impl RootItem for Sampler {
     fn push_onto(root: &mut Root, item: Sampler) -> Result<Index<Sampler>, PushError<Sampler>> {
         Index::push(&mut root.samplers, item)
     }
+
+    fn mark_of(_root: &Root) -> Mark {
+        Mark::Listed
+    }
+
+    fn undo_push_from(root: &mut Root, _mark: Mark) -> Option<Sampler> {
+        root.samplers.pop()
+    }
 }
 
 impl RootItem for Scene {
@@ -300,6 +381,14 @@ impl RootItem for Scene {
 
     fn push_onto(root: &mut Root, item: Scene) -> Result<Index<Scene>, PushError<Scene>> {
         Index::push(&mut root.scenes, item)
+    }
+
+    fn mark_of(_root: &Root) -> Mark {
+        Mark::Listed
+    }
+
+    fn undo_push_from(root: &mut Root, _mark: Mark) -> Option<Scene> {
+        root.scenes.pop()
     }
 }
 
@@ -325,6 +414,14 @@ impl RootItem for Skin {
     fn push_onto(root: &mut Root, item: Skin) -> Result<Index<Skin>, PushError<Skin>> {
         Index::push(&mut root.skins, item)
     }
+
+    fn mark_of(_root: &Root) -> Mark {
+        Mark::Listed
+    }
+
+    fn undo_push_from(root: &mut Root, _mark: Mark) -> Option<Skin> {
+        root.skins.pop()
+    }
 }
 
 impl RootItem for Texture {
@@ -349,9 +446,17 @@ impl RootItem for Texture {
     fn push_onto(root: &mut Root, item: Texture) -> Result<Index<Texture>, PushError<Texture>> {
         Index::push(&mut root.textures, item)
     }
+
+    fn mark_of(_root: &Root) -> Mark {
+        Mark::Listed
+    }
+
+    fn undo_push_from(root: &mut Root, _mark: Mark) -> Option<Texture> {
+        root.textures.pop()
+    }
 }
 
-#[tactic(auto, using(crate::proofs::Pushing::trees_push), unfolding(crate::specs::RootTrees::root_members, crate::specs::RootExtensionTrees::root_extension_members, crate::specs::RootExtensionTrees::lights_members, crate::specs::RootExtensionTable::root_extension_rows))]
+#[tactic(auto, using(crate::proofs::Pushing::trees_push, crate::proofs::Undoing::trees_pop, crate::proofs::Undoing::last_or_pop), unfolding(crate::specs::RootTrees::root_members, crate::specs::RootExtensionTrees::root_extension_members, crate::specs::RootExtensionTrees::lights_members, crate::specs::RootExtensionTable::root_extension_rows))]
 impl RootItem for Light {
     ghost tree = { λ x. closed_object (light_members x) };
 
@@ -398,9 +503,33 @@ impl RootItem for Light {
         }
         Ok(index)
     }
+
+    fn mark_of(root: &Root) -> Mark {
+        match &root.extensions {
+            None => Mark::NoExtensions,
+            Some(extensions) => match &extensions.khr_lights_punctual {
+                None => Mark::NoObject,
+                Some(_) => Mark::Listed,
+            },
+        }
+    }
+
+    fn undo_push_from(root: &mut Root, mark: Mark) -> Option<Light> {
+        let item = Light::list_of_mut(root)?.pop()?;
+        match mark {
+            Mark::Listed => {}
+            Mark::NoObject => {
+                if let Some(extensions) = &mut root.extensions {
+                    extensions.khr_lights_punctual = None;
+                }
+            }
+            Mark::NoExtensions => root.extensions = None,
+        }
+        Some(item)
+    }
 }
 
-#[tactic(auto, using(crate::proofs::Pushing::trees_push), unfolding(crate::specs::RootTrees::root_members, crate::specs::RootExtensionTrees::root_extension_members, crate::specs::RootExtensionTrees::variants_members, crate::specs::RootExtensionTable::root_extension_rows))]
+#[tactic(auto, using(crate::proofs::Pushing::trees_push, crate::proofs::Undoing::trees_pop, crate::proofs::Undoing::last_or_pop), unfolding(crate::specs::RootTrees::root_members, crate::specs::RootExtensionTrees::root_extension_members, crate::specs::RootExtensionTrees::variants_members, crate::specs::RootExtensionTable::root_extension_rows))]
 impl RootItem for Variant {
     ghost tree = { λ x. closed_object (variant_members x) };
 
@@ -446,5 +575,29 @@ impl RootItem for Variant {
             }
         }
         Ok(index)
+    }
+
+    fn mark_of(root: &Root) -> Mark {
+        match &root.extensions {
+            None => Mark::NoExtensions,
+            Some(extensions) => match &extensions.khr_materials_variants {
+                None => Mark::NoObject,
+                Some(_) => Mark::Listed,
+            },
+        }
+    }
+
+    fn undo_push_from(root: &mut Root, mark: Mark) -> Option<Variant> {
+        let item = Variant::list_of_mut(root)?.pop()?;
+        match mark {
+            Mark::Listed => {}
+            Mark::NoObject => {
+                if let Some(extensions) = &mut root.extensions {
+                    extensions.khr_materials_variants = None;
+                }
+            }
+            Mark::NoExtensions => root.extensions = None,
+        }
+        Some(item)
     }
 }

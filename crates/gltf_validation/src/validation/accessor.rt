@@ -6,46 +6,42 @@ ghost use Rattle.gltf_data.specs.AccessorTrees.{accessor_members, accessor_exten
 ghost use Rattle.gltf_schema.specs.Extensions.{kept_extensions};
 ghost use Rattle.gltf_schema.specs.Fields.{closed_object};
 ghost use Rattle.gltf_schema.specs.Kind.{ObjectName};
-ghost use Rattle.gltf_validation.specs.ByType.{no_reports};
 
-use super::Validate;
+use super::members::Members;
 use super::silent::Silent;
 use super::within::member;
 use gltf_base::{Step, Steps};
 use gltf_data::accessor::Accessor;
 use gltf_data::extensions::accessor as extensions;
-use gltf_faults::data_fault;
-use gltf_root::root::Root;
+use gltf_faults::{Context, data_fault};
 use gltf_sinks::{Sink, Stop, told};
 
-impl Validate for Accessor {
+impl Members for Accessor {
     ghost kind = { Some accessor_kind };
 
     ghost tree = { λ v. closed_object (accessor_members v) };
-
-    ghost own = { no_reports };
 
     ghost depth = { 3 };
 
     /// Reports what is wrong in its members, and then `Missing` at `bufferView` where there is no data
     /// at all.
-    fn validate<'a, S: Sink>(
+    fn tell_members<'a, S: Sink>(
         &'a self,
-        root: &Root,
+        by: &Context<'_>,
         path: &mut Steps<'a>,
         sink: &mut S,
     ) -> Result<(), Stop<S::Refusal>> {
-        let buffer_view = member(Ok(()), &self.buffer_view, "bufferView", root, path, sink);
+        let buffer_view = member(Ok(()), &self.buffer_view, "bufferView", by, path, sink);
         let component_type = member(
             buffer_view,
             &self.component_type,
             "componentType",
-            root,
+            by,
             path,
             sink,
         );
-        let type_ = member(component_type, &self.type_, "type", root, path, sink);
-        let sparse = member(type_, &self.sparse, "sparse", root, path, sink);
+        let type_ = member(component_type, &self.type_, "type", by, path, sink);
+        let sparse = member(type_, &self.sparse, "sparse", by, path, sink);
         told(
             sparse,
             data_fault(self),

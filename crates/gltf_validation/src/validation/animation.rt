@@ -6,85 +6,71 @@ ghost use Rattle.gltf_animations.specs.AnimationTrees.{animation_members, animat
 ghost use Rattle.gltf_schema.specs.Extensions.{kept_extensions, dropped_extensions};
 ghost use Rattle.gltf_schema.specs.Fields.{closed_object};
 ghost use Rattle.gltf_schema.specs.Kind.{ObjectName};
-ghost use Rattle.gltf_validation.specs.ByType.{no_reports};
 
-use super::Validate;
 use super::channels::channels;
+use super::members::Members;
 use super::silent::Silent;
 use super::within::member;
 use gltf_animations::animation::{Animation, Sampler, Target};
 use gltf_animations::extensions::animation as extensions;
 use gltf_base::Steps;
-use gltf_root::root::Root;
+use gltf_faults::Context;
 use gltf_sinks::{Sink, Stop};
 
-impl Validate for Animation {
+impl Members for Animation {
     ghost kind = { Some animation_kind };
 
     ghost tree = { λ v. closed_object (animation_members v) };
-
-    ghost own = { no_reports };
 
     ghost depth = { 4 };
 
     /// Reports what is wrong in its channels and samplers; at the `sampler` of a channel that names none
     /// of the animation's own `IndexOutOfBounds`.
-    fn validate<'a, S: Sink>(
+    fn tell_members<'a, S: Sink>(
         &'a self,
-        root: &Root,
+        by: &Context<'_>,
         path: &mut Steps<'a>,
         sink: &mut S,
     ) -> Result<(), Stop<S::Refusal>> {
-        let samplers = member(Ok(()), &self.samplers, "samplers", root, path, sink);
-        channels(samplers, self, root, path, sink)
+        let samplers = member(Ok(()), &self.samplers, "samplers", by, path, sink);
+        channels(samplers, self, by, path, sink)
     }
 }
 
-impl Validate for Target {
+impl Members for Target {
     ghost kind = { Some animation_target_kind };
 
     ghost tree = { λ v. closed_object (animation_target_members v) };
 
-    ghost own = { no_reports };
-
     ghost depth = { 1 };
 
-    fn validate<'a, S: Sink>(
+    fn tell_members<'a, S: Sink>(
         &'a self,
-        root: &Root,
+        by: &Context<'_>,
         path: &mut Steps<'a>,
         sink: &mut S,
     ) -> Result<(), Stop<S::Refusal>> {
-        let node = member(Ok(()), &self.node, "node", root, path, sink);
-        member(node, &self.path, "path", root, path, sink)
+        let node = member(Ok(()), &self.node, "node", by, path, sink);
+        member(node, &self.path, "path", by, path, sink)
     }
 }
 
-impl Validate for Sampler {
+impl Members for Sampler {
     ghost kind = { Some animation_sampler_kind };
 
     ghost tree = { λ v. closed_object (animation_sampler_members v) };
 
-    ghost own = { no_reports };
-
     ghost depth = { 1 };
 
-    fn validate<'a, S: Sink>(
+    fn tell_members<'a, S: Sink>(
         &'a self,
-        root: &Root,
+        by: &Context<'_>,
         path: &mut Steps<'a>,
         sink: &mut S,
     ) -> Result<(), Stop<S::Refusal>> {
-        let input = member(Ok(()), &self.input, "input", root, path, sink);
-        let interpolation = member(
-            input,
-            &self.interpolation,
-            "interpolation",
-            root,
-            path,
-            sink,
-        );
-        member(interpolation, &self.output, "output", root, path, sink)
+        let input = member(Ok(()), &self.input, "input", by, path, sink);
+        let interpolation = member(input, &self.interpolation, "interpolation", by, path, sink);
+        member(interpolation, &self.output, "output", by, path, sink)
     }
 }
 

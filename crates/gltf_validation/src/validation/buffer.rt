@@ -8,15 +8,14 @@ ghost use Rattle.gltf_schema.specs.Extensions.{kept_extensions};
 ghost use Rattle.gltf_schema.specs.Fields.{closed_object};
 ghost use Rattle.gltf_schema.specs.Kind.{ObjectName};
 ghost use Rattle.gltf_faults.specs.Silence.{silent};
-ghost use Rattle.gltf_validation.specs.ByType.{no_reports};
 
-use super::Validate;
+use super::members::Members;
 use super::silent::Silent;
 use super::within::member;
 use gltf_base::Steps;
 use gltf_data::buffer::{Buffer, View};
 use gltf_data::extensions::buffer as extensions;
-use gltf_root::root::Root;
+use gltf_faults::Context;
 use gltf_sinks::{Sink, Stop};
 
 impl Silent for Buffer {
@@ -24,27 +23,25 @@ impl Silent for Buffer {
 
     ghost tree = { λ v. closed_object (buffer_members v) };
 
-    ghost is_silent = { λ v root base. silent buffer_kind (unfold buffer_rows in refl) (closed_object (buffer_members v)) root absent base };
+    ghost is_silent = { λ v context base. silent buffer_kind (unfold buffer_rows in refl) (closed_object (buffer_members v)) context absent base };
 }
 
-impl Validate for View {
+impl Members for View {
     ghost kind = { Some view_kind };
 
     ghost tree = { λ v. closed_object (view_members v) };
 
-    ghost own = { no_reports };
-
     ghost depth = { 1 };
 
-    fn validate<'a, S: Sink>(
+    fn tell_members<'a, S: Sink>(
         &'a self,
-        root: &Root,
+        by: &Context<'_>,
         path: &mut Steps<'a>,
         sink: &mut S,
     ) -> Result<(), Stop<S::Refusal>> {
-        let buffer = member(Ok(()), &self.buffer, "buffer", root, path, sink);
-        let byte_stride = member(buffer, &self.byte_stride, "byteStride", root, path, sink);
-        member(byte_stride, &self.target, "target", root, path, sink)
+        let buffer = member(Ok(()), &self.buffer, "buffer", by, path, sink);
+        let byte_stride = member(buffer, &self.byte_stride, "byteStride", by, path, sink);
+        member(byte_stride, &self.target, "target", by, path, sink)
     }
 }
 

@@ -8,36 +8,32 @@ ghost use Rattle.gltf_schema.specs.Extensions.{kept_extensions};
 ghost use Rattle.gltf_schema.specs.Fields.{closed_object};
 ghost use Rattle.gltf_schema.specs.Kind.{ObjectName};
 ghost use Rattle.gltf_faults.specs.Silence.{silent};
-ghost use Rattle.gltf_validation.specs.ByType.{no_reports};
 
-use super::Validate;
+use super::members::Members;
 use super::silent::Silent;
 use super::within::member;
 use gltf_base::Steps;
-use gltf_faults::projection_fault;
+use gltf_faults::{Context, projection_fault};
 use gltf_nodes::camera::{Camera, Orthographic, Perspective};
 use gltf_nodes::extensions::camera as extensions;
-use gltf_root::root::Root;
 use gltf_sinks::{Sink, Stop, also_told};
 
-impl Validate for Camera {
+impl Members for Camera {
     ghost kind = { Some camera_kind };
 
     ghost tree = { λ v. closed_object (camera_members v) };
-
-    ghost own = { no_reports };
 
     ghost depth = { 1 };
 
     /// Reports `Invalid` at a type that is none, and then `Missing` at the camera itself where it has
     /// neither projection, whatever its type.
-    fn validate<'a, S: Sink>(
+    fn tell_members<'a, S: Sink>(
         &'a self,
-        root: &Root,
+        by: &Context<'_>,
         path: &mut Steps<'a>,
         sink: &mut S,
     ) -> Result<(), Stop<S::Refusal>> {
-        let type_ = member(Ok(()), &self.type_, "type", root, path, sink);
+        let type_ = member(Ok(()), &self.type_, "type", by, path, sink);
         also_told(type_, projection_fault(self), path, sink)
     }
 }
@@ -47,7 +43,7 @@ impl Silent for Orthographic {
 
     ghost tree = { λ v. closed_object (orthographic_members v) };
 
-    ghost is_silent = { λ v root base. silent orthographic_kind (unfold orthographic_rows in refl) (closed_object (orthographic_members v)) root absent base };
+    ghost is_silent = { λ v context base. silent orthographic_kind (unfold orthographic_rows in refl) (closed_object (orthographic_members v)) context absent base };
 }
 
 impl Silent for Perspective {
@@ -55,7 +51,7 @@ impl Silent for Perspective {
 
     ghost tree = { λ v. closed_object (perspective_members v) };
 
-    ghost is_silent = { λ v root base. silent perspective_kind (unfold perspective_rows in refl) (closed_object (perspective_members v)) root absent base };
+    ghost is_silent = { λ v context base. silent perspective_kind (unfold perspective_rows in refl) (closed_object (perspective_members v)) context absent base };
 }
 
 impl Silent for extensions::Camera {

@@ -6,32 +6,31 @@ ghost use Rattle.gltf_schema.specs.Fields.{closed_object, list_tree};
 ghost use Rattle.gltf_schema.specs.Kind.{ListOf};
 ghost use Rattle.gltf_animations.specs.AnimationTable.{animation_channel_kind};
 ghost use Rattle.gltf_animations.specs.AnimationTrees.{animation_members, animation_channel_members};
-ghost use Rattle.gltf_root.specs.RootTrees.{root_tree};
+ghost use Rattle.gltf_faults.specs.Context.{context_of};
 ghost use Rattle.gltf_faults.specs.Reports.{reports};
 ghost use Rattle.gltf_sinks.specs.Handed.{Walked, WentOn};
 
 use super::within::member;
 use gltf_animations::animation::{Animation, Channel};
 use gltf_base::{Step, Steps};
-use gltf_faults::sampler_fault;
-use gltf_root::root::Root;
+use gltf_faults::{Context, sampler_fault};
 use gltf_sinks::{Sink, Stop, told};
 
 /// Goes on with the channels of an animation, where nothing stopped the walk before.
 pub(crate) fn channels<'a, S: Sink>(
     before: Result<(), Stop<S::Refusal>>,
     animation: &'a Animation,
-    root: &Root,
+    context: &Context<'_>,
     path: &mut Steps<'a>,
     sink: &mut S,
 ) -> Result<(), Stop<S::Refusal>>
     ensures { WentOn S.next S.refuses before path.old (S.state sink.old)
         (λ base. reports (ListOf animation_channel_kind) (list_tree (λ x. closed_object (animation_channel_members x)) animation.now.channels.items)
-        (root_tree root.now) (closed_object (animation_members animation.now)) (base ++ field (codes "channels") ∷ []))
+        (context_of context.now) (closed_object (animation_members animation.now)) (base ++ field (codes "channels") ∷ []))
         4 result path.new (S.state sink.new) }
 {
     match before {
-        Ok(()) => within_list(animation, root, path, sink),
+        Ok(()) => within_list(animation, context, path, sink),
         Err(stop) => Err(stop),
     }
 }
@@ -39,37 +38,37 @@ pub(crate) fn channels<'a, S: Sink>(
 /// Validates the list of the channels, at the list.
 fn within_list<'a, S: Sink>(
     animation: &'a Animation,
-    root: &Root,
+    context: &Context<'_>,
     path: &mut Steps<'a>,
     sink: &mut S,
 ) -> Result<(), Stop<S::Refusal>>
     ensures { Walked S.next S.refuses path.old (S.state sink.old)
         (λ base. reports (ListOf animation_channel_kind) (list_tree (λ x. closed_object (animation_channel_members x)) animation.now.channels.items)
-        (root_tree root.now) (closed_object (animation_members animation.now)) (base ++ field (codes "channels") ∷ []))
+        (context_of context.now) (closed_object (animation_members animation.now)) (base ++ field (codes "channels") ∷ []))
         4 result path.new (S.state sink.new) }
 {
     if path.is_full() {
         return Err(Stop::StepsFull);
     }
     path.push(Step::Field("channels"));
-    let walked = each_channel(animation, root, path, sink);
+    let walked = each_channel(animation, context, path, sink);
     path.pop();
     walked
 }
 
 fn each_channel<'a, S: Sink>(
     animation: &'a Animation,
-    root: &Root,
+    context: &Context<'_>,
     path: &mut Steps<'a>,
     sink: &mut S,
 ) -> Result<(), Stop<S::Refusal>>
     ensures { Walked S.next S.refuses path.old (S.state sink.old)
         (reports (ListOf animation_channel_kind) (list_tree (λ x. closed_object (animation_channel_members x)) animation.now.channels.items)
-        (root_tree root.now) (closed_object (animation_members animation.now)))
+        (context_of context.now) (closed_object (animation_members animation.now)))
         3 result path.new (S.state sink.new) }
 {
     for (i, channel) in animation.channels.iter().enumerate() {
-        channel_at(i, channel, animation, root, path, sink)?;
+        channel_at(i, channel, animation, context, path, sink)?;
     }
     Ok(())
 }
@@ -79,20 +78,20 @@ fn channel_at<'a, S: Sink>(
     number: usize,
     channel: &'a Channel,
     animation: &Animation,
-    root: &Root,
+    context: &Context<'_>,
     path: &mut Steps<'a>,
     sink: &mut S,
 ) -> Result<(), Stop<S::Refusal>>
     ensures { Walked S.next S.refuses path.old (S.state sink.old)
         (λ base. reports animation_channel_kind (closed_object (animation_channel_members channel.now))
-        (root_tree root.now) (closed_object (animation_members animation.now)) (base ++ item number ∷ []))
+        (context_of context.now) (closed_object (animation_members animation.now)) (base ++ item number ∷ []))
         3 result path.new (S.state sink.new) }
 {
     if path.is_full() {
         return Err(Stop::StepsFull);
     }
     path.push(Step::Index(number));
-    let walked = members_of(channel, animation, root, path, sink);
+    let walked = members_of(channel, animation, context, path, sink);
     path.pop();
     walked
 }
@@ -101,16 +100,16 @@ fn channel_at<'a, S: Sink>(
 fn members_of<'a, S: Sink>(
     channel: &'a Channel,
     animation: &Animation,
-    root: &Root,
+    context: &Context<'_>,
     path: &mut Steps<'a>,
     sink: &mut S,
 ) -> Result<(), Stop<S::Refusal>>
     ensures { Walked S.next S.refuses path.old (S.state sink.old)
         (reports animation_channel_kind (closed_object (animation_channel_members channel.now))
-        (root_tree root.now) (closed_object (animation_members animation.now)))
+        (context_of context.now) (closed_object (animation_members animation.now)))
         2 result path.new (S.state sink.new) }
 {
     let fault = sampler_fault(channel, animation);
     let sampler = told(Ok(()), fault, Step::Field("sampler"), path, sink);
-    member(sampler, &channel.target, "target", root, path, sink)
+    member(sampler, &channel.target, "target", context, path, sink)
 }

@@ -3,11 +3,15 @@
 ghost use Rattle.std.specs.Prelude.{◌≡◌, ◌+◌};
 ghost use Rattle.gltf_schema.specs.Tree.{tree_or_absent};
 ghost use Rattle.gltf_schema.specs.Fields.{list_tree};
-ghost use Rattle.gltf_validation.specs.ByType.{option_reports, list_reports, list_kind};
+ghost use Rattle.gltf_faults.specs.Context.{context_of};
+ghost use Rattle.gltf_sinks.specs.Handed.{Walked};
+ghost use Rattle.gltf_sinks.specs.Report.{each_at};
+ghost use Rattle.gltf_validation.specs.ByType.{option_reports, list_reports, list_kind, reports_in};
 
 use super::Validate;
 use super::within::within;
 use gltf_base::{Step, Steps};
+use gltf_faults::{Context, Rules};
 use gltf_root::root::Root;
 use gltf_sinks::{Sink, Stop};
 
@@ -21,14 +25,15 @@ impl<T: Validate> Validate for Option<T> {
     ghost depth = { T.depth };
 
     /// Reports what is wrong in the value, if there is one, at the place of the option.
-    fn validate<'a, S: Sink>(
+    fn validate_with<'a, S: Sink>(
         &'a self,
+        rules: &Rules<'_>,
         root: &Root,
         path: &mut Steps<'a>,
         sink: &mut S,
     ) -> Result<(), Stop<S::Refusal>> {
         match self {
-            Some(value) => value.validate(root, path, sink),
+            Some(value) => value.validate_with(rules, root, path, sink),
             None => Ok(()),
         }
     }
@@ -44,15 +49,30 @@ impl<T: Validate> Validate for Vec<T> {
     ghost depth = { T.depth + 1 };
 
     /// Reports what is wrong in each item, in order, at the item's number.
-    fn validate<'a, S: Sink>(
+    fn validate_with<'a, S: Sink>(
         &'a self,
+        rules: &Rules<'_>,
         root: &Root,
         path: &mut Steps<'a>,
         sink: &mut S,
     ) -> Result<(), Stop<S::Refusal>> {
-        for (i, item) in self.iter().enumerate() {
-            within(item, Step::Index(i), root, path, sink)?;
-        }
-        Ok(())
+        each_item(self, &Context { rules, root }, path, sink)
     }
+}
+
+/// Validates each item of a list, at its number.
+fn each_item<'a, T: Validate, S: Sink>(
+    items: &'a Vec<T>,
+    context: &Context<'_>,
+    path: &mut Steps<'a>,
+    sink: &mut S,
+) -> Result<(), Stop<S::Refusal>>
+    ensures { Walked S.next S.refuses path.old (S.state sink.old)
+        (each_at (reports_in T.kind T.tree T.own (context_of context.now)) 0 items.now.items)
+        (T.depth + 1) result path.new (S.state sink.new) }
+{
+    for (i, item) in items.iter().enumerate() {
+        within(item, Step::Index(i), context, path, sink)?;
+    }
+    Ok(())
 }

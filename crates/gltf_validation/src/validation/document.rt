@@ -14,13 +14,13 @@ ghost use Rattle.gltf_schema.specs.Kind.{ObjectName};
 ghost use Rattle.gltf_nodes.specs.LightTable.{variant_rows};
 ghost use Rattle.gltf_faults.specs.Silence.{silent};
 ghost use Rattle.gltf_sinks.specs.Handed.{HandedOver};
-ghost use Rattle.gltf_validation.specs.ByType.{no_reports};
 ghost use Rattle.gltf_walk.specs.ToCome.{base_count, left_of_descent};
 
-use super::Validate;
+use super::members::Members;
 use super::silent::Silent;
 use super::within::member;
 use gltf_base::Steps;
+use gltf_faults::Context;
 use gltf_nodes::asset::Asset;
 use gltf_nodes::extensions::asset::Asset as AssetExtensions;
 use gltf_root::extensions::root as extensions;
@@ -29,25 +29,23 @@ use gltf_root::root::Root;
 use gltf_sinks::{Sink, Stop};
 use gltf_walk::{Descent, StepsFull};
 
-impl Validate for Root {
+impl Members for Root {
     ghost kind = { Some root_kind };
 
     ghost tree = { root_tree };
 
-    ghost own = { no_reports };
-
     ghost depth = { 10 };
 
     /// Reports everything that is wrong in the document, and last `Unsupported` at each extension that it
-    /// requires and that is not enabled. Its indexes are looked up in `root`, which is the document
+    /// requires and that the rules don't enable. Its indexes are looked up in `root`, which is the document
     /// itself or another.
-    fn validate<'a, S: Sink>(
+    fn tell_members<'a, S: Sink>(
         &'a self,
-        root: &Root,
+        by: &Context<'_>,
         path: &mut Steps<'a>,
         sink: &mut S,
     ) -> Result<(), Stop<S::Refusal>> {
-        hand_over(&mut Descent::new(self, root, path), sink)
+        hand_over(&mut Descent::new(*by.rules, self, by.root, path), sink)
     }
 }
 
@@ -69,18 +67,16 @@ fn hand_over<S: Sink>(walk: &mut Descent<'_>, sink: &mut S) -> Result<(), Stop<S
     }
 }
 
-impl Validate for extensions::Root {
+impl Members for extensions::Root {
     ghost kind = { Some root_extensions_kind };
 
     ghost tree = { root_extensions };
 
-    ghost own = { no_reports };
-
     ghost depth = { 4 };
 
-    fn validate<'a, S: Sink>(
+    fn tell_members<'a, S: Sink>(
         &'a self,
-        root: &Root,
+        by: &Context<'_>,
         path: &mut Steps<'a>,
         sink: &mut S,
     ) -> Result<(), Stop<S::Refusal>> {
@@ -88,29 +84,27 @@ impl Validate for extensions::Root {
             Ok(()),
             &self.khr_lights_punctual,
             "KHR_lights_punctual",
-            root,
+            by,
             path,
             sink,
         )
     }
 }
 
-impl Validate for KhrLightsPunctual {
+impl Members for KhrLightsPunctual {
     ghost kind = { Some lights_kind };
 
     ghost tree = { λ v. closed_object (lights_members v) };
 
-    ghost own = { no_reports };
-
     ghost depth = { 3 };
 
-    fn validate<'a, S: Sink>(
+    fn tell_members<'a, S: Sink>(
         &'a self,
-        root: &Root,
+        by: &Context<'_>,
         path: &mut Steps<'a>,
         sink: &mut S,
     ) -> Result<(), Stop<S::Refusal>> {
-        member(Ok(()), &self.lights, "lights", root, path, sink)
+        member(Ok(()), &self.lights, "lights", by, path, sink)
     }
 }
 
@@ -119,7 +113,7 @@ impl Silent for KhrMaterialsVariants {
 
     ghost tree = { λ v. closed_object (variants_members v) };
 
-    ghost is_silent = { λ v root base. silent variants_kind (unfold variants_rows variant_rows in refl) (closed_object (variants_members v)) root absent base };
+    ghost is_silent = { λ v context base. silent variants_kind (unfold variants_rows variant_rows in refl) (closed_object (variants_members v)) context absent base };
 }
 
 impl Silent for Asset {
@@ -127,7 +121,7 @@ impl Silent for Asset {
 
     ghost tree = { λ v. closed_object (asset_members v) };
 
-    ghost is_silent = { λ v root base. silent asset_kind (unfold asset_rows in refl) (closed_object (asset_members v)) root absent base };
+    ghost is_silent = { λ v context base. silent asset_kind (unfold asset_rows in refl) (closed_object (asset_members v)) context absent base };
 }
 
 impl Silent for AssetExtensions {

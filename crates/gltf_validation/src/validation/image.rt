@@ -6,33 +6,30 @@ ghost use Rattle.gltf_data.specs.ImageTrees.{image_members, image_extensions, mi
 ghost use Rattle.gltf_schema.specs.Extensions.{kept_extensions};
 ghost use Rattle.gltf_schema.specs.Fields.{closed_object};
 ghost use Rattle.gltf_schema.specs.Kind.{ObjectName, Text};
-ghost use Rattle.gltf_validation.specs.ByType.{no_reports};
 
-use super::Validate;
+use super::members::Members;
 use super::silent::Silent;
 use super::within::member;
 use gltf_base::Steps;
 use gltf_data::extensions::image as extensions;
 use gltf_data::image::{Image, MimeType};
-use gltf_root::root::Root;
+use gltf_faults::Context;
 use gltf_sinks::{Sink, Stop};
 
-impl Validate for Image {
+impl Members for Image {
     ghost kind = { Some image_kind };
 
     ghost tree = { λ v. closed_object (image_members v) };
 
-    ghost own = { no_reports };
-
     ghost depth = { 1 };
 
-    fn validate<'a, S: Sink>(
+    fn tell_members<'a, S: Sink>(
         &'a self,
-        root: &Root,
+        by: &Context<'_>,
         path: &mut Steps<'a>,
         sink: &mut S,
     ) -> Result<(), Stop<S::Refusal>> {
-        member(Ok(()), &self.buffer_view, "bufferView", root, path, sink)
+        member(Ok(()), &self.buffer_view, "bufferView", by, path, sink)
     }
 }
 

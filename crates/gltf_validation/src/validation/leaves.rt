@@ -5,17 +5,18 @@ ghost use Rattle.gltf_schema.specs.Tree.{absent};
 ghost use Rattle.gltf_schema.specs.Kind.{IndexInto, Stride as stride_kind};
 ghost use Rattle.gltf_data.specs.BufferTrees.{stride_tree};
 ghost use Rattle.gltf_schema.specs.Fields.{index_tree};
-ghost use Rattle.gltf_validation.specs.ByType.{no_reports, checked_reports};
+ghost use Rattle.gltf_validation.specs.ByType.{checked_reports};
 
 use super::Validate;
+use super::members::Members;
 use gltf_base::validation::Checked;
 use gltf_base::{IndexTo, Names, Steps};
 use gltf_data::buffer::Stride;
-use gltf_faults::{choice_fault, index_fault, stride_fault};
+use gltf_faults::{Context, Rules, choice_fault, index_fault, stride_fault};
 use gltf_root::root::{Root, RootItem};
 use gltf_sinks::{Sink, Stop, tell};
 
-impl<P: Names> Validate for IndexTo<P>
+impl<P: Names> Members for IndexTo<P>
 where
     P::Item: RootItem,
 {
@@ -23,18 +24,16 @@ where
 
     ghost tree = { index_tree };
 
-    ghost own = { no_reports };
-
     ghost depth = { 0 };
 
     /// Reports `IndexOutOfBounds` where the index is past the end of its list in `root`.
-    fn validate<'a, S: Sink>(
+    fn tell_members<'a, S: Sink>(
         &'a self,
-        root: &Root,
+        by: &Context<'_>,
         path: &mut Steps<'a>,
         sink: &mut S,
     ) -> Result<(), Stop<S::Refusal>> {
-        tell(path, index_fault(self, root), sink)
+        tell(path, index_fault(self, by.root), sink)
     }
 }
 
@@ -48,8 +47,9 @@ impl<T> Validate for Checked<T> {
     ghost depth = { 0 };
 
     /// Reports `Invalid` where the item is none of the choice's.
-    fn validate<'a, S: Sink>(
+    fn validate_with<'a, S: Sink>(
         &'a self,
+        _rules: &Rules<'_>,
         _root: &Root,
         path: &mut Steps<'a>,
         sink: &mut S,
@@ -58,19 +58,17 @@ impl<T> Validate for Checked<T> {
     }
 }
 
-impl Validate for Stride {
+impl Members for Stride {
     ghost kind = { Some stride_kind };
 
     ghost tree = { stride_tree };
 
-    ghost own = { no_reports };
-
     ghost depth = { 0 };
 
     /// Reports `Invalid` where the stride is below 4 or above 252 bytes (glTF 2.0, section 5.11.4).
-    fn validate<'a, S: Sink>(
+    fn tell_members<'a, S: Sink>(
         &'a self,
-        _root: &Root,
+        _by: &Context<'_>,
         path: &mut Steps<'a>,
         sink: &mut S,
     ) -> Result<(), Stop<S::Refusal>> {

@@ -6,55 +6,49 @@ ghost use Rattle.gltf_nodes.specs.LightTrees.{light_members, light_of_node_membe
 ghost use Rattle.gltf_schema.specs.Tree.{absent};
 ghost use Rattle.gltf_schema.specs.Fields.{closed_object};
 ghost use Rattle.gltf_faults.specs.Silence.{silent};
-ghost use Rattle.gltf_validation.specs.ByType.{no_reports};
 
-use super::Validate;
+use super::members::Members;
 use super::silent::Silent;
 use super::within::member;
 use gltf_base::{Step, Steps};
-use gltf_faults::spot_fault;
+use gltf_faults::{Context, spot_fault};
 use gltf_nodes::extensions::scene::khr_lights_punctual::{KhrLightsPunctual, Light, Spot};
 use gltf_nodes::extensions::scene::khr_materials_variants::Variant;
-use gltf_root::root::Root;
 use gltf_sinks::{Sink, Stop, told};
 
-impl Validate for Light {
+impl Members for Light {
     ghost kind = { Some light_kind };
 
     ghost tree = { λ v. closed_object (light_members v) };
 
-    ghost own = { no_reports };
-
     ghost depth = { 1 };
 
     /// Reports `Invalid` at a type that is none, or `Missing` at `spot` where a spot light has no cone.
-    fn validate<'a, S: Sink>(
+    fn tell_members<'a, S: Sink>(
         &'a self,
-        root: &Root,
+        by: &Context<'_>,
         path: &mut Steps<'a>,
         sink: &mut S,
     ) -> Result<(), Stop<S::Refusal>> {
-        let type_ = member(Ok(()), &self.type_, "type", root, path, sink);
+        let type_ = member(Ok(()), &self.type_, "type", by, path, sink);
         told(type_, spot_fault(self), Step::Field("spot"), path, sink)
     }
 }
 
-impl Validate for KhrLightsPunctual {
+impl Members for KhrLightsPunctual {
     ghost kind = { Some light_of_node_kind };
 
     ghost tree = { λ v. closed_object (light_of_node_members v) };
 
-    ghost own = { no_reports };
-
     ghost depth = { 1 };
 
-    fn validate<'a, S: Sink>(
+    fn tell_members<'a, S: Sink>(
         &'a self,
-        root: &Root,
+        by: &Context<'_>,
         path: &mut Steps<'a>,
         sink: &mut S,
     ) -> Result<(), Stop<S::Refusal>> {
-        member(Ok(()), &self.light, "light", root, path, sink)
+        member(Ok(()), &self.light, "light", by, path, sink)
     }
 }
 
@@ -63,7 +57,7 @@ impl Silent for Spot {
 
     ghost tree = { λ v. closed_object (spot_members v) };
 
-    ghost is_silent = { λ v root base. silent spot_kind (unfold spot_rows in refl) (closed_object (spot_members v)) root absent base };
+    ghost is_silent = { λ v context base. silent spot_kind (unfold spot_rows in refl) (closed_object (spot_members v)) context absent base };
 }
 
 impl Silent for Variant {
@@ -71,5 +65,5 @@ impl Silent for Variant {
 
     ghost tree = { λ v. closed_object (variant_members v) };
 
-    ghost is_silent = { λ v root base. silent variant_kind (unfold variant_rows in refl) (closed_object (variant_members v)) root absent base };
+    ghost is_silent = { λ v context base. silent variant_kind (unfold variant_rows in refl) (closed_object (variant_members v)) context absent base };
 }

@@ -3,13 +3,14 @@
 ghost use Rattle.std.specs.Prelude.{◌≡◌, ◌+◌, ◌++◌, ◌∷◌, [], None, max};
 ghost use Rattle.gltf_paths.specs.Steps.{key};
 ghost use Rattle.gltf_schema.specs.Tree.{absent};
-ghost use Rattle.gltf_root.specs.RootTrees.{root_tree};
+ghost use Rattle.gltf_faults.specs.Context.{context_of};
 ghost use Rattle.gltf_sinks.specs.Handed.{Walked};
 ghost use Rattle.gltf_validation.specs.ByType.{reports_in, each_entry};
 
 use super::Validate;
 use super::within::{also_within, within};
 use gltf_base::{KeyStep, Steps};
+use gltf_faults::{Context, Rules};
 use gltf_root::root::Root;
 use gltf_sinks::{Sink, Stop};
 use std::collections::BTreeMap;
@@ -19,38 +20,53 @@ impl<K: KeyStep + Validate + Ord, V: Validate> Validate for BTreeMap<K, V> {
 
     ghost tree = { λ _. absent };
 
-    ghost own = { λ m root. each_entry K.key_text (reports_in K.kind K.tree K.own root) (reports_in V.kind V.tree V.own root) m.entries };
+    ghost own = { λ m context. each_entry K.key_text (reports_in K.kind K.tree K.own context) (reports_in V.kind V.tree V.own context) m.entries };
 
     ghost depth = { max K.depth V.depth + 1 };
 
     /// Reports, for each entry in the order of the keys, what is wrong in its key and then in its
     /// value, both at the key.
-    fn validate<'a, S: Sink>(
+    fn validate_with<'a, S: Sink>(
         &'a self,
+        rules: &Rules<'_>,
         root: &Root,
         path: &mut Steps<'a>,
         sink: &mut S,
     ) -> Result<(), Stop<S::Refusal>> {
-        for (key, value) in self {
-            entry(key, value, root, path, sink)?;
-        }
-        Ok(())
+        entries_of(self, &Context { rules, root }, path, sink)
     }
+}
+
+/// Validates the entries of a map in the order of the keys.
+fn entries_of<'a, K: KeyStep + Validate + Ord, V: Validate, S: Sink>(
+    map: &'a BTreeMap<K, V>,
+    context: &Context<'_>,
+    path: &mut Steps<'a>,
+    sink: &mut S,
+) -> Result<(), Stop<S::Refusal>>
+    ensures { Walked S.next S.refuses path.old (S.state sink.old)
+        (each_entry K.key_text (reports_in K.kind K.tree K.own (context_of context.now)) (reports_in V.kind V.tree V.own (context_of context.now)) map.now.entries)
+        (max K.depth V.depth + 1) result path.new (S.state sink.new) }
+{
+    for (key, value) in map {
+        entry(key, value, context, path, sink)?;
+    }
+    Ok(())
 }
 
 /// Validates the key and the value of one entry.
 fn entry<'a, K: KeyStep + Validate, V: Validate, S: Sink>(
     named: &'a K,
     value: &'a V,
-    root: &Root,
+    context: &Context<'_>,
     path: &mut Steps<'a>,
     sink: &mut S,
 ) -> Result<(), Stop<S::Refusal>>
     ensures { Walked S.next S.refuses path.old (S.state sink.old)
-        (λ base. reports_in K.kind K.tree K.own (root_tree root.now) named.now (base ++ key (K.key_text named.now) ∷ [])
-        ++ reports_in V.kind V.tree V.own (root_tree root.now) value.now (base ++ key (K.key_text named.now) ∷ []))
+        (λ base. reports_in K.kind K.tree K.own (context_of context.now) named.now (base ++ key (K.key_text named.now) ∷ [])
+        ++ reports_in V.kind V.tree V.own (context_of context.now) value.now (base ++ key (K.key_text named.now) ∷ []))
         (max K.depth V.depth + 1) result path.new (S.state sink.new) }
 {
-    let walked = within(named, named.key_step(), root, path, sink);
-    also_within(walked, value, named.key_step(), root, path, sink)
+    let walked = within(named, named.key_step(), context, path, sink);
+    also_within(walked, value, named.key_step(), context, path, sink)
 }

@@ -6,41 +6,38 @@ ghost use Rattle.gltf_materials.specs.MaterialTrees.{material_members, pbr_metal
 ghost use Rattle.gltf_schema.specs.Extensions.{kept_extensions};
 ghost use Rattle.gltf_schema.specs.Fields.{closed_object};
 ghost use Rattle.gltf_schema.specs.Kind.{ObjectName, Number};
-ghost use Rattle.gltf_validation.specs.ByType.{no_reports};
 
-use super::Validate;
+use super::members::Members;
 use super::silent::Silent;
 use super::within::member;
 use gltf_base::Steps;
+use gltf_faults::Context;
 use gltf_materials::material::{
     AlphaCutoff, EmissiveFactor, Material, PbrBaseColorFactor, PbrMetallicRoughness,
 };
-use gltf_root::root::Root;
 use gltf_shading::extensions::material as extensions;
 use gltf_shading::material::StrengthFactor;
 use gltf_sinks::{Sink, Stop};
 
-impl Validate for Material {
+impl Members for Material {
     ghost kind = { Some material_kind };
 
     ghost tree = { λ v. closed_object (material_members v) };
 
-    ghost own = { no_reports };
-
     ghost depth = { 4 };
 
-    fn validate<'a, S: Sink>(
+    fn tell_members<'a, S: Sink>(
         &'a self,
-        root: &Root,
+        by: &Context<'_>,
         path: &mut Steps<'a>,
         sink: &mut S,
     ) -> Result<(), Stop<S::Refusal>> {
-        let alpha_mode = member(Ok(()), &self.alpha_mode, "alphaMode", root, path, sink);
+        let alpha_mode = member(Ok(()), &self.alpha_mode, "alphaMode", by, path, sink);
         let pbr_metallic_roughness = member(
             alpha_mode,
             &self.pbr_metallic_roughness,
             "pbrMetallicRoughness",
-            root,
+            by,
             path,
             sink,
         );
@@ -48,7 +45,7 @@ impl Validate for Material {
             pbr_metallic_roughness,
             &self.normal_texture,
             "normalTexture",
-            root,
+            by,
             path,
             sink,
         );
@@ -56,7 +53,7 @@ impl Validate for Material {
             normal_texture,
             &self.occlusion_texture,
             "occlusionTexture",
-            root,
+            by,
             path,
             sink,
         );
@@ -64,7 +61,7 @@ impl Validate for Material {
             occlusion_texture,
             &self.emissive_texture,
             "emissiveTexture",
-            root,
+            by,
             path,
             sink,
         );
@@ -72,25 +69,23 @@ impl Validate for Material {
             emissive_texture,
             &self.extensions,
             "extensions",
-            root,
+            by,
             path,
             sink,
         )
     }
 }
 
-impl Validate for PbrMetallicRoughness {
+impl Members for PbrMetallicRoughness {
     ghost kind = { Some pbr_metallic_roughness_kind };
 
     ghost tree = { λ v. closed_object (pbr_metallic_roughness_members v) };
 
-    ghost own = { no_reports };
-
     ghost depth = { 2 };
 
-    fn validate<'a, S: Sink>(
+    fn tell_members<'a, S: Sink>(
         &'a self,
-        root: &Root,
+        by: &Context<'_>,
         path: &mut Steps<'a>,
         sink: &mut S,
     ) -> Result<(), Stop<S::Refusal>> {
@@ -98,7 +93,7 @@ impl Validate for PbrMetallicRoughness {
             Ok(()),
             &self.base_color_texture,
             "baseColorTexture",
-            root,
+            by,
             path,
             sink,
         );
@@ -106,7 +101,7 @@ impl Validate for PbrMetallicRoughness {
             base_color_texture,
             &self.metallic_roughness_texture,
             "metallicRoughnessTexture",
-            root,
+            by,
             path,
             sink,
         )

@@ -8,82 +8,74 @@ ghost use Rattle.gltf_schema.specs.Extensions.{kept_extensions};
 ghost use Rattle.gltf_schema.specs.Fields.{closed_object};
 ghost use Rattle.gltf_schema.specs.Kind.{ObjectName};
 ghost use Rattle.gltf_faults.specs.Silence.{silent};
-ghost use Rattle.gltf_validation.specs.ByType.{no_reports};
 
-use super::Validate;
+use super::members::Members;
 use super::silent::Silent;
 use super::within::member;
 use gltf_base::Steps;
-use gltf_faults::positions;
+use gltf_faults::{Context, positions};
 use gltf_meshes::extensions::mesh as extensions;
 use gltf_meshes::extensions::mesh::{KhrMaterialsVariants, Mapping};
 use gltf_meshes::mesh::{Mesh, MorphTarget, Primitive};
-use gltf_root::root::Root;
 use gltf_sinks::{Sink, Stop};
 
-impl Validate for Mesh {
+impl Members for Mesh {
     ghost kind = { Some mesh_kind };
 
     ghost tree = { λ v. closed_object (mesh_members v) };
 
-    ghost own = { no_reports };
-
     ghost depth = { 5 };
 
-    fn validate<'a, S: Sink>(
+    fn tell_members<'a, S: Sink>(
         &'a self,
-        root: &Root,
+        by: &Context<'_>,
         path: &mut Steps<'a>,
         sink: &mut S,
     ) -> Result<(), Stop<S::Refusal>> {
-        member(Ok(()), &self.primitives, "primitives", root, path, sink)
+        member(Ok(()), &self.primitives, "primitives", by, path, sink)
     }
 }
 
-impl Validate for Primitive {
+impl Members for Primitive {
     ghost kind = { Some primitive_kind };
 
     ghost tree = { λ v. closed_object (primitive_members v) };
-
-    ghost own = { no_reports };
 
     ghost depth = { 3 };
 
     /// Reports, behind its members, `Missing` at `attributes["POSITION"]` where there are no positions, and
     /// what is wrong with the bounds of their accessor, where it is there.
-    fn validate<'a, S: Sink>(
+    fn tell_members<'a, S: Sink>(
         &'a self,
-        root: &Root,
+        by: &Context<'_>,
         path: &mut Steps<'a>,
         sink: &mut S,
     ) -> Result<(), Stop<S::Refusal>> {
-        let attributes = member(Ok(()), &self.attributes, "attributes", root, path, sink);
-        let indices = member(attributes, &self.indices, "indices", root, path, sink);
-        let material = member(indices, &self.material, "material", root, path, sink);
-        let mode = member(material, &self.mode, "mode", root, path, sink);
-        let targets = member(mode, &self.targets, "targets", root, path, sink);
-        positions(targets, self, root, path, sink)
+        let attributes = member(Ok(()), &self.attributes, "attributes", by, path, sink);
+        let indices = member(attributes, &self.indices, "indices", by, path, sink);
+        let material = member(indices, &self.material, "material", by, path, sink);
+        let mode = member(material, &self.mode, "mode", by, path, sink);
+        let targets = member(mode, &self.targets, "targets", by, path, sink);
+        positions(targets, self, by.root, path, sink)
     }
 }
 
-impl Validate for MorphTarget {
+impl Members for MorphTarget {
     ghost kind = { Some morph_target_kind };
 
     ghost tree = { λ v. closed_object (morph_target_members v) };
 
-    ghost own = { no_reports };
-
     ghost depth = { 1 };
 
-    fn validate<'a, S: Sink>(
+    fn tell_members<'a, S: Sink>(
         &'a self,
-        root: &Root,
+        by: &Context<'_>,
         path: &mut Steps<'a>,
         sink: &mut S,
     ) -> Result<(), Stop<S::Refusal>> {
-        let positions = member(Ok(()), &self.positions, "POSITION", root, path, sink);
-        let normals = member(positions, &self.normals, "NORMAL", root, path, sink);
-        member(normals, &self.tangents, "TANGENT", root, path, sink)
+        let positions = member(Ok(()), &self.positions, "POSITION", by, path, sink);
+        let normals = member(positions, &self.normals, "NORMAL", by, path, sink);
+        member(normals, &self.tangents, "TANGENT", by, path, sink)
     }
 }
 
@@ -92,7 +84,7 @@ impl Silent for KhrMaterialsVariants {
 
     ghost tree = { λ v. closed_object (variant_mappings_members v) };
 
-    ghost is_silent = { λ v root base. silent variant_mappings_kind (unfold variant_mappings_rows variant_mapping_rows in refl) (closed_object (variant_mappings_members v)) root absent base };
+    ghost is_silent = { λ v context base. silent variant_mappings_kind (unfold variant_mappings_rows variant_mapping_rows in refl) (closed_object (variant_mappings_members v)) context absent base };
 }
 
 impl Silent for Mapping {
@@ -100,7 +92,7 @@ impl Silent for Mapping {
 
     ghost tree = { λ v. closed_object (variant_mapping_members v) };
 
-    ghost is_silent = { λ v root base. silent variant_mapping_kind (unfold variant_mapping_rows in refl) (closed_object (variant_mapping_members v)) root absent base };
+    ghost is_silent = { λ v context base. silent variant_mapping_kind (unfold variant_mapping_rows in refl) (closed_object (variant_mapping_members v)) context absent base };
 }
 
 impl Silent for extensions::Primitive {
@@ -108,7 +100,7 @@ impl Silent for extensions::Primitive {
 
     ghost tree = { primitive_extensions };
 
-    ghost is_silent = { λ v root base. silent primitive_extensions_kind (unfold primitive_extension_rows variant_mappings_rows variant_mapping_rows in refl) (primitive_extensions v) root absent base };
+    ghost is_silent = { λ v context base. silent primitive_extensions_kind (unfold primitive_extension_rows variant_mappings_rows variant_mapping_rows in refl) (primitive_extensions v) context absent base };
 }
 
 impl Silent for extensions::Mesh {

@@ -6,33 +6,30 @@ ghost use Rattle.gltf_materials.specs.MaterialTrees.{normal_texture_members, nor
 ghost use Rattle.gltf_schema.specs.Extensions.{kept_extensions};
 ghost use Rattle.gltf_schema.specs.Fields.{closed_object};
 ghost use Rattle.gltf_schema.specs.Kind.{ObjectName};
-ghost use Rattle.gltf_validation.specs.ByType.{no_reports};
 
-use super::Validate;
+use super::members::Members;
 use super::silent::Silent;
 use super::within::member;
 use gltf_base::Steps;
+use gltf_faults::Context;
 use gltf_materials::material::NormalTexture;
-use gltf_root::root::Root;
 use gltf_shading::extensions::material as extensions;
 use gltf_sinks::{Sink, Stop};
 
-impl Validate for NormalTexture {
+impl Members for NormalTexture {
     ghost kind = { Some normal_texture_kind };
 
     ghost tree = { λ v. closed_object (normal_texture_members v) };
 
-    ghost own = { no_reports };
-
     ghost depth = { 1 };
 
-    fn validate<'a, S: Sink>(
+    fn tell_members<'a, S: Sink>(
         &'a self,
-        root: &Root,
+        by: &Context<'_>,
         path: &mut Steps<'a>,
         sink: &mut S,
     ) -> Result<(), Stop<S::Refusal>> {
-        member(Ok(()), &self.index, "index", root, path, sink)
+        member(Ok(()), &self.index, "index", by, path, sink)
     }
 }
 

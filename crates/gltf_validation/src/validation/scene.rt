@@ -6,72 +6,65 @@ ghost use Rattle.gltf_nodes.specs.SceneTrees.{node_members, node_extensions, sce
 ghost use Rattle.gltf_schema.specs.Extensions.{kept_extensions};
 ghost use Rattle.gltf_schema.specs.Fields.{closed_object};
 ghost use Rattle.gltf_schema.specs.Kind.{ObjectName, Numbers};
-ghost use Rattle.gltf_validation.specs.ByType.{no_reports};
 
-use super::Validate;
+use super::members::Members;
 use super::silent::Silent;
 use super::within::member;
 use gltf_base::Steps;
+use gltf_faults::Context;
 use gltf_nodes::extensions::{scene as extensions, skin as skin_extensions};
 use gltf_nodes::scene::{Node, Scene, UnitQuaternion};
 use gltf_nodes::skin::Skin;
-use gltf_root::root::Root;
 use gltf_sinks::{Sink, Stop};
 
-impl Validate for Node {
+impl Members for Node {
     ghost kind = { Some node_kind };
 
     ghost tree = { λ v. closed_object (node_members v) };
 
-    ghost own = { no_reports };
-
     ghost depth = { 3 };
 
-    fn validate<'a, S: Sink>(
+    fn tell_members<'a, S: Sink>(
         &'a self,
-        root: &Root,
+        by: &Context<'_>,
         path: &mut Steps<'a>,
         sink: &mut S,
     ) -> Result<(), Stop<S::Refusal>> {
-        let camera = member(Ok(()), &self.camera, "camera", root, path, sink);
-        let children = member(camera, &self.children, "children", root, path, sink);
-        let extensions = member(children, &self.extensions, "extensions", root, path, sink);
-        let mesh = member(extensions, &self.mesh, "mesh", root, path, sink);
-        member(mesh, &self.skin, "skin", root, path, sink)
+        let camera = member(Ok(()), &self.camera, "camera", by, path, sink);
+        let children = member(camera, &self.children, "children", by, path, sink);
+        let extensions = member(children, &self.extensions, "extensions", by, path, sink);
+        let mesh = member(extensions, &self.mesh, "mesh", by, path, sink);
+        member(mesh, &self.skin, "skin", by, path, sink)
     }
 }
 
-impl Validate for Scene {
+impl Members for Scene {
     ghost kind = { Some scene_kind };
 
     ghost tree = { λ v. closed_object (scene_members v) };
 
-    ghost own = { no_reports };
-
     ghost depth = { 2 };
 
-    fn validate<'a, S: Sink>(
+    fn tell_members<'a, S: Sink>(
         &'a self,
-        root: &Root,
+        by: &Context<'_>,
         path: &mut Steps<'a>,
         sink: &mut S,
     ) -> Result<(), Stop<S::Refusal>> {
-        member(Ok(()), &self.nodes, "nodes", root, path, sink)
+        member(Ok(()), &self.nodes, "nodes", by, path, sink)
     }
 }
 
-impl Validate for Skin {
+impl Members for Skin {
     ghost kind = { Some skin_kind };
 
     ghost tree = { λ v. closed_object (skin_members v) };
 
-    ghost own = { no_reports };
-
     ghost depth = { 2 };
 
-    fn validate<'a, S: Sink>(
+    fn tell_members<'a, S: Sink>(
         &'a self,
-        root: &Root,
+        by: &Context<'_>,
         path: &mut Steps<'a>,
         sink: &mut S,
     ) -> Result<(), Stop<S::Refusal>> {
@@ -79,7 +72,7 @@ impl Validate for Skin {
             Ok(()),
             &self.inverse_bind_matrices,
             "inverseBindMatrices",
-            root,
+            by,
             path,
             sink,
         );
@@ -87,26 +80,24 @@ impl Validate for Skin {
             inverse_bind_matrices,
             &self.joints,
             "joints",
-            root,
+            by,
             path,
             sink,
         );
-        member(joints, &self.skeleton, "skeleton", root, path, sink)
+        member(joints, &self.skeleton, "skeleton", by, path, sink)
     }
 }
 
-impl Validate for extensions::Node {
+impl Members for extensions::Node {
     ghost kind = { Some node_extensions_kind };
 
     ghost tree = { node_extensions };
 
-    ghost own = { no_reports };
-
     ghost depth = { 2 };
 
-    fn validate<'a, S: Sink>(
+    fn tell_members<'a, S: Sink>(
         &'a self,
-        root: &Root,
+        by: &Context<'_>,
         path: &mut Steps<'a>,
         sink: &mut S,
     ) -> Result<(), Stop<S::Refusal>> {
@@ -114,7 +105,7 @@ impl Validate for extensions::Node {
             Ok(()),
             &self.khr_lights_punctual,
             "KHR_lights_punctual",
-            root,
+            by,
             path,
             sink,
         )

@@ -7,13 +7,12 @@ ghost use Rattle.gltf_materials.specs.MaterialTrees.{material_extensions};
 ghost use Rattle.gltf_schema.specs.Tree.{absent};
 ghost use Rattle.gltf_schema.specs.Fields.{closed_object};
 ghost use Rattle.gltf_faults.specs.Silence.{silent};
-ghost use Rattle.gltf_validation.specs.ByType.{no_reports};
 
-use super::Validate;
+use super::members::Members;
 use super::silent::Silent;
 use super::within::member;
 use gltf_base::Steps;
-use gltf_root::root::Root;
+use gltf_faults::Context;
 use gltf_shading::extensions::material as extensions;
 use gltf_shading::extensions::material::{
     AttenuationColor, AttenuationDistance, EmissiveStrength, EmissiveStrengthFactor,
@@ -23,18 +22,16 @@ use gltf_shading::extensions::material::{
 };
 use gltf_sinks::{Sink, Stop};
 
-impl Validate for extensions::Material {
+impl Members for extensions::Material {
     ghost kind = { Some material_extensions_kind };
 
     ghost tree = { material_extensions };
 
-    ghost own = { no_reports };
-
     ghost depth = { 3 };
 
-    fn validate<'a, S: Sink>(
+    fn tell_members<'a, S: Sink>(
         &'a self,
-        root: &Root,
+        by: &Context<'_>,
         path: &mut Steps<'a>,
         sink: &mut S,
     ) -> Result<(), Stop<S::Refusal>> {
@@ -42,7 +39,7 @@ impl Validate for extensions::Material {
             Ok(()),
             &self.pbr_specular_glossiness,
             "KHR_materials_pbrSpecularGlossiness",
-            root,
+            by,
             path,
             sink,
         );
@@ -50,7 +47,7 @@ impl Validate for extensions::Material {
             pbr_specular_glossiness,
             &self.transmission,
             "KHR_materials_transmission",
-            root,
+            by,
             path,
             sink,
         );
@@ -58,7 +55,7 @@ impl Validate for extensions::Material {
             transmission,
             &self.volume,
             "KHR_materials_volume",
-            root,
+            by,
             path,
             sink,
         );
@@ -66,25 +63,23 @@ impl Validate for extensions::Material {
             volume,
             &self.specular,
             "KHR_materials_specular",
-            root,
+            by,
             path,
             sink,
         )
     }
 }
 
-impl Validate for PbrSpecularGlossiness {
+impl Members for PbrSpecularGlossiness {
     ghost kind = { Some pbr_specular_glossiness_kind };
 
     ghost tree = { pbr_specular_glossiness_tree };
 
-    ghost own = { no_reports };
-
     ghost depth = { 2 };
 
-    fn validate<'a, S: Sink>(
+    fn tell_members<'a, S: Sink>(
         &'a self,
-        root: &Root,
+        by: &Context<'_>,
         path: &mut Steps<'a>,
         sink: &mut S,
     ) -> Result<(), Stop<S::Refusal>> {
@@ -92,7 +87,7 @@ impl Validate for PbrSpecularGlossiness {
             Ok(()),
             &self.diffuse_texture,
             "diffuseTexture",
-            root,
+            by,
             path,
             sink,
         );
@@ -100,25 +95,23 @@ impl Validate for PbrSpecularGlossiness {
             diffuse_texture,
             &self.specular_glossiness_texture,
             "specularGlossinessTexture",
-            root,
+            by,
             path,
             sink,
         )
     }
 }
 
-impl Validate for Transmission {
+impl Members for Transmission {
     ghost kind = { Some transmission_kind };
 
     ghost tree = { λ v. closed_object (transmission_members v) };
 
-    ghost own = { no_reports };
-
     ghost depth = { 2 };
 
-    fn validate<'a, S: Sink>(
+    fn tell_members<'a, S: Sink>(
         &'a self,
-        root: &Root,
+        by: &Context<'_>,
         path: &mut Steps<'a>,
         sink: &mut S,
     ) -> Result<(), Stop<S::Refusal>> {
@@ -126,25 +119,23 @@ impl Validate for Transmission {
             Ok(()),
             &self.transmission_texture,
             "transmissionTexture",
-            root,
+            by,
             path,
             sink,
         )
     }
 }
 
-impl Validate for Volume {
+impl Members for Volume {
     ghost kind = { Some volume_kind };
 
     ghost tree = { λ v. closed_object (volume_members v) };
 
-    ghost own = { no_reports };
-
     ghost depth = { 2 };
 
-    fn validate<'a, S: Sink>(
+    fn tell_members<'a, S: Sink>(
         &'a self,
-        root: &Root,
+        by: &Context<'_>,
         path: &mut Steps<'a>,
         sink: &mut S,
     ) -> Result<(), Stop<S::Refusal>> {
@@ -152,25 +143,23 @@ impl Validate for Volume {
             Ok(()),
             &self.thickness_texture,
             "thicknessTexture",
-            root,
+            by,
             path,
             sink,
         )
     }
 }
 
-impl Validate for Specular {
+impl Members for Specular {
     ghost kind = { Some specular_kind };
 
     ghost tree = { λ v. closed_object (specular_members v) };
 
-    ghost own = { no_reports };
-
     ghost depth = { 2 };
 
-    fn validate<'a, S: Sink>(
+    fn tell_members<'a, S: Sink>(
         &'a self,
-        root: &Root,
+        by: &Context<'_>,
         path: &mut Steps<'a>,
         sink: &mut S,
     ) -> Result<(), Stop<S::Refusal>> {
@@ -178,7 +167,7 @@ impl Validate for Specular {
             Ok(()),
             &self.specular_texture,
             "specularTexture",
-            root,
+            by,
             path,
             sink,
         );
@@ -186,7 +175,7 @@ impl Validate for Specular {
             specular_texture,
             &self.specular_color_texture,
             "specularColorTexture",
-            root,
+            by,
             path,
             sink,
         )
@@ -206,7 +195,7 @@ impl Silent for Ior {
 
     ghost tree = { λ v. closed_object (ior_members v) };
 
-    ghost is_silent = { λ v root base. silent ior_kind (unfold ior_rows in refl) (closed_object (ior_members v)) root absent base };
+    ghost is_silent = { λ v context base. silent ior_kind (unfold ior_rows in refl) (closed_object (ior_members v)) context absent base };
 }
 
 impl Silent for EmissiveStrength {
@@ -214,7 +203,7 @@ impl Silent for EmissiveStrength {
 
     ghost tree = { λ v. closed_object (emissive_strength_members v) };
 
-    ghost is_silent = { λ v root base. silent emissive_strength_kind (unfold emissive_strength_rows in refl) (closed_object (emissive_strength_members v)) root absent base };
+    ghost is_silent = { λ v context base. silent emissive_strength_kind (unfold emissive_strength_rows in refl) (closed_object (emissive_strength_members v)) context absent base };
 }
 
 impl Silent for PbrDiffuseFactor {

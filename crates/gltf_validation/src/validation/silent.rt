@@ -5,14 +5,12 @@ ghost use Rattle.gltf_paths.specs.Steps.{Step};
 ghost use Rattle.gltf_schema.specs.Tree.{Tree, absent, whole, truth};
 ghost use Rattle.gltf_schema.specs.Kind.{Kind, U32, U64, Number, Numbers, Text, Truth, Any};
 ghost use Rattle.gltf_schema.specs.Fields.{size_tree, real_tree, reals_tree, text_tree, any_tree};
+ghost use Rattle.gltf_faults.specs.Context.{Context};
 ghost use Rattle.gltf_validation.specs.ByType.{reports_by, no_reports};
 
-use super::Validate;
+use gltf_base::Real;
 use gltf_base::validation::USize64;
-use gltf_base::{Real, Steps};
 use gltf_data::extras::Void;
-use gltf_root::root::Root;
-use gltf_sinks::{Sink, Stop};
 use serde_json::Value;
 
 /// A type in which nothing can be wrong.
@@ -21,26 +19,7 @@ pub trait Silent {
 
     ghost tree: { Self → Tree } = { λ _. absent };
 
-    ghost is_silent: { (x : Self) (root : Tree) (base : List Step) → reports_by kind (tree x) (no_reports x) root base ≡ [] };
-}
-
-impl<T: Silent> Validate for T {
-    ghost kind = { T.kind };
-
-    ghost tree = { T.tree };
-
-    ghost own = { no_reports };
-
-    ghost depth = { 0 };
-
-    fn validate<'a, S: Sink>(
-        &'a self,
-        _root: &Root,
-        _path: &mut Steps<'a>,
-        _sink: &mut S,
-    ) -> Result<(), Stop<S::Refusal>> {
-        Ok(())
-    }
+    ghost is_silent: { (x : Self) (context : Context) (base : List Step) → reports_by kind (tree x) (no_reports x) context base ≡ [] };
 }
 
 impl Silent for () {

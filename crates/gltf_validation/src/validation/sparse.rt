@@ -6,80 +6,73 @@ ghost use Rattle.gltf_data.specs.AccessorTrees.{sparse_members, sparse_indices_m
 ghost use Rattle.gltf_schema.specs.Extensions.{dropped_extensions};
 ghost use Rattle.gltf_schema.specs.Fields.{closed_object};
 ghost use Rattle.gltf_schema.specs.Kind.{ObjectName};
-ghost use Rattle.gltf_validation.specs.ByType.{no_reports};
 
-use super::Validate;
+use super::members::Members;
 use super::silent::Silent;
 use super::within::member;
 use gltf_base::Steps;
 use gltf_data::accessor::sparse::{Indices, Sparse, Values};
 use gltf_data::extensions::accessor::sparse as extensions;
-use gltf_root::root::Root;
+use gltf_faults::Context;
 use gltf_sinks::{Sink, Stop};
 
-impl Validate for Sparse {
+impl Members for Sparse {
     ghost kind = { Some sparse_kind };
 
     ghost tree = { λ v. closed_object (sparse_members v) };
 
-    ghost own = { no_reports };
-
     ghost depth = { 2 };
 
-    fn validate<'a, S: Sink>(
+    fn tell_members<'a, S: Sink>(
         &'a self,
-        root: &Root,
+        by: &Context<'_>,
         path: &mut Steps<'a>,
         sink: &mut S,
     ) -> Result<(), Stop<S::Refusal>> {
-        let indices = member(Ok(()), &self.indices, "indices", root, path, sink);
-        member(indices, &self.values, "values", root, path, sink)
+        let indices = member(Ok(()), &self.indices, "indices", by, path, sink);
+        member(indices, &self.values, "values", by, path, sink)
     }
 }
 
-impl Validate for Indices {
+impl Members for Indices {
     ghost kind = { Some sparse_indices_kind };
 
     ghost tree = { λ v. closed_object (sparse_indices_members v) };
 
-    ghost own = { no_reports };
-
     ghost depth = { 1 };
 
-    fn validate<'a, S: Sink>(
+    fn tell_members<'a, S: Sink>(
         &'a self,
-        root: &Root,
+        by: &Context<'_>,
         path: &mut Steps<'a>,
         sink: &mut S,
     ) -> Result<(), Stop<S::Refusal>> {
-        let buffer_view = member(Ok(()), &self.buffer_view, "bufferView", root, path, sink);
+        let buffer_view = member(Ok(()), &self.buffer_view, "bufferView", by, path, sink);
         member(
             buffer_view,
             &self.component_type,
             "componentType",
-            root,
+            by,
             path,
             sink,
         )
     }
 }
 
-impl Validate for Values {
+impl Members for Values {
     ghost kind = { Some sparse_values_kind };
 
     ghost tree = { λ v. closed_object (sparse_values_members v) };
 
-    ghost own = { no_reports };
-
     ghost depth = { 1 };
 
-    fn validate<'a, S: Sink>(
+    fn tell_members<'a, S: Sink>(
         &'a self,
-        root: &Root,
+        by: &Context<'_>,
         path: &mut Steps<'a>,
         sink: &mut S,
     ) -> Result<(), Stop<S::Refusal>> {
-        member(Ok(()), &self.buffer_view, "bufferView", root, path, sink)
+        member(Ok(()), &self.buffer_view, "bufferView", by, path, sink)
     }
 }
 

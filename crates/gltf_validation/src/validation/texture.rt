@@ -8,14 +8,12 @@ ghost use Rattle.gltf_schema.specs.Extensions.{kept_extensions};
 ghost use Rattle.gltf_schema.specs.Fields.{closed_object};
 ghost use Rattle.gltf_schema.specs.Kind.{ObjectName};
 ghost use Rattle.gltf_faults.specs.Silence.{silent};
-ghost use Rattle.gltf_validation.specs.ByType.{no_reports};
 
-use super::Validate;
+use super::members::Members;
 use super::silent::Silent;
 use super::within::member;
 use gltf_base::{Step, Steps};
-use gltf_faults::source_fault;
-use gltf_root::root::Root;
+use gltf_faults::{Context, source_fault};
 use gltf_sinks::{Sink, Stop, told};
 use gltf_textures::extensions::texture as extensions;
 use gltf_textures::extensions::texture::{
@@ -23,49 +21,45 @@ use gltf_textures::extensions::texture::{
 };
 use gltf_textures::texture::{Info, Sampler, Texture};
 
-impl Validate for Sampler {
+impl Members for Sampler {
     ghost kind = { Some sampler_kind };
 
     ghost tree = { λ v. closed_object (sampler_members v) };
 
-    ghost own = { no_reports };
-
     ghost depth = { 1 };
 
-    fn validate<'a, S: Sink>(
+    fn tell_members<'a, S: Sink>(
         &'a self,
-        root: &Root,
+        by: &Context<'_>,
         path: &mut Steps<'a>,
         sink: &mut S,
     ) -> Result<(), Stop<S::Refusal>> {
-        let mag_filter = member(Ok(()), &self.mag_filter, "magFilter", root, path, sink);
-        let min_filter = member(mag_filter, &self.min_filter, "minFilter", root, path, sink);
-        let wrap_s = member(min_filter, &self.wrap_s, "wrapS", root, path, sink);
-        member(wrap_s, &self.wrap_t, "wrapT", root, path, sink)
+        let mag_filter = member(Ok(()), &self.mag_filter, "magFilter", by, path, sink);
+        let min_filter = member(mag_filter, &self.min_filter, "minFilter", by, path, sink);
+        let wrap_s = member(min_filter, &self.wrap_s, "wrapS", by, path, sink);
+        member(wrap_s, &self.wrap_t, "wrapT", by, path, sink)
     }
 }
 
-impl Validate for Texture {
+impl Members for Texture {
     ghost kind = { Some texture_kind };
 
     ghost tree = { λ v. closed_object (texture_members v) };
 
-    ghost own = { no_reports };
-
     ghost depth = { 1 };
 
-    /// Reports `IndexOutOfBounds` at a `sampler` or a `source` that names none, and `Missing` at
-    /// `source` where it is 4294967295, which stands for no image.
-    fn validate<'a, S: Sink>(
+    /// Reports `IndexOutOfBounds` at a `sampler` or a `source` that names none. Where `source` is
+    /// 4294967295, which stands for no image, that is `Missing`, and nothing where the rules allow it.
+    fn tell_members<'a, S: Sink>(
         &'a self,
-        root: &Root,
+        by: &Context<'_>,
         path: &mut Steps<'a>,
         sink: &mut S,
     ) -> Result<(), Stop<S::Refusal>> {
-        let sampler = member(Ok(()), &self.sampler, "sampler", root, path, sink);
+        let sampler = member(Ok(()), &self.sampler, "sampler", by, path, sink);
         told(
             sampler,
-            source_fault(self, root),
+            source_fault(self, by),
             Step::Field("source"),
             path,
             sink,
@@ -73,22 +67,20 @@ impl Validate for Texture {
     }
 }
 
-impl Validate for Info {
+impl Members for Info {
     ghost kind = { Some info_kind };
 
     ghost tree = { λ v. closed_object (info_members v) };
 
-    ghost own = { no_reports };
-
     ghost depth = { 1 };
 
-    fn validate<'a, S: Sink>(
+    fn tell_members<'a, S: Sink>(
         &'a self,
-        root: &Root,
+        by: &Context<'_>,
         path: &mut Steps<'a>,
         sink: &mut S,
     ) -> Result<(), Stop<S::Refusal>> {
-        member(Ok(()), &self.index, "index", root, path, sink)
+        member(Ok(()), &self.index, "index", by, path, sink)
     }
 }
 
@@ -97,7 +89,7 @@ impl Silent for TextureTransform {
 
     ghost tree = { λ v. closed_object (texture_transform_members v) };
 
-    ghost is_silent = { λ v root base. silent texture_transform_kind (unfold texture_transform_rows in refl) (closed_object (texture_transform_members v)) root absent base };
+    ghost is_silent = { λ v context base. silent texture_transform_kind (unfold texture_transform_rows in refl) (closed_object (texture_transform_members v)) context absent base };
 }
 
 impl Silent for TextureTransformOffset {
@@ -117,7 +109,7 @@ impl Silent for extensions::Info {
 
     ghost tree = { info_extensions };
 
-    ghost is_silent = { λ v root base. silent info_extensions_kind (unfold info_extension_rows texture_transform_rows in refl) (info_extensions v) root absent base };
+    ghost is_silent = { λ v context base. silent info_extensions_kind (unfold info_extension_rows texture_transform_rows in refl) (info_extensions v) context absent base };
 }
 
 impl Silent for extensions::Sampler {

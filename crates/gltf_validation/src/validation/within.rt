@@ -2,32 +2,32 @@
 
 ghost use Rattle.std.specs.Prelude.{◌≡◌, ◌+◌, ◌++◌, ◌∷◌, []};
 ghost use Rattle.gltf_paths.specs.Steps.{step_of, field};
-ghost use Rattle.gltf_root.specs.RootTrees.{root_tree};
+ghost use Rattle.gltf_faults.specs.Context.{context_of};
 ghost use Rattle.gltf_sinks.specs.Handed.{Walked, WentOn};
 ghost use Rattle.gltf_validation.specs.ByType.{reports_by};
 
 use super::Validate;
 use gltf_base::{Step, Steps};
-use gltf_root::root::Root;
+use gltf_faults::Context;
 use gltf_sinks::{Sink, Stop};
 
 /// Validates what stands one step further.
 pub(crate) fn within<'a, T: Validate, S: Sink>(
     value: &'a T,
     step: Step<'a>,
-    root: &Root,
+    context: &Context<'_>,
     path: &mut Steps<'a>,
     sink: &mut S,
 ) -> Result<(), Stop<S::Refusal>>
     ensures { Walked S.next S.refuses path.old (S.state sink.old)
-        (λ base. reports_by T.kind (T.tree value.now) (T.own value.now) (root_tree root.now) (base ++ step_of step.entry ∷ []))
+        (λ base. reports_by T.kind (T.tree value.now) (T.own value.now) (context_of context.now) (base ++ step_of step.entry ∷ []))
         (T.depth + 1) result path.new (S.state sink.new) }
 {
     if path.is_full() {
         return Err(Stop::StepsFull);
     }
     path.push(step);
-    let walked = value.validate(root, path, sink);
+    let walked = value.validate_with(context.rules, context.root, path, sink);
     path.pop();
     walked
 }
@@ -37,16 +37,16 @@ pub(crate) fn also_within<'a, T: Validate, S: Sink>(
     before: Result<(), Stop<S::Refusal>>,
     value: &'a T,
     step: Step<'a>,
-    root: &Root,
+    context: &Context<'_>,
     path: &mut Steps<'a>,
     sink: &mut S,
 ) -> Result<(), Stop<S::Refusal>>
     ensures { WentOn S.next S.refuses before path.old (S.state sink.old)
-        (λ base. reports_by T.kind (T.tree value.now) (T.own value.now) (root_tree root.now) (base ++ step_of step.entry ∷ []))
+        (λ base. reports_by T.kind (T.tree value.now) (T.own value.now) (context_of context.now) (base ++ step_of step.entry ∷ []))
         (T.depth + 1) result path.new (S.state sink.new) }
 {
     match before {
-        Ok(()) => within(value, step, root, path, sink),
+        Ok(()) => within(value, step, context, path, sink),
         Err(stop) => Err(stop),
     }
 }
@@ -56,13 +56,13 @@ pub(crate) fn member<'a, T: Validate, S: Sink>(
     before: Result<(), Stop<S::Refusal>>,
     value: &'a T,
     name: &'static str,
-    root: &Root,
+    context: &Context<'_>,
     path: &mut Steps<'a>,
     sink: &mut S,
 ) -> Result<(), Stop<S::Refusal>>
     ensures { WentOn S.next S.refuses before path.old (S.state sink.old)
-        (λ base. reports_by T.kind (T.tree value.now) (T.own value.now) (root_tree root.now) (base ++ field name.now ∷ []))
+        (λ base. reports_by T.kind (T.tree value.now) (T.own value.now) (context_of context.now) (base ++ field name.now ∷ []))
         (T.depth + 1) result path.new (S.state sink.new) }
 {
-    also_within(before, value, Step::Field(name), root, path, sink)
+    also_within(before, value, Step::Field(name), context, path, sink)
 }

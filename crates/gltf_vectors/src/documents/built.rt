@@ -2,7 +2,7 @@
 
 use super::lists::{has_none, has_one};
 use super::{first_of, has_lines, lines_of};
-use crate::objects::read;
+use crate::reading::object;
 use crate::writing::is_line;
 use gltf_json::buffer::View;
 use gltf_json::extensions::scene::khr_lights_punctual::Light;
@@ -34,7 +34,7 @@ fn push_read<T: Schema + Debug>(
 where
     Root: Get<T>,
 {
-    Ok(root.push(read::<T>(alloc, item)?)?)
+    Ok(root.push(object::<T>(alloc, item)?)?)
 }
 
 /// A new document with an item that is read.

@@ -2,14 +2,14 @@
 
 use crate::writing::stays;
 use gltf_json::buffer::View;
+use gltf_json::extensions::scene::khr_lights_punctual::Light;
+use gltf_json::extensions::scene::khr_materials_variants::Variant;
 use gltf_json::root::Get;
 use gltf_json::texture::Sampler;
 use gltf_json::{
     Accessor, Animation, Buffer, Camera, Error, Image, Index, Material, Mesh, Node, Root, Scene,
     Skin, Texture,
 };
-use gltf_scene::extensions::scene::khr_lights_punctual::Light;
-use gltf_scene::extensions::scene::khr_materials_variants::Variant;
 use std::alloc::Global;
 use std::test::Fail;
 

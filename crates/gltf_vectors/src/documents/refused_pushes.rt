@@ -3,7 +3,7 @@
 use super::NEW;
 use super::built::{ONE_LIGHT, POINT};
 use crate::lines::hog::Hog;
-use crate::objects::read;
+use crate::reading::object;
 use crate::writing::is_line;
 use gltf_json::extensions::scene::khr_lights_punctual::Light;
 use gltf_json::root::{Get, PushError};
@@ -69,7 +69,7 @@ where
     Root: Get<T>,
 {
     let mut root = Root::new(alloc)?;
-    let item: T = read(alloc, item)?;
+    let item: T = object(alloc, item)?;
     let (was_refused, is_right) = match push_in_want(alloc, &mut root, item, pebble_count)? {
         Ok(index) => (false, is_first(alloc, &root, index, line)?),
         Err(PushError::Memory(item)) => (true, is_handed_back(alloc, &mut root, item, line)?),

@@ -3,14 +3,14 @@
 use super::{
     EMPTY_SOURCE, NO_SOURCE, SOURCE_PAST_END, WITH_SOURCE, WITHOUT_SOURCE, first_of, lines_of,
 };
-use crate::objects::read;
+use crate::reading::object;
 use gltf_json::{Error, Root, Texture};
 use std::alloc::Global;
 use std::test::Fail;
 
 /// The number of the image that a texture names.
 fn source(alloc: Global, texture: &str) -> Result<usize, Fail> {
-    Ok(read::<Texture>(alloc, texture)?.source.value())
+    Ok(object::<Texture>(alloc, texture)?.source.value())
 }
 
 #[test]

@@ -5,8 +5,7 @@ use crate::documents::has_lines;
 use crate::reading::{Way, read_by};
 use crate::writing::stays;
 use gltf_json::root::Watched;
-use gltf_json::{Error, Root};
-use serde_json::Value;
+use gltf_json::{Error, Root, Value};
 use std::alloc::Global;
 use std::test::Fail;
 

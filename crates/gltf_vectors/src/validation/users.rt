@@ -8,13 +8,14 @@ ghost use Rattle.gltf_schema.specs.Fields.{index_tree};
 ghost use Rattle.gltf_schema.specs.Kind.{IndexInto};
 ghost use Rattle.gltf_schema.specs.Tree.{absent};
 ghost use Rattle.gltf_root.specs.RootTrees.{root_tree};
+ghost use Rattle.gltf_faults.specs.Context.{rules_of, under};
 ghost use Rattle.gltf_sinks.specs.Handed.{WentOn};
 ghost use Rattle.gltf_validation.specs.ByType.{reports_by, reports_in, each_entry, no_reports};
 
 use crate::documents::lines_of;
 use gltf_base::{KeyStep, Step, Steps};
 use gltf_json::scene::Node;
-use gltf_json::validation::{Sink, Stop, Validate};
+use gltf_json::validation::{Rules, Sink, Stop, Validate};
 use gltf_json::{Error, Index, Root};
 use std::alloc::Global;
 use std::collections::BTreeMap;
@@ -33,8 +34,9 @@ impl KeyStep for Tag {
 }
 
 impl Validate for Tag {
-    fn validate<'a, S: Sink>(
+    fn validate_with<'a, S: Sink>(
         &'a self,
+        _rules: &Rules<'_>,
         _root: &Root,
         _path: &mut Steps<'a>,
         _sink: &mut S,
@@ -53,23 +55,24 @@ struct Pair {
 
 impl Validate for Pair {
     // What is wrong with `left`, with `right`, and with each of the tags.
-    ghost own = { λ pair root base.
-        reports_by (Some (IndexInto ListName.nodes)) (index_tree pair.left) (no_reports pair.left) root (base ++ field (codes "left") ∷ [])
-        ++ reports_by (Some (IndexInto ListName.nodes)) (index_tree pair.right) (no_reports pair.right) root (base ++ field (codes "right") ∷ [])
-        ++ each_entry (λ tag. string_bytes tag.0) (reports_in None (λ _. absent) no_reports root)
-        (reports_in (Some (IndexInto ListName.nodes)) index_tree no_reports root) pair.tags.entries (base ++ field (codes "tags") ∷ []) };
+    ghost own = { λ pair context base.
+        reports_by (Some (IndexInto ListName.nodes)) (index_tree pair.left) (no_reports pair.left) context (base ++ field (codes "left") ∷ [])
+        ++ reports_by (Some (IndexInto ListName.nodes)) (index_tree pair.right) (no_reports pair.right) context (base ++ field (codes "right") ∷ [])
+        ++ each_entry (λ tag. string_bytes tag.0) (reports_in None (λ _. absent) no_reports context)
+        (reports_in (Some (IndexInto ListName.nodes)) index_tree no_reports context) pair.tags.entries (base ++ field (codes "tags") ∷ []) };
 
     ghost depth = { 2 };
 
-    fn validate<'a, S: Sink>(
+    fn validate_with<'a, S: Sink>(
         &'a self,
+        rules: &Rules<'_>,
         root: &Root,
         path: &mut Steps<'a>,
         sink: &mut S,
     ) -> Result<(), Stop<S::Refusal>> {
-        let left = member(Ok(()), &self.left, "left", root, path, sink);
-        let right = member(left, &self.right, "right", root, path, sink);
-        member(right, &self.tags, "tags", root, path, sink)
+        let left = member(Ok(()), &self.left, "left", rules, root, path, sink);
+        let right = member(left, &self.right, "right", rules, root, path, sink);
+        member(right, &self.tags, "tags", rules, root, path, sink)
     }
 }
 
@@ -78,12 +81,13 @@ fn member<'a, T: Validate, S: Sink>(
     before: Result<(), Stop<S::Refusal>>,
     value: &'a T,
     name: &'static str,
+    rules: &Rules<'_>,
     root: &Root,
     path: &mut Steps<'a>,
     sink: &mut S,
 ) -> Result<(), Stop<S::Refusal>>
     ensures { WentOn S.next S.refuses before path.old (S.state sink.old)
-        (λ base. reports_by T.kind (T.tree value.now) (T.own value.now) (root_tree root.now) (base ++ field name.now ∷ []))
+        (λ base. reports_by T.kind (T.tree value.now) (T.own value.now) (under (rules_of rules.now) (root_tree root.now)) (base ++ field name.now ∷ []))
         (T.depth + 1) result path.new (S.state sink.new) }
 {
     match before {
@@ -93,7 +97,7 @@ fn member<'a, T: Validate, S: Sink>(
                 return Err(Stop::StepsFull);
             }
             path.push(Step::Field(name));
-            let walked = value.validate(root, path, sink);
+            let walked = value.validate_with(rules, root, path, sink);
             path.pop();
             walked
         }

@@ -5,4 +5,4 @@ use Rattle.gltf_faults.proofs.Pushes.{reports_same}
 use Rattle.gltf_faults.proofs.laws.pushes_leave_other_reports.Goals as goal
 
 pub returns : goal.returns
-returns c r named x kind t above base off = reports_same named x (root_tree r) (pushed named x (root_tree r)) (grows named x r) kind t above base off
+returns c rules r named x kind t above base off = reports_same rules named x (root_tree r) (pushed named x (root_tree r)) (grows named x r) kind t above base off

@@ -2,4 +2,4 @@ use Rattle.gltf_faults.proofs.ByPlaces.{reports_are_by_places}
 use Rattle.gltf_faults.proofs.laws.reports_are_the_faults_of_places.Goals as goal
 
 pub returns : goal.returns
-returns c kind tree root base = reports_are_by_places kind tree root base
+returns c rules kind tree root base = reports_are_by_places rules kind tree root base

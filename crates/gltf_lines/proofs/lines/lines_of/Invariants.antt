@@ -1,6 +1,7 @@
 -- The lines of the reports that came, and of those that are still to come.
 use Rattle.std.proofs.Common.{◌≡◌, ◌++◌, length, string_bytes}
 use Rattle.gltf_root.specs.RootTrees.{root_tree}
+use Rattle.gltf_faults.specs.Context.{rules_of}
 use Rattle.gltf_walk.specs.ToCome.{to_come}
 use Rattle.gltf_lines.specs.Output.{document_reports, report_lines}
 use Rattle.gltf_lines.proofs.lines.lines_of.Given as goal
@@ -9,4 +10,4 @@ abbrev pub decreases-loop-error : goal.decreases-loop-error
 decreases-loop-error l = length (to_come l.walk)
 
 abbrev pub invariant-loop-error : goal.invariant-loop-error
-invariant-loop-error l = report_lines (document_reports (root_tree l.root)) ≡ string_bytes l.lines ++ report_lines (to_come l.walk)
+invariant-loop-error l = report_lines (document_reports (rules_of l.rules) (root_tree l.root)) ≡ string_bytes l.lines ++ report_lines (to_come l.walk)

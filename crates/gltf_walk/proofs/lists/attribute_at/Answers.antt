@@ -3,15 +3,15 @@ use Rattle.std.proofs.Common.{arith, refl, suc, sym, ◌≡◌, ◌+◌, ◌-◌
 use Rattle.gltf_paths.specs.Indexes.{index_number}
 use Rattle.gltf_paths.specs.Lists.{ListName}
 use Rattle.gltf_root.specs.Lists.{count_in}
-use Rattle.gltf_root.specs.RootTrees.{root_tree}
 use Rattle.gltf_faults.specs.Faults.{number_faults}
+use Rattle.gltf_faults.specs.Context.{context_of}
 use Rattle.gltf_walk.proofs.Items.{entry_past}
 use Rattle.gltf_walk.proofs.Leaves.{found_error, found_key}
 use Rattle.gltf_walk.proofs.lists.attribute_at.Goals as goal
 
 pub returns-then-i-number-clause-comes : goal.returns-then-i-number-clause-comes
 returns-then-i-number-clause-comes c =
-    let count = count_in ListName.accessors (root_tree c.args.root.now) in
+    let count = count_in ListName.accessors (context_of c.args.context.now).root in
     let here : c.args.number - c.loop-i.i ≡ 0 = omega (arith, c.if-i-number.true) in
     let left = rw c.in-Some.ensures.steps at c.loop-i.invariant in
     rw (

@@ -3,13 +3,15 @@ use Rattle.std.proofs.Common.{◌≡◌, ap, rules, string_bytes}
 use Rattle.gltf_paths.specs.Steps.{value}
 use Rattle.gltf_schema.specs.Tree.{text}
 use Rattle.gltf_faults.specs.Rules.{extension_faults}
+use Rattle.gltf_faults.specs.Context.{context_of}
 use Rattle.gltf_walk.specs.Plan.{down}
 use Rattle.gltf_walk.proofs.Leaves.{found_leaf}
 use Rattle.gltf_walk.proofs.lists.in_extension.Goals as goal
 
 pub returns-in-0-clause-comes : goal.returns-in-0-clause-comes
-returns-in-0-clause-comes c root =
+returns-in-0-clause-comes c =
     let s = string_bytes c.args.name.now in
     let here : c.deref.result.now ≡ s = search rules in
     let e : c.deref-in-0.result.now ≡ s = search rules in
-    rw (c.in-0.is, here) (ap (down (value s)) (found_leaf (extension_faults (text s)) _ (value s) (rw e at c.extension_fault.ensures)))
+    let enabled = (context_of c.args.context.now).rules.enabled in
+    rw (c.in-0.is, here) (ap (down (value s)) (found_leaf (extension_faults enabled (text s)) _ (value s) (rw e at c.extension_fault.ensures)))

@@ -3,8 +3,8 @@ use Rattle.std.proofs.Common.{ap, ◌∙◌, codes}
 use Rattle.gltf_data.specs.AccessorTable.{accessor_rows, sparse_rows, sparse_indices_rows}
 use Rattle.gltf_data.specs.AccessorTrees.{accessor_members}
 use Rattle.gltf_paths.specs.Steps.{field}
-use Rattle.gltf_root.specs.RootTrees.{root_tree}
 use Rattle.gltf_faults.specs.Rules.{accessor_rule}
+use Rattle.gltf_faults.specs.Context.{context_of}
 use Rattle.gltf_walk.specs.Plan.{down}
 use Rattle.gltf_walk.proofs.Leaves.{found_leaf}
 use Rattle.gltf_walk.proofs.accessor.AccessorObject.next.Goals as goal
@@ -13,4 +13,4 @@ pub returns-in-4-clause-comes : goal.returns-in-4-clause-comes
 unfolding accessor_rows sparse_rows sparse_indices_rows accessor_members
 returns-in-4-clause-comes c =
     let at = field (codes "bufferView") in
-    rw c.in-4.is (c.found.ensures (root_tree c.args.root.now) ∙ ap (down at) (found_leaf (accessor_rule (accessor_members c.args.self.now)) _ at c.data_fault.ensures))
+    rw c.in-4.is (c.found.ensures (context_of c.args.context.now) ∙ ap (down at) (found_leaf (accessor_rule (accessor_members c.args.self.now)) _ at c.data_fault.ensures))

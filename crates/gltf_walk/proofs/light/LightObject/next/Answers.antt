@@ -3,8 +3,8 @@ use Rattle.std.proofs.Common.{ap, ◌∙◌, codes}
 use Rattle.gltf_nodes.specs.LightTable.{light_rows, spot_rows}
 use Rattle.gltf_nodes.specs.LightTrees.{light_members}
 use Rattle.gltf_paths.specs.Steps.{field}
-use Rattle.gltf_root.specs.RootTrees.{root_tree}
 use Rattle.gltf_faults.specs.Rules.{light_rule}
+use Rattle.gltf_faults.specs.Context.{context_of}
 use Rattle.gltf_walk.specs.Plan.{down}
 use Rattle.gltf_walk.proofs.Leaves.{found_leaf}
 use Rattle.gltf_walk.proofs.light.LightObject.next.Goals as goal
@@ -13,4 +13,4 @@ pub returns-in-1-clause-comes : goal.returns-in-1-clause-comes
 unfolding light_rows spot_rows light_members
 returns-in-1-clause-comes c =
     let at = field (codes "spot") in
-    rw c.in-1.is (c.found.ensures (root_tree c.args.root.now) ∙ ap (down at) (found_leaf (light_rule (light_members c.args.self.now)) _ at c.spot_fault.ensures))
+    rw c.in-1.is (c.found.ensures (context_of c.args.context.now) ∙ ap (down at) (found_leaf (light_rule (light_members c.args.self.now)) _ at c.spot_fault.ensures))

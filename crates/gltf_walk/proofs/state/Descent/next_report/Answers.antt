@@ -1,11 +1,11 @@
 -- Each move leaves what is still to come, less what it reports.
-use Rattle.std.proofs.Common.{arith, rules, ap, sym, ◌∙◌, ◌++◌, length, map, ◌≡◌, ◌-◌}
+use Rattle.std.proofs.Common.{arith, None, rules, ap, sym, ◌∙◌, ◌++◌, length, map, ◌≡◌, ◌-◌}
 use Rattle.std.proofs.lemmas.List.{length-take}
 use Rattle.gltf_paths.specs.Steps.{step_of}
-use Rattle.gltf_root.specs.RootTrees.{root_tree}
 use Rattle.gltf_walk.specs.Parts.{plan_of, plan_left, plans_left}
-use Rattle.gltf_walk.specs.Plan.{height, weight}
+use Rattle.gltf_walk.specs.Plan.{height, leaf, weight}
 use Rattle.gltf_walk.specs.Stacks.{to_come_of}
+use Rattle.gltf_walk.specs.ToCome.{context_in}
 use Rattle.gltf_walk.proofs.Stacks.{told_by, weight_by, weight_move, weight_least}
 use Rattle.gltf_walk.proofs.Moves.{further_left, left_none, rest_height, down_height, popped_fits, pushed_fits, frames_weight, frames_length, over_goes, move_made, part_entered}
 use Rattle.gltf_walk.proofs.state.Descent.next_report.Goals as goal
@@ -14,24 +14,24 @@ use Rattle.gltf_walk.proofs.state.Descent.next_report.Goals as goal
 
 pub invariant_of-self : goal.invariant_of-self
 invariant_of-self c =
-    let r = root_tree c.loop-frame.self.root.now in
+    let context = context_in c.loop-frame.self in
     let e = c.in-Some.ensures.items in
-    let low = popped_fits r _ _ c.in-Some.frame e c.loop-frame.self.fits in
+    let low = popped_fits context _ _ c.in-Some.frame e c.loop-frame.self.fits in
     let gone = ap length c.pop-in-Done.ensures.rest in
     record { fits = low.0; beside = omega (arith, c.loop-frame.self.beside, frames_length _ _ _ e, gone, length-take (length c.loop-frame.self.steps.items - 1) c.loop-frame.self.steps.items) }
 
 pub loop-frame-smaller-in-Done : goal.loop-frame-smaller-in-Done
 loop-frame-smaller-in-Done c =
-    let r = root_tree c.loop-frame.self.root.now in
-    omega (arith, frames_weight r _ _ c.in-Some.frame c.in-Some.ensures.items, weight_least (plan_left r c.in-Some.frame))
+    let context = context_in c.loop-frame.self in
+    omega (arith, frames_weight context _ _ c.in-Some.frame c.in-Some.ensures.items, weight_least (plan_left context c.in-Some.frame))
 
 pub loop-frame-preserved-in-Done : goal.loop-frame-preserved-in-Done
 loop-frame-preserved-in-Done c =
-    let r = root_tree c.loop-frame.self.root.now in
+    let context = context_in c.loop-frame.self in
     let e = c.in-Some.ensures.items in
     let gone = ap length c.pop-in-Done.ensures.rest ∙ length-take (length c.loop-frame.self.steps.items - 1) c.loop-frame.self.steps.items in
     record {
-      same = c.loop-frame.invariant.same ∙ over_goes r _ _ c.in-Some.frame _ _ _ e c.loop-frame.self.beside c.in-Done.ensures.comes c.pop-in-Done.ensures.items (omega (arith, gone));
+      same = c.loop-frame.invariant.same ∙ over_goes context _ _ c.in-Some.frame _ _ _ e c.loop-frame.self.beside c.in-Done.ensures.comes c.pop-in-Done.ensures.items (omega (arith, gone));
       base = omega (arith, c.loop-frame.invariant.base, frames_length _ _ _ e, gone, c.loop-frame.self.beside);
     }
 
@@ -39,102 +39,161 @@ loop-frame-preserved-in-Done c =
 
 pub push-requires : goal.push-requires
 push-requires c =
-    let r = root_tree c.loop-frame.self.root.now in
-    let low = popped_fits r _ _ c.in-Some.frame c.in-Some.ensures.items c.loop-frame.self.fits in
+    let context = context_in c.loop-frame.self in
+    let low = popped_fits context _ _ c.in-Some.frame c.in-Some.ensures.items c.loop-frame.self.fits in
     (omega arith, omega (arith, low.1))
 
 pub invariant_of-self-in-Fault : goal.invariant_of-self-in-Fault
 invariant_of-self-in-Fault c =
-    let r = root_tree c.loop-frame.self.root.now in
+    let context = context_in c.loop-frame.self in
     let e = c.in-Some.ensures.items in
-    let low = popped_fits r _ _ c.in-Some.frame e c.loop-frame.self.fits in
-    let next = further_left r c.in-Some.frame c.further.result c.further.ensures.part c.further.ensures.number in
+    let low = popped_fits context _ _ c.in-Some.frame e c.loop-frame.self.fits in
+    let next = further_left context c.in-Some.frame c.further.result c.further.ensures.part c.further.ensures.number in
     let deep = ap height next in
     record {
-      fits = pushed_fits r _ _ _ c.push.ensures.items low.0 (omega (arith, low.1, deep, rest_height (plan_left r c.in-Some.frame)));
+      fits = pushed_fits context _ _ _ c.push.ensures.items low.0 (omega (arith, low.1, deep, rest_height (plan_left context c.in-Some.frame)));
       beside = omega (arith, c.loop-frame.self.beside, frames_length _ _ _ e, frames_length _ _ _ c.push.ensures.items);
     }
 
 pub returns-in-Fault-clause-next : goal.returns-in-Fault-clause-next
 returns-in-Fault-clause-next c =
-    let r = root_tree c.loop-frame.self.root.now in
+    let context = context_in c.loop-frame.self in
     let e = c.in-Some.ensures.items in
-    let next = further_left r c.in-Some.frame c.further.result c.further.ensures.part c.further.ensures.number in
+    let next = further_left context c.in-Some.frame c.further.result c.further.ensures.part c.further.ensures.number in
     let steps = map step_of c.loop-frame.self.steps.items in (
       c.loop-frame.invariant.same
-          ∙ (move_made r _ _ _ c.in-Some.frame c.further.result c.loop-frame.self.steps.items e c.push.ensures.items next c.loop-frame.self.beside
-          ∙ ap (λ m. told_by m steps ++ to_come_of steps (plans_left r c.push.new.self.items)) (sym c.in-Fault.ensures.comes)),
+          ∙ (move_made context _ _ _ c.in-Some.frame c.further.result c.loop-frame.self.steps.items e c.push.ensures.items next c.loop-frame.self.beside
+          ∙ ap (λ m. told_by m steps ++ to_come_of steps (plans_left context c.push.new.self.items)) (sym c.in-Fault.ensures.comes)),
       omega (arith, c.loop-frame.invariant.base, frames_length _ _ _ e, frames_length _ _ _ c.push.ensures.items),
     )
 
--- ---- a part that is gone into
-
-pub invariant_of-self-then-is_full : goal.invariant_of-self-then-is_full
-invariant_of-self-then-is_full c =
-    let r = root_tree c.loop-frame.self.root.now in
-    let e = c.in-Some.ensures.items in
-    record { fits = (popped_fits r _ _ c.in-Some.frame e c.loop-frame.self.fits).0; beside = omega (arith, c.loop-frame.self.beside, frames_length _ _ _ e) }
-
-pub returns-then-is_full-clause-full : goal.returns-then-is_full-clause-full
-returns-then-is_full-clause-full c =
-    let r = root_tree c.loop-frame.self.root.now in
-    let e = c.in-Some.ensures.items in
-    let low = popped_fits r _ _ c.in-Some.frame e c.loop-frame.self.fits in
-    let deep = down_height (plan_left r c.in-Some.frame) (plan_of r c.in-Down.part) (step_of c.in-Down.step) c.in-Down.ensures.comes in
-    let full : length c.loop-frame.self.steps.items ≡ 16 = search rules in
-    omega (arith, c.loop-frame.invariant.base, full, frames_length _ _ _ e, low.1, deep)
-
-pub push-requires-in-Down-2 : goal.push-requires-in-Down-2
-push-requires-in-Down-2 c =
-    let r = root_tree c.loop-frame.self.root.now in
-    let low = popped_fits r _ _ c.in-Some.frame c.in-Some.ensures.items c.loop-frame.self.fits in
-    (omega arith, omega (arith, low.1, frames_length _ _ _ c.push-in-Down.ensures.items))
-
-pub invariant_of-self-in-Down : goal.invariant_of-self-in-Down
-invariant_of-self-in-Down c =
-    let r = root_tree c.loop-frame.self.root.now in
-    let e = c.in-Some.ensures.items in
-    let low = popped_fits r _ _ c.in-Some.frame e c.loop-frame.self.fits in
-    let more = c.further-in-Down in
-    let d = c.push-in-Down.ensures.items in
-    let next = ap height (further_left r c.in-Some.frame more.result more.ensures.part more.ensures.number) in
-    let deep = down_height (plan_left r c.in-Some.frame) (plan_of r c.in-Down.part) (step_of c.in-Down.step) c.in-Down.ensures.comes in
-    let moved = pushed_fits r _ _ _ d low.0 (omega (arith, low.1, next, rest_height (plan_left r c.in-Some.frame))) in
-    record {
-      fits = pushed_fits r _ _ _ c.push-in-Down-2.ensures.items moved (omega (arith, low.1, deep, frames_length _ _ _ d, ap height (left_none (plan_of r c.in-Down.part))));
-      beside = omega (arith, c.loop-frame.self.beside, frames_length _ _ _ e, frames_length _ _ _ d, frames_length _ _ _ c.push-in-Down-2.ensures.items, c.push-in-Down-3.ensures.len);
-    }
+-- ---- a place at which nothing is wrong
 
 pub loop-frame-smaller : goal.loop-frame-smaller
 loop-frame-smaller c =
-    let r = root_tree c.loop-frame.self.root.now in
+    let context = context_in c.loop-frame.self in
     let more = c.further-in-Down in
-    let next = ap weight (further_left r c.in-Some.frame more.result more.ensures.part more.ensures.number) in
-    let child = ap weight (left_none (plan_of r c.in-Down.part)) in
+    let next = ap weight (further_left context c.in-Some.frame more.result more.ensures.part more.ensures.number) in
     omega (
       arith,
-      frames_weight r _ _ c.in-Some.frame c.in-Some.ensures.items,
-      frames_weight r _ _ more.result c.push-in-Down.ensures.items,
-      frames_weight r _ _ _ c.push-in-Down-2.ensures.items,
+      frames_weight context _ _ c.in-Some.frame c.in-Some.ensures.items,
+      frames_weight context _ _ more.result c.push-in-Down.ensures.items,
       next,
-      child,
-      weight_move (plan_left r c.in-Some.frame),
+      weight_move (plan_left context c.in-Some.frame),
       ap weight_by c.in-Down.ensures.comes,
     )
 
 pub loop-frame-preserved : goal.loop-frame-preserved
 loop-frame-preserved c =
-    let r = root_tree c.loop-frame.self.root.now in
+    let context = context_in c.loop-frame.self in
     let e = c.in-Some.ensures.items in
     let more = c.further-in-Down in
     let d = c.push-in-Down.ensures.items in
-    let next = further_left r c.in-Some.frame more.result more.ensures.part more.ensures.number in
+    let next = further_left context c.in-Some.frame more.result more.ensures.part more.ensures.number in
+    let steps = map step_of c.loop-frame.self.steps.items in
+    let clean : plan_of context c.in-Down.part ≡ leaf None = c.needs_frame.ensures c.if-needs_frame.false context in
+    let comes = rw clean at c.in-Down.ensures.comes in
+    record {
+      same = c.loop-frame.invariant.same
+          ∙ (move_made context _ _ _ c.in-Some.frame more.result c.loop-frame.self.steps.items e d next c.loop-frame.self.beside
+          ∙ ap (λ m. told_by m steps ++ to_come_of steps (plans_left context c.push-in-Down.new.self.items)) (sym comes));
+      base = omega (arith, c.loop-frame.invariant.base, frames_length _ _ _ e, frames_length _ _ _ d);
+    }
+
+pub invariant_of-self-else-needs_frame : goal.invariant_of-self-else-needs_frame
+invariant_of-self-else-needs_frame c =
+    let context = context_in c.loop-frame.self in
+    let e = c.in-Some.ensures.items in
+    let low = popped_fits context _ _ c.in-Some.frame e c.loop-frame.self.fits in
+    let more = c.further-in-Down in
+    let d = c.push-in-Down.ensures.items in
+    let next = ap height (further_left context c.in-Some.frame more.result more.ensures.part more.ensures.number) in
+    record {
+      fits = pushed_fits context _ _ _ d low.0 (omega (arith, low.1, next, rest_height (plan_left context c.in-Some.frame)));
+      beside = omega (arith, c.loop-frame.self.beside, frames_length _ _ _ e, frames_length _ _ _ d);
+    }
+
+-- ---- a part that is gone into
+
+pub push-requires-in-Down : goal.push-requires-in-Down
+push-requires-in-Down c =
+    let context = context_in c.loop-frame.self in
+    let low = popped_fits context _ _ c.in-Some.frame c.in-Some.ensures.items c.loop-frame.self.fits in
+    (omega arith, omega (arith, low.1))
+
+pub invariant_of-self-then-is_full : goal.invariant_of-self-then-is_full
+invariant_of-self-then-is_full c =
+    let context = context_in c.loop-frame.self in
+    let e = c.in-Some.ensures.items in
+    let low = popped_fits context _ _ c.in-Some.frame e c.loop-frame.self.fits in
+    let more = c.further-in-Down in
+    let d = c.push-in-Down.ensures.items in
+    let next = ap height (further_left context c.in-Some.frame more.result more.ensures.part more.ensures.number) in
+    record {
+      fits = pushed_fits context _ _ _ d low.0 (omega (arith, low.1, next, rest_height (plan_left context c.in-Some.frame)));
+      beside = omega (arith, c.loop-frame.self.beside, frames_length _ _ _ e, frames_length _ _ _ d);
+    }
+
+pub returns-then-is_full-clause-full : goal.returns-then-is_full-clause-full
+returns-then-is_full-clause-full c =
+    let context = context_in c.loop-frame.self in
+    let e = c.in-Some.ensures.items in
+    let low = popped_fits context _ _ c.in-Some.frame e c.loop-frame.self.fits in
+    let deep = down_height (plan_left context c.in-Some.frame) (plan_of context c.in-Down.part) (step_of c.in-Down.step) c.in-Down.ensures.comes in
+    let full : length c.loop-frame.self.steps.items ≡ 16 = search rules in
+    omega (arith, c.loop-frame.invariant.base, full, frames_length _ _ _ e, low.1, deep)
+
+pub push-requires-then-needs_frame : goal.push-requires-then-needs_frame
+push-requires-then-needs_frame c =
+    let context = context_in c.loop-frame.self in
+    let low = popped_fits context _ _ c.in-Some.frame c.in-Some.ensures.items c.loop-frame.self.fits in
+    (omega arith, omega (arith, low.1, frames_length _ _ _ c.push-in-Down.ensures.items))
+
+pub invariant_of-self-then-needs_frame : goal.invariant_of-self-then-needs_frame
+invariant_of-self-then-needs_frame c =
+    let context = context_in c.loop-frame.self in
+    let e = c.in-Some.ensures.items in
+    let low = popped_fits context _ _ c.in-Some.frame e c.loop-frame.self.fits in
+    let more = c.further-in-Down in
+    let d = c.push-in-Down.ensures.items in
+    let next = ap height (further_left context c.in-Some.frame more.result more.ensures.part more.ensures.number) in
+    let deep = down_height (plan_left context c.in-Some.frame) (plan_of context c.in-Down.part) (step_of c.in-Down.step) c.in-Down.ensures.comes in
+    let moved = pushed_fits context _ _ _ d low.0 (omega (arith, low.1, next, rest_height (plan_left context c.in-Some.frame))) in
+    record {
+      fits = pushed_fits context _ _ _ c.push-then-needs_frame.ensures.items moved (omega (arith, low.1, deep, frames_length _ _ _ d, ap height (left_none (plan_of context c.in-Down.part))));
+      beside = omega (arith, c.loop-frame.self.beside, frames_length _ _ _ e, frames_length _ _ _ d, frames_length _ _ _ c.push-then-needs_frame.ensures.items, c.push-then-needs_frame-2.ensures.len);
+    }
+
+pub loop-frame-smaller-then-needs_frame : goal.loop-frame-smaller-then-needs_frame
+loop-frame-smaller-then-needs_frame c =
+    let context = context_in c.loop-frame.self in
+    let more = c.further-in-Down in
+    let next = ap weight (further_left context c.in-Some.frame more.result more.ensures.part more.ensures.number) in
+    let child = ap weight (left_none (plan_of context c.in-Down.part)) in
+    omega (
+      arith,
+      frames_weight context _ _ c.in-Some.frame c.in-Some.ensures.items,
+      frames_weight context _ _ more.result c.push-in-Down.ensures.items,
+      frames_weight context _ _ _ c.push-then-needs_frame.ensures.items,
+      next,
+      child,
+      weight_move (plan_left context c.in-Some.frame),
+      ap weight_by c.in-Down.ensures.comes,
+    )
+
+pub loop-frame-preserved-then-needs_frame : goal.loop-frame-preserved-then-needs_frame
+loop-frame-preserved-then-needs_frame c =
+    let context = context_in c.loop-frame.self in
+    let e = c.in-Some.ensures.items in
+    let more = c.further-in-Down in
+    let d = c.push-in-Down.ensures.items in
+    let next = further_left context c.in-Some.frame more.result more.ensures.part more.ensures.number in
     let steps = map step_of c.loop-frame.self.steps.items in
     record {
       same = c.loop-frame.invariant.same
-          ∙ (move_made r _ _ _ c.in-Some.frame more.result c.loop-frame.self.steps.items e d next c.loop-frame.self.beside
-          ∙ (ap (λ m. told_by m steps ++ to_come_of steps (plans_left r c.push-in-Down.new.self.items)) (sym c.in-Down.ensures.comes)
-          ∙ sym (part_entered r _ _ c.in-Down.part c.loop-frame.self.steps.items _ c.in-Down.step c.push-in-Down-2.ensures.items c.push-in-Down-3.ensures.items
+          ∙ (move_made context _ _ _ c.in-Some.frame more.result c.loop-frame.self.steps.items e d next c.loop-frame.self.beside
+          ∙ (ap (λ m. told_by m steps ++ to_come_of steps (plans_left context c.push-in-Down.new.self.items)) (sym c.in-Down.ensures.comes)
+          ∙ sym (part_entered context _ _ c.in-Down.part c.loop-frame.self.steps.items _ c.in-Down.step c.push-then-needs_frame.ensures.items c.push-then-needs_frame-2.ensures.items
           (omega (arith, frames_length _ _ _ d)) (omega (arith, c.loop-frame.self.beside, frames_length _ _ _ e, frames_length _ _ _ d)))));
-      base = omega (arith, c.loop-frame.invariant.base, frames_length _ _ _ e, frames_length _ _ _ d, frames_length _ _ _ c.push-in-Down-2.ensures.items, c.push-in-Down-3.ensures.len);
+      base = omega (arith, c.loop-frame.invariant.base, frames_length _ _ _ e, frames_length _ _ _ d, frames_length _ _ _ c.push-then-needs_frame.ensures.items, c.push-then-needs_frame-2.ensures.len);
     }

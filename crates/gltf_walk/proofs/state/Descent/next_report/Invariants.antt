@@ -1,12 +1,11 @@
 use Rattle.std.proofs.Common.{◌≡◌, ◌≤◌}
-use Rattle.gltf_root.specs.RootTrees.{root_tree}
 use Rattle.gltf_walk.specs.Parts.{plans_left}
 use Rattle.gltf_walk.specs.Stacks.{weight_of}
-use Rattle.gltf_walk.specs.ToCome.{base_count, left_of_descent}
+use Rattle.gltf_walk.specs.ToCome.{base_count, context_in, left_of_descent}
 use Rattle.gltf_walk.proofs.state.Descent.next_report.Given as goal
 
 abbrev pub decreases-loop-frame : goal.decreases-loop-frame
-decreases-loop-frame l = weight_of (plans_left (root_tree l.self.root.now) l.self.frames.items)
+decreases-loop-frame l = weight_of (plans_left (context_in l.self) l.self.frames.items)
 
 abbrev pub invariant-loop-frame : goal.invariant-loop-frame
 invariant-loop-frame l = record {

@@ -1,0 +1,50 @@
+//! The rules that a caller may set.
+
+ghost use Rattle.std.specs.Prelude.{◌≡◌, map};
+ghost use Rattle.gltf_faults.specs.Context.{rules_of, standard_rules, enabled_with_empty_textures};
+
+use gltf_base::extensions::ENABLED_EXTENSIONS;
+
+/// What validation goes by where a caller rules.
+#[derive(Clone, Copy, Debug, Drop, PartialEq, Eq)]
+pub struct Rules<'a> {
+    /// Whether a texture may be without an image: the number 4294967295, which stands for none, is
+    /// then no fault at its `source`.
+    pub empty_texture: bool,
+    /// The names of the extensions that a document may require, each compared whole.
+    pub enabled: &'a [&'a str],
+}
+
+/// The names of the extensions that a document may require where its textures may be without an
+/// image: those of `ENABLED_EXTENSIONS`, and the extensions that give a texture an image of another
+/// format.
+pub const ENABLED_WITH_EMPTY_TEXTURES: &[&str] = &[
+    "KHR_lights_punctual",
+    "KHR_materials_pbrSpecularGlossiness",
+    "KHR_materials_unlit",
+    "KHR_texture_transform",
+    "KHR_materials_transmission",
+    "KHR_materials_ior",
+    "KHR_materials_emissive_strength",
+    "KHR_texture_basisu",
+    "EXT_texture_webp",
+    "MSFT_texture_dds",
+];
+
+/// The constant of this module is the names in their order.
+pub fn constants_are_listed()
+    ensures { map (λ name. name.now) ENABLED_WITH_EMPTY_TEXTURES.now ≡ enabled_with_empty_textures }
+{}
+
+impl<'a> Rules<'a> {
+    /// The rules where nobody rules otherwise: no texture may be without an image, and a document may
+    /// require what is in `ENABLED_EXTENSIONS`.
+    pub fn new() -> Rules<'a>
+        ensures { rules_of result ≡ standard_rules }
+    {
+        Rules {
+            empty_texture: false,
+            enabled: ENABLED_EXTENSIONS,
+        }
+    }
+}

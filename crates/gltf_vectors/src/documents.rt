@@ -11,6 +11,7 @@ mod refused_pushes;
 mod reports;
 mod rules;
 mod sources;
+mod taken_back;
 mod walks;
 mod written;
 

@@ -12,7 +12,7 @@ use Rattle.gltf_paths.specs.Steps.{Step, key}
 use Rattle.gltf_paths.specs.declared.index.IndexTo.{IndexTo}
 use Rattle.gltf_schema.specs.Fields.{attributes_tree, entry_of, index_tree}
 use Rattle.gltf_schema.specs.Kind.{Attributes, IndexInto}
-use Rattle.gltf_schema.specs.Tree.{Tree, absent}
+use Rattle.gltf_schema.specs.Tree.{absent}
 use Rattle.gltf_root.specs.Lists.{count_in}
 use Rattle.gltf_faults.specs.Context.{Context}
 use Rattle.gltf_faults.specs.Faults.{key_faults, entries_faults}

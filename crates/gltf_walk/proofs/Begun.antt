@@ -7,11 +7,11 @@ use Rattle.gltf_root.specs.declared.root.Root.{Root}
 use Rattle.gltf_schema.specs.Tree.{absent}
 use Rattle.gltf_faults.specs.Context.{Context}
 use Rattle.gltf_faults.specs.Reports.{reports}
-use Rattle.gltf_walk.specs.Parts.{plans_left}
-use Rattle.gltf_walk.specs.Planned.{planned}
+use Rattle.gltf_walk.specs.Left.{plans_left}
+use Rattle.gltf_plans.specs.Planned.{planned}
 use Rattle.gltf_walk.specs.Stacks.{reach, to_come_of}
-use Rattle.gltf_walk.specs.declared.part.Frame.{Frame}
-use Rattle.gltf_walk.specs.declared.part.Part.TheVariants as part
+use Rattle.gltf_walk.specs.declared.frame.Frame.{Frame}
+use Rattle.gltf_plans.specs.declared.part.Part.TheVariants as part
 use Rattle.gltf_walk.proofs.PlanHeight.{planned_height}
 use Rattle.gltf_walk.proofs.PlanReports.{planned_told}
 use Rattle.gltf_walk.proofs.Stacks.{of_last}

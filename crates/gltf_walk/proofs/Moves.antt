@@ -5,11 +5,12 @@ use Rattle.std.specs.Option.{option_to_list}
 use Rattle.gltf_paths.specs.Steps.{Step, step_of}
 use Rattle.gltf_paths.specs.declared.path.Step.{Step as Borrowed}
 use Rattle.gltf_faults.specs.Context.{Context}
-use Rattle.gltf_walk.specs.Parts.{plan_of, plan_left, plans_left}
-use Rattle.gltf_walk.specs.Plan.{Plan, place, nothing, below, told, down, over, left, first, weight, height}
+use Rattle.gltf_plans.specs.Parts.{plan_of}
+use Rattle.gltf_walk.specs.Left.{plan_left, plans_left}
+use Rattle.gltf_plans.specs.Plan.{Plan, place, nothing, below, told, down, over, left, first, weight, height}
 use Rattle.gltf_walk.specs.Stacks.{reach, to_come_of, weight_of}
-use Rattle.gltf_walk.specs.declared.part.Frame.{Frame}
-use Rattle.gltf_walk.specs.declared.part.Part.{Part}
+use Rattle.gltf_walk.specs.declared.frame.Frame.{Frame}
+use Rattle.gltf_plans.specs.declared.part.Part.{Part}
 use Rattle.gltf_walk.proofs.Stacks.{rest, left_further, told_by, height_by, height_move, reach_last, weight_last, moved, entered, left_behind}
 
 -- ---- one plan

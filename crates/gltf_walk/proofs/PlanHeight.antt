@@ -23,8 +23,8 @@ use Rattle.gltf_faults.specs.Reports.{animation_below}
 use Rattle.gltf_faults.specs.Silence.{is_silent}
 use Rattle.gltf_faults.specs.Rules.{root_extensions_required}
 use Rattle.gltf_root.specs.Lists.{count_in}
-use Rattle.gltf_walk.specs.Plan.{Plan, Plans, nothing, below, also, height, heights}
-use Rattle.gltf_walk.specs.Planned.{entry_plans, item_plans, name_plan, rule_plans, unless_silent, planned, member_plans}
+use Rattle.gltf_plans.specs.Plan.{Plan, Plans, nothing, below, also, height, heights}
+use Rattle.gltf_plans.specs.Planned.{entry_plans, item_plans, name_plan, rule_plans, unless_silent, planned, member_plans}
 
 -- the steps from an object to what its rule speaks of
 abbrev rule_height : ObjectName → ℕ

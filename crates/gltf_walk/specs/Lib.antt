@@ -1,5 +1,3 @@
-pub mod Plan
-pub mod Planned
-pub mod Parts
+pub mod Left
 pub mod Stacks
 pub mod ToCome

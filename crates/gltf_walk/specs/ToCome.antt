@@ -5,7 +5,7 @@ use Rattle.gltf_paths.specs.declared.validation.Error.{Error}
 use Rattle.gltf_root.specs.RootTrees.{root_tree}
 use Rattle.gltf_sinks.specs.Report.{Report, report}
 use Rattle.gltf_faults.specs.Context.{Context, rules_of, under}
-use Rattle.gltf_walk.specs.Parts.{plans_left}
+use Rattle.gltf_walk.specs.Left.{plans_left}
 use Rattle.gltf_walk.specs.Stacks.{to_come_of}
 use Rattle.gltf_walk.specs.declared.state.Descent.{Descent}
 use Rattle.gltf_walk.specs.declared.state.Walk.{Walk}

@@ -2,17 +2,15 @@
 
 ghost use Rattle.std.specs.Prelude.{◌≡◌, ◌+◌, ◌<◌, ◌^◌};
 ghost use Rattle.gltf_faults.specs.Context.{context_of};
-ghost use Rattle.gltf_walk.specs.Parts.{move_of, plan_of, IsMore};
-ghost use Rattle.gltf_walk.specs.Plan.{at};
+ghost use Rattle.gltf_plans.specs.Parts.{move_of, plan_of, IsMore};
+ghost use Rattle.gltf_plans.specs.Plan.{at};
 
 use crate::lists::{
     at_attributes, attribute_at, channel_at, extension_at, in_attribute, in_channel, in_extension,
     in_positions, item_at, leaf_at,
 };
-use crate::next::Next;
-use crate::part::Part;
-use crate::visited::Object;
 use gltf_faults::Context;
+use gltf_plans::{Next, Object, Part};
 
 /// What comes at a number in a part of a document.
 pub(crate) fn next_in<'a>(part: Part<'a>, number: usize, context: &Context<'_>) -> Next<'a>

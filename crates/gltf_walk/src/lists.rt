@@ -1,5 +1,5 @@
 //! Lists, attributes, and what the rules of objects look at.
-#![tactic(auto, using(crate::proofs::Past::past, crate::proofs::Past::one_error))]
+#![tactic(auto, using(gltf_plans::proofs::Past::past, gltf_plans::proofs::Past::one_error))]
 
 ghost use Rattle.std.specs.Prelude.{◌≡◌, ◌+◌, ◌<◌, ◌^◌, []};
 ghost use Rattle.gltf_animations.specs.AnimationTable.{animation_channel_kind};
@@ -9,13 +9,10 @@ ghost use Rattle.gltf_schema.specs.Fields.{attributes_tree, closed_object, list_
 ghost use Rattle.gltf_schema.specs.Kind.{Attributes, ListOf};
 ghost use Rattle.gltf_schema.specs.Tree.{absent, items_in};
 ghost use Rattle.gltf_faults.specs.Context.{context_of};
-ghost use Rattle.gltf_walk.specs.Parts.{found_plan, move_of, IsMore};
-ghost use Rattle.gltf_walk.specs.Plan.{at, leaf, place};
-ghost use Rattle.gltf_walk.specs.Planned.{at_positions, entry_plan, item_plans, name_plan, planned};
+ghost use Rattle.gltf_plans.specs.Parts.{found_plan, move_of, IsMore};
+ghost use Rattle.gltf_plans.specs.Plan.{at, leaf, place};
+ghost use Rattle.gltf_plans.specs.Planned.{at_positions, entry_plan, item_plans, name_plan, planned};
 
-use crate::next::{Next, found, member, told};
-use crate::part::Part;
-use crate::visited::Visited;
 use gltf_animations::animation::{Animation, Channel};
 use gltf_base::mesh::Semantic;
 use gltf_base::validation::{Checked, Error};
@@ -24,6 +21,7 @@ use gltf_data::accessor::Accessor;
 use gltf_faults::{
     Context, PositionFaults, choice_fault, extension_fault, index_fault, sampler_fault,
 };
+use gltf_plans::{Next, Part, Visited, found, member, told};
 use std::collections::BTreeMap;
 
 /// A place with nothing below, at which something is wrong or not.
@@ -99,7 +97,7 @@ pub(crate) fn channel_at<'a>(animation: &'a Animation, number: usize) -> Next<'a
 }
 
 /// What comes at a number in a channel: its sampler, one of the animation's, and its target.
-#[tactic(auto, using(crate::proofs::Past::past), unfolding(gltf_animations::specs::AnimationTable::animation_channel_rows, gltf_animations::specs::AnimationTable::animation_target_rows, gltf_animations::specs::AnimationTrees::animation_channel_members, gltf_animations::specs::AnimationTrees::animation_target_members))]
+#[tactic(auto, using(gltf_plans::proofs::Past::past), unfolding(gltf_animations::specs::AnimationTable::animation_channel_rows, gltf_animations::specs::AnimationTable::animation_target_rows, gltf_animations::specs::AnimationTrees::animation_channel_members, gltf_animations::specs::AnimationTrees::animation_target_members))]
 pub(crate) fn in_channel<'a>(
     channel: &'a Channel,
     animation: &Animation,

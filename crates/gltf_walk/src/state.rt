@@ -3,10 +3,10 @@
 ghost use Rattle.std.specs.Prelude.{◌≤◌, ◌-◌, suc, length};
 ghost use Rattle.gltf_faults.specs.Context.{rules_of, under};
 ghost use Rattle.gltf_root.specs.RootTrees.{root_tree};
-ghost use Rattle.gltf_walk.specs.Parts.{plans_left};
+ghost use Rattle.gltf_walk.specs.Left.{plans_left};
 ghost use Rattle.gltf_walk.specs.Stacks.{reach};
 
-use crate::part::Frame;
+use crate::frame::Frame;
 use arrayvec::ArrayVec;
 use gltf_base::Steps;
 use gltf_faults::Rules;

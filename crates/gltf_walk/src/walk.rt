@@ -6,18 +6,18 @@ ghost use Rattle.gltf_root.specs.RootTable.{root_kind};
 ghost use Rattle.gltf_root.specs.RootTrees.{root_tree};
 ghost use Rattle.gltf_faults.specs.Context.{rules_of};
 ghost use Rattle.gltf_faults.specs.Reports.{reports_by_rules, reports_of};
-ghost use Rattle.gltf_walk.specs.Parts.{plan_of};
-ghost use Rattle.gltf_walk.specs.Plan.{leaf};
+ghost use Rattle.gltf_plans.specs.Parts.{plan_of};
+ghost use Rattle.gltf_plans.specs.Plan.{leaf};
 ghost use Rattle.gltf_walk.specs.ToCome.{base_count, left_of_descent, path_of_descent, to_come, path_of, IsNext, IsNextOf};
 
+use crate::frame::Frame;
 use crate::frames::next_in;
-use crate::next::Next;
-use crate::part::{Frame, Part};
 use crate::state::{Descent, Walk};
 use arrayvec::ArrayVec;
 use gltf_base::Steps;
 use gltf_base::validation::Error;
 use gltf_faults::{Context, Rules};
+use gltf_plans::{Next, Part};
 use gltf_root::root::Root;
 
 /// A path that has no room for one more step.

@@ -5,8 +5,8 @@ use Rattle.gltf_paths.specs.Lists.{ListName}
 use Rattle.gltf_root.specs.Lists.{count_in}
 use Rattle.gltf_faults.specs.Faults.{number_faults}
 use Rattle.gltf_faults.specs.Context.{context_of}
-use Rattle.gltf_walk.proofs.Items.{entry_past}
-use Rattle.gltf_walk.proofs.Leaves.{found_error, found_key}
+use Rattle.gltf_plans.proofs.Items.{entry_past}
+use Rattle.gltf_plans.proofs.Leaves.{found_error, found_key}
 use Rattle.gltf_walk.proofs.lists.attribute_at.Goals as goal
 
 pub returns-then-i-number-clause-comes : goal.returns-then-i-number-clause-comes

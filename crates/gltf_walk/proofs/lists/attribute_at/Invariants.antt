@@ -5,8 +5,8 @@ use Rattle.gltf_paths.specs.Lists.{ListName}
 use Rattle.gltf_root.specs.Lists.{count_in}
 use Rattle.gltf_schema.specs.Fields.{entry_of}
 use Rattle.gltf_faults.specs.Context.{context_of}
-use Rattle.gltf_walk.specs.Plan.{at, place}
-use Rattle.gltf_walk.specs.Planned.{entry_plans}
+use Rattle.gltf_plans.specs.Plan.{at, place}
+use Rattle.gltf_plans.specs.Planned.{entry_plans}
 use Rattle.gltf_walk.proofs.lists.attribute_at.Given as goal
 
 abbrev pub invariant-loop-i : goal.invariant-loop-i

@@ -4,8 +4,8 @@ use Rattle.gltf_paths.specs.Steps.{value}
 use Rattle.gltf_schema.specs.Tree.{text}
 use Rattle.gltf_faults.specs.Rules.{extension_faults}
 use Rattle.gltf_faults.specs.Context.{context_of}
-use Rattle.gltf_walk.specs.Plan.{down}
-use Rattle.gltf_walk.proofs.Leaves.{found_leaf}
+use Rattle.gltf_plans.specs.Plan.{down}
+use Rattle.gltf_plans.proofs.Leaves.{found_leaf}
 use Rattle.gltf_walk.proofs.lists.in_extension.Goals as goal
 
 pub returns-in-0-clause-comes : goal.returns-in-0-clause-comes

@@ -3,9 +3,9 @@ use Rattle.std.proofs.Common.{rules, ap, ◌∙◌}
 use Rattle.gltf_paths.specs.Steps.{item}
 use Rattle.gltf_schema.specs.Tree.{absent}
 use Rattle.gltf_faults.specs.Context.{context_of}
-use Rattle.gltf_walk.specs.Plan.{down}
-use Rattle.gltf_walk.specs.Planned.{planned}
-use Rattle.gltf_walk.proofs.Items.{item_comes, items_end}
+use Rattle.gltf_plans.specs.Plan.{down}
+use Rattle.gltf_plans.specs.Planned.{planned}
+use Rattle.gltf_plans.proofs.Items.{item_comes, items_end}
 use Rattle.gltf_walk.proofs.lists.item_at.Goals as goal
 
 pub returns-in-Some-clause-comes : goal.returns-in-Some-clause-comes

@@ -2,8 +2,9 @@
 use Rattle.std.proofs.Common.{arith, None, rules, ap, sym, ◌∙◌, ◌++◌, length, map, ◌≡◌, ◌-◌}
 use Rattle.std.proofs.lemmas.List.{length-take}
 use Rattle.gltf_paths.specs.Steps.{step_of}
-use Rattle.gltf_walk.specs.Parts.{plan_of, plan_left, plans_left}
-use Rattle.gltf_walk.specs.Plan.{height, leaf, weight}
+use Rattle.gltf_plans.specs.Parts.{plan_of}
+use Rattle.gltf_walk.specs.Left.{plan_left, plans_left}
+use Rattle.gltf_plans.specs.Plan.{height, leaf, weight}
 use Rattle.gltf_walk.specs.Stacks.{to_come_of}
 use Rattle.gltf_walk.specs.ToCome.{context_in}
 use Rattle.gltf_walk.proofs.Stacks.{told_by, weight_by, weight_move, weight_least}

@@ -3,9 +3,9 @@ use Rattle.std.proofs.Common.{◌≡◌, ℕ, zero, suc, ◌+◌, ◌≤◌, ◌
 use Rattle.gltf_checked.specs.Keys.{Key}
 use Rattle.gltf_paths.specs.Steps.{item}
 use Rattle.gltf_schema.specs.Tree.{Tree, trees}
-use Rattle.gltf_walk.specs.Plan.{Plan, place, down, over, at, counts}
-use Rattle.gltf_walk.specs.Planned.{entry_plans, item_plans}
-use Rattle.gltf_walk.proofs.Past.{past}
+use Rattle.gltf_plans.specs.Plan.{Plan, place, down, over, at, counts}
+use Rattle.gltf_plans.specs.Planned.{entry_plans, item_plans}
+use Rattle.gltf_plans.proofs.Past.{past}
 
 item_there : {X : Type 0} (f : Tree → Plan) (tree : X → Tree) (xs : List X) (i n : ℕ) (x : X) → n < length xs → x ≡ get_or xs n x
     → down (item (i + n)) (f (tree x)) ≡ at (place (item_plans f i (trees (map tree xs))) []) n

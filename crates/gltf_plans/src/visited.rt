@@ -8,9 +8,9 @@ ghost use Rattle.gltf_schema.specs.Leaves.{checked_tree, choice_of};
 ghost use Rattle.gltf_schema.specs.Tree.{Tree, absent, tree_or_absent};
 ghost use Rattle.gltf_paths.specs.Lists.{ListName};
 ghost use Rattle.gltf_faults.specs.Context.{context_of};
-ghost use Rattle.gltf_walk.specs.Parts.{move_of, plan_of, IsMore};
-ghost use Rattle.gltf_walk.specs.Plan.{at};
-ghost use Rattle.gltf_walk.specs.Planned.{planned};
+ghost use Rattle.gltf_plans.specs.Parts.{move_of, plan_of, IsMore};
+ghost use Rattle.gltf_plans.specs.Plan.{at};
+ghost use Rattle.gltf_plans.specs.Planned.{planned};
 
 use crate::next::Next;
 use crate::part::Part;
@@ -25,7 +25,7 @@ use gltf_root::root::RootItem;
 use std::collections::BTreeMap;
 
 /// A value in which something can be wrong.
-pub(crate) trait Visited {
+pub trait Visited {
     /// The kind in the table of what such a value is.
     ghost kind: { Kind };
 
@@ -39,7 +39,7 @@ pub(crate) trait Visited {
 }
 
 /// An object in whose members something can be wrong.
-pub(crate) trait Object: Visited {
+pub trait Object: Visited {
     /// What comes at a number: the members in which something can be wrong, in the rows' order, and
     /// then what the object's rule speaks of.
     fn next<'a>(&'a self, number: usize, context: &Context<'_>) -> Next<'a>

@@ -15,7 +15,7 @@ use Rattle.gltf_faults.specs.Reports.{animation_below}
 use Rattle.gltf_faults.specs.Rules.{accessor_rule, camera_rule, light_rule, positions_faults, is_positions, primitive_attributes, root_extensions_required, extension_faults}
 use Rattle.gltf_faults.specs.Silence.{is_silent}
 use Rattle.gltf_faults.specs.Standing.{same_step}
-use Rattle.gltf_walk.specs.Plan.{Plan, place, Plans, nothing, below, errors, leaf, also}
+use Rattle.gltf_plans.specs.Plan.{Plan, place, Plans, nothing, below, errors, leaf, also}
 
 -- ---- what is wrong at one place
 

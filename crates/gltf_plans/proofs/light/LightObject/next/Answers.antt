@@ -5,9 +5,9 @@ use Rattle.gltf_nodes.specs.LightTrees.{light_members}
 use Rattle.gltf_paths.specs.Steps.{field}
 use Rattle.gltf_faults.specs.Rules.{light_rule}
 use Rattle.gltf_faults.specs.Context.{context_of}
-use Rattle.gltf_walk.specs.Plan.{down}
-use Rattle.gltf_walk.proofs.Leaves.{found_leaf}
-use Rattle.gltf_walk.proofs.light.LightObject.next.Goals as goal
+use Rattle.gltf_plans.specs.Plan.{down}
+use Rattle.gltf_plans.proofs.Leaves.{found_leaf}
+use Rattle.gltf_plans.proofs.light.LightObject.next.Goals as goal
 
 pub returns-in-1-clause-comes : goal.returns-in-1-clause-comes
 unfolding light_rows spot_rows light_members

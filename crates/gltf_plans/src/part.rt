@@ -27,7 +27,7 @@ use std::collections::BTreeMap;
 /// What a walk comes to: an object, a list or a map in which something can be wrong, what an object's
 /// rule looks at, or a place with nothing below, at which something is wrong or not.
 #[derive(Clone, Copy, Drop)]
-pub(crate) enum Part<'a> {
+pub enum Part<'a> {
     Leaf(Option<Error>),
     Root(&'a Root),
     RootExtensions(&'a RootExtensions),
@@ -88,20 +88,4 @@ pub(crate) enum Part<'a> {
     Textures(&'a Vec<Texture>),
     Texture(&'a Texture),
     Info(&'a Info),
-}
-
-/// A part, and the number of its next member, item or entry.
-#[derive(Clone, Copy, Drop)]
-pub(crate) struct Frame<'a> {
-    pub(crate) part: Part<'a>,
-    pub(crate) number: usize,
-}
-
-impl Default for Frame<'_> {
-    fn default() -> Self {
-        Frame {
-            part: Part::Leaf(None),
-            number: 0,
-        }
-    }
 }

@@ -5,9 +5,9 @@ use Rattle.gltf_data.specs.AccessorTrees.{accessor_members}
 use Rattle.gltf_paths.specs.Steps.{field}
 use Rattle.gltf_faults.specs.Rules.{accessor_rule}
 use Rattle.gltf_faults.specs.Context.{context_of}
-use Rattle.gltf_walk.specs.Plan.{down}
-use Rattle.gltf_walk.proofs.Leaves.{found_leaf}
-use Rattle.gltf_walk.proofs.accessor.AccessorObject.next.Goals as goal
+use Rattle.gltf_plans.specs.Plan.{down}
+use Rattle.gltf_plans.proofs.Leaves.{found_leaf}
+use Rattle.gltf_plans.proofs.accessor.AccessorObject.next.Goals as goal
 
 pub returns-in-4-clause-comes : goal.returns-in-4-clause-comes
 unfolding accessor_rows sparse_rows sparse_indices_rows accessor_members

@@ -6,10 +6,10 @@ use Rattle.gltf_paths.specs.Steps.{field}
 use Rattle.gltf_schema.specs.Fields.{closed_object}
 use Rattle.gltf_schema.specs.Tree.{absent}
 use Rattle.gltf_faults.specs.Context.{context_of}
-use Rattle.gltf_walk.specs.Plan.{place, down}
-use Rattle.gltf_walk.specs.Planned.{planned}
-use Rattle.gltf_walk.proofs.Items.{items_same}
-use Rattle.gltf_walk.proofs.animation.AnimationObject.next.Goals as goal
+use Rattle.gltf_plans.specs.Plan.{place, down}
+use Rattle.gltf_plans.specs.Planned.{planned}
+use Rattle.gltf_plans.proofs.Items.{items_same}
+use Rattle.gltf_plans.proofs.animation.AnimationObject.next.Goals as goal
 
 pub returns-in-0-clause-comes : goal.returns-in-0-clause-comes
 unfolding animation_rows animation_sampler_rows animation_members animation_sampler_members

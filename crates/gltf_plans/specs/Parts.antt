@@ -1,5 +1,5 @@
 -- What a part of a document is walked by.
-use Rattle.std.specs.Prelude.{List, [], map}
+use Rattle.std.specs.Prelude.{[]}
 use Rattle.gltf_animations.specs.AnimationTable.{animation_target_kind, animation_sampler_kind, animation_kind}
 use Rattle.gltf_animations.specs.AnimationTrees.{animation_target_members, animation_sampler_members, animation_members}
 use Rattle.gltf_data.specs.AccessorTable.{accessor_kind, sparse_kind, sparse_indices_kind, sparse_values_kind}
@@ -36,13 +36,12 @@ use Rattle.gltf_schema.specs.Kind.{Attributes, IndexInto, ListOf}
 use Rattle.gltf_schema.specs.Tree.{absent, items_in}
 use Rattle.gltf_faults.specs.Context.{Context}
 use Rattle.gltf_faults.specs.declared.primitive.PositionFaults.{PositionFaults}
-use Rattle.gltf_walk.specs.Plan.{Plan, place, leaf, left, Move, down, fault, over}
-use Rattle.gltf_walk.specs.Planned.{planned, entry_plan, bounds_plan, at_positions, item_plans, name_plan}
-use Rattle.gltf_walk.specs.declared.next.Next.{Next}
-use Rattle.gltf_walk.specs.declared.next.Next.TheVariants as next
-use Rattle.gltf_walk.specs.declared.part.Frame.{Frame}
-use Rattle.gltf_walk.specs.declared.part.Part.{Part}
-use Rattle.gltf_walk.specs.declared.part.Part.TheVariants as part
+use Rattle.gltf_plans.specs.Plan.{Plan, place, leaf, Move, down, fault, over}
+use Rattle.gltf_plans.specs.Planned.{planned, entry_plan, bounds_plan, at_positions, item_plans, name_plan}
+use Rattle.gltf_plans.specs.declared.next.Next.{Next}
+use Rattle.gltf_plans.specs.declared.next.Next.TheVariants as next
+use Rattle.gltf_plans.specs.declared.part.Part.{Part}
+use Rattle.gltf_plans.specs.declared.part.Part.TheVariants as part
 
 abbrev pub found_plan : PositionFaults → Plan
 found_plan f = bounds_plan f.positions f.min f.max
@@ -121,10 +120,3 @@ move_of context next.Done = over
 abbrev pub IsMore : Next → Type 0
 IsMore next.Done = ⊥
 IsMore _ = Unit {0}
-
--- what is left of the plans of frames
-abbrev pub plan_left : Context → Frame → Plan
-plan_left context f = left (plan_of context f.part) f.number
-
-abbrev pub plans_left : Context → List Frame → List Plan
-plans_left context fs = map (plan_left context) fs

@@ -54,6 +54,7 @@ pub mod root {
 /// What is wrong in a document, place by place.
 pub mod validation {
     pub use gltf_base::validation::{Checked, Error, USize64};
+    pub use gltf_clean::{Clean, CleanError, Item};
     pub use gltf_faults::Rules;
     pub use gltf_sinks::{Collect, Count, Sink, Stop};
     pub use gltf_validation::validation::Validate;

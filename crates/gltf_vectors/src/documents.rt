@@ -2,6 +2,7 @@
 //! written as.
 
 mod built;
+mod clean;
 mod hostile;
 mod lists;
 mod made;

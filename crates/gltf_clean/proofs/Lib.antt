@@ -1,0 +1,3 @@
+pub mod SameErrors
+pub mod Sinking
+pub mod Pushing

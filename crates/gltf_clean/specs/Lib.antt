@@ -1,0 +1,3 @@
+pub mod NoItems
+pub mod Clean
+pub mod Held

@@ -1,0 +1,101 @@
+//! Roots without reports, and pushes that leave them so.
+
+ghost use Rattle.std.specs.Prelude.{◌≡◌, [], None, Some};
+ghost use Rattle.std.specs.List.{last_or};
+ghost use Rattle.gltf_root.specs.RootTrees.{root_tree};
+ghost use Rattle.gltf_root.specs.Undone.{undone};
+ghost use Rattle.gltf_faults.specs.Context.{rules_of};
+ghost use Rattle.gltf_clean.specs.Clean.{IsClean, IsPushed};
+ghost use Rattle.gltf_clean.specs.Held.{rules_held, root_held, tree_held, IsHeld};
+
+use crate::fault::{fault_of_last, first_fault};
+use crate::held::Clean;
+use crate::item::Item;
+use gltf_base::validation::Error;
+use gltf_base::{Index, PushError};
+use gltf_faults::Rules;
+use gltf_root::root::{Mark, Root};
+
+/// Why an item was not pushed; each kind hands it back.
+#[derive(Debug, Drop)]
+pub enum CleanError<T> {
+    /// The list has as many items as there are indexes.
+    Full(T),
+    /// There was no memory for one item more.
+    Memory(T),
+    /// The item has a report where it would stand: what is wrong first.
+    Faulty(T, Error),
+}
+
+impl<'a> Clean<'a> {
+    /// The root with its rules where it has no report under them; else it is handed back. It takes no
+    /// memory.
+    pub fn of(rules: Rules<'a>, root: Root) -> Result<Clean<'a>, Root>
+        ensures { IsHeld (rules_of rules.entry) root result }
+    {
+        match first_fault(&root, &rules, &root) {
+            None => Ok(Clean { rules, root }),
+            Some(_) => Err(root),
+        }
+    }
+
+    /// The root that is held. It takes no memory.
+    pub fn root(&self) -> &Root
+        ensures held { result.now ≡ root_held self.now }
+        ensures clean { IsClean (rules_held self.now) (root_tree result.now) }
+    {
+        &self.root
+    }
+
+    /// The root that was held. It takes no memory.
+    pub fn into_root(self) -> Root
+        ensures held { result ≡ root_held self.entry }
+        ensures clean { IsClean (rules_held self.entry) (root_tree result) }
+    {
+        self.root
+    }
+
+    /// Appends an item to its list where it has no report there, and answers its index. It may name
+    /// items of the root and itself. Extension objects that are missing are made, as `Get::push` does.
+    ///
+    /// `Full` comes before any memory is taken, and `Memory` before the item is looked at. An item
+    /// that has a report is in the list while it is looked at, and is taken out again.
+    pub fn push<T: Item>(&mut self, item: T) -> Result<Index<T>, CleanError<T>>
+        ensures rules { rules_held self.new ≡ rules_held self.old }
+        ensures pushed { IsPushed (rules_held self.old) T.list item (T.RootItem.tree item) (tree_held self.old) result (tree_held self.new) }
+    {
+        push_clean(&self.rules, &mut self.root, item)
+    }
+}
+
+/// Appends an item to its list in a root where it has no report there.
+fn push_clean<T: Item>(
+    rules: &Rules<'_>,
+    root: &mut Root,
+    item: T,
+) -> Result<Index<T>, CleanError<T>>
+    ensures { IsPushed (rules_of rules.now) T.list item (T.RootItem.tree item) (root_tree root.old) result (root_tree root.new) }
+{
+    let mark = T::mark_of(root);
+    match T::push_onto(root, item) {
+        Ok(index) => match fault_of_last::<T>(rules, root) {
+            None => Ok(index),
+            Some(error) => Err(CleanError::Faulty(taken_back(root, mark), error)),
+        },
+        Err(PushError::Full(item)) => Err(CleanError::Full(item)),
+        Err(PushError::Memory(item)) => Err(CleanError::Memory(item)),
+    }
+}
+
+/// Takes the last item out of its list again, and with it what was missing by the mark.
+fn taken_back<T: Item>(root: &mut Root, mark: Mark) -> T
+    requires { (T.items root.old ≡ []) → ⊥ }
+    ensures item { last_or None (T.items root.old) ≡ Some result }
+    ensures document { root_tree root.new ≡ undone T.list mark (root_tree root.old) }
+{
+    match T::undo_push_from(root, mark) {
+        Some(item) => item,
+        // An item was pushed.
+        None => unreachable!(),
+    }
+}

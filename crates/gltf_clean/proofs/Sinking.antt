@@ -1,10 +1,14 @@
 -- What a sink is told that refuses its first report.
-use Rattle.std.proofs.Common.{◌≡◌, ℕ, suc, ◌≤◌, List, [], ◌∷◌, ◌++◌, Option, Some, None, refl, sym, ◌∙◌, ap, arith}
-use Rattle.gltf_paths.specs.Steps.{Step}
+use Rattle.std.proofs.Common.{◌≡◌, ℕ, suc, ◌≤◌, List, [], ◌∷◌, ◌++◌, map, Some, None, Err, refl, sym, ◌∙◌, ap, subst, arith}
+use Rattle.arrayvec.specs.ArrayVec.{ArrayVec}
+use Rattle.gltf_paths.specs.Steps.{Step, step_of, steps_of}
+use Rattle.gltf_paths.specs.declared.path.Step.{Step as Borrowed}
 use Rattle.gltf_paths.specs.declared.validation.Error.{Error}
 use Rattle.std.proofs.lemmas.Option.{none-some}
-use Rattle.gltf_sinks.specs.Handed.{run}
-use Rattle.gltf_sinks.specs.Report.{Report}
+use Rattle.gltf_sinks.specs.Handed.{run, HandedOver}
+use Rattle.gltf_sinks.specs.Report.{From, Report}
+use Rattle.gltf_sinks.specs.declared.sink.Stop.{Stop}
+use Rattle.gltf_sinks.specs.declared.sink.Stop.TheVariants.{Sink}
 use Rattle.gltf_clean.specs.Clean.{first_error}
 use Rattle.gltf_clean.proofs.SameErrors.{SameErrors, nothing, one}
 
@@ -25,6 +29,26 @@ pub refused_first : (all before after : List Report) (at : Report) → all ≡ b
     → first_error all ≡ Some at.error
 refused_first all before after at parts none =
     ap first_error parts ∙ ap (λ rs. first_error (rs ++ at ∷ after)) (took_none before none)
+
+-- ---- a walk from no steps, by what it answers
+
+abbrev refused : ℕ → List Step → Error → Error → ℕ → Type 0
+refused old steps error refusal new = (old ≡ 0) × (refusal ≡ error) × (new ≡ 0)
+
+abbrev Handed : List Report → ℕ → Stop Error → Type 0
+Handed all steps stop = HandedOver counted refused 0 all steps (Err stop) 0
+
+from_none : (all : From) (path : ArrayVec Borrowed) → path.items ≡ [] → all (steps_of path) ≡ all []
+from_none all path none = ap (λ steps. all (map step_of steps)) none
+
+pub told_none : (all : From) (path : ArrayVec Borrowed) → path.items ≡ [] → 0 ≡ run counted 0 (all (steps_of path)) → None ≡ first_error (all [])
+told_none all path none handed = ap first_error (sym (took_none (all (steps_of path)) (sym handed)) ∙ from_none all path none)
+
+pub told_first : (all : From) (path : ArrayVec Borrowed) (steps : ℕ) (stop : Stop Error) (error : Error) → path.items ≡ [] → stop ≡ Sink error
+    → Handed (all (steps_of path)) steps stop → Some error ≡ first_error (all [])
+told_first all path steps stop error none is handed =
+    let found = subst (Handed (all (steps_of path)) steps) is handed in
+    ap Some found.4.1 ∙ sym (refused_first (all (steps_of path)) found.0 found.2 found.1 found.3 found.4.0) ∙ ap first_error (from_none all path none)
 
 -- ---- the first error of lists
 

@@ -1,5 +1,5 @@
 -- Documents without reports, and pushes onto them.
-use Rattle.std.specs.Prelude.{◌≡◌, ℕ, ◌-◌, ◌^◌, ◌<◌, ◌≤◌, List, [], ◌∷◌, Option, Some, None, Result, Ok, Err}
+use Rattle.std.specs.Prelude.{◌≡◌, ◌-◌, ◌^◌, ◌<◌, ◌≤◌, List, [], ◌∷◌, Option, Some, None, Result, Ok, Err}
 use Rattle.gltf_paths.specs.Indexes.{index_number}
 use Rattle.gltf_paths.specs.Lists.{ListName}
 use Rattle.gltf_paths.specs.declared.index.IndexTo.{IndexTo}

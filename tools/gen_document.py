@@ -6,17 +6,10 @@ of nodes with transforms, meshes with indices and four attributes each, material
 It has no faults. --faults K breaks K indexes, spread evenly over the meshes of nodes. The same parameters give the same
 bytes.
 """
-import argparse
 import json
-import random
 import sys
 
-arguments = argparse.ArgumentParser()
-arguments.add_argument("--mb", type=float, default=10)
-arguments.add_argument("--faults", type=int, default=0)
-arguments.add_argument("--seed", type=int, default=1)
-given = arguments.parse_args()
-chance = random.Random(given.seed)
+from parameters import chance, given
 
 BYTES_OF_A_MESH = 1660  # with all that is listed for it, about
 MESHES = max(1, int(given.mb * 1e6 / BYTES_OF_A_MESH))

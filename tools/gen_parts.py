@@ -4,17 +4,10 @@
 A large document of accessors, buffers and views alone, of close to N million bytes of compact JSON, to measure with.
 --faults K breaks K indexes, spread evenly over the accessors. The same parameters give the same bytes.
 """
-import argparse
 import json
-import random
 import sys
 
-arguments = argparse.ArgumentParser()
-arguments.add_argument("--mb", type=float, default=10)
-arguments.add_argument("--faults", type=int, default=0)
-arguments.add_argument("--seed", type=int, default=1)
-given = arguments.parse_args()
-chance = random.Random(given.seed)
+from parameters import chance, given
 
 SHAPES = [("VEC3", 5126, 12), ("VEC2", 5126, 8), ("VEC4", 5126, 16), ("SCALAR", 5125, 4)]
 BYTES_OF_A_PAIR = 181  # of an accessor and its view, about

@@ -2,6 +2,7 @@
 use Rattle.std.proofs.Common.{◌≡◌, ℕ, suc, ◌-◌, ◌<◌, ◌≤◌, ◌↔◌, List, [], ◌∷◌, ◌++◌, map, length, Option, Some, None, Result, Ok, Err, refl, sym, ◌∙◌, ap, subst, arith}
 use Rattle.std.specs.List.{slice_get}
 use Rattle.std.proofs.lemmas.Grind.{common_steps}
+use Rattle.std.proofs.lemmas.Option.{same_Some}
 use Rattle.std.proofs.Math.Nat.{lt_of_not-le}
 use Rattle.gltf_paths.specs.Lists.{ListName}
 use Rattle.gltf_paths.specs.Steps.{Step}
@@ -11,7 +12,7 @@ use Rattle.gltf_paths.specs.declared.index.PushError.TheVariants as refusal
 use Rattle.gltf_paths.specs.declared.validation.Error.{Error}
 use Rattle.gltf_schema.specs.Kind.{Kind}
 use Rattle.gltf_schema.specs.Tree.{Tree, absent, trees, count_of}
-use Rattle.gltf_sinks.specs.Report.{From}
+use Rattle.gltf_sinks.specs.Report.{From, first_error}
 use Rattle.gltf_root.specs.Lists.{list_in, count_in}
 use Rattle.gltf_root.specs.Pushed.{pushed, item_kind, item_place}
 use Rattle.gltf_root.specs.RootTrees.{root_tree}
@@ -20,22 +21,13 @@ use Rattle.gltf_faults.specs.Context.{Rules, Context}
 use Rattle.gltf_faults.specs.Reports.{reports, reports_by_rules}
 use Rattle.gltf_faults.proofs.PushesOnto.{onto_clean}
 use Rattle.gltf_validation.specs.ByType.{reports_by}
-use Rattle.gltf_clean.specs.Clean.{IsClean, IsPushed, first_error, item_reports}
+use Rattle.gltf_clean.specs.Clean.{IsClean, IsPushed, item_reports}
 use Rattle.gltf_clean.specs.declared.keeping.CleanError.{CleanError}
 use Rattle.gltf_clean.specs.declared.keeping.CleanError.TheVariants.{Full, Memory, Faulty}
 use Rattle.gltf_clean.proofs.SameErrors.{reports_same}
 use Rattle.gltf_clean.proofs.Sinking.{same_first}
 
--- ---- how many items there are
-
-count-trees : {X : Type 0} (tree : X → Tree) (xs : List X) → count_of (trees (map tree xs)) ≡ length xs
-count-trees tree [] = refl
-count-trees tree (x ∷ xs) = ap suc (count-trees tree xs)
-
--- a list of a document has as many items as its tree tells
-pub counted : {X : Type 0} (tree : X → Tree) (xs : List X) (named : ListName) (root : Tree) → list_in named root ≡ trees (map tree xs)
-    → count_in named root ≡ length xs
-counted tree xs named root same = ap count_of same ∙ count-trees tree xs
+-- ---- whether there was room
 
 -- a push that is told otherwise than as full had room
 abbrev IsMade : {A B : Type 0} → Result A B → Type 0
@@ -55,13 +47,6 @@ room_without_memory x y most full = lt_of_not-le (λ h. subst LacksMemory (full.
 
 -- ---- the item at the end of a list
 
-abbrev held_or : {X : Type 0} → X → Option X → X
-held_or y None = y
-held_or y (Some x) = x
-
-pub some_same : {X : Type 0} (x y : X) → Some x ≡ Some y → x ≡ y
-some_same x y same = ap (held_or x) same
-
 at_end : {X : Type 0} (xs : List X) (x : X) → slice_get (xs ++ x ∷ []) (length xs) ≡ Some x
 at_end [] x = refl
 at_end (y ∷ xs) x = at_end xs x
@@ -70,7 +55,7 @@ at_end (y ∷ xs) x = at_end xs x
 pub is_last : {X : Type 0} (before list : List X) (x last : X) → list ≡ before ++ x ∷ [] → Some last ≡ slice_get list (length list - 1) → last ≡ x
 is_last before list x last whole found =
     let n : length (before ++ x ∷ []) - 1 ≡ length before = grind (arith, common_steps) in
-    some_same last x (found ∙ ap (λ xs. slice_get xs (length xs - 1)) whole ∙ ap (slice_get (before ++ x ∷ [])) n ∙ at_end before x)
+    same_Some last x (found ∙ ap (λ xs. slice_get xs (length xs - 1)) whole ∙ ap (slice_get (before ++ x ∷ [])) n ∙ at_end before x)
 
 -- ---- what is told of an item
 

@@ -6,10 +6,9 @@ use Rattle.gltf_paths.specs.declared.path.Step.{Step as Borrowed}
 use Rattle.gltf_paths.specs.declared.validation.Error.{Error}
 use Rattle.std.proofs.lemmas.Option.{none-some}
 use Rattle.gltf_sinks.specs.Handed.{run, HandedOver}
-use Rattle.gltf_sinks.specs.Report.{From, Report}
+use Rattle.gltf_sinks.specs.Report.{From, Report, first_error}
 use Rattle.gltf_sinks.specs.declared.sink.Stop.{Stop}
 use Rattle.gltf_sinks.specs.declared.sink.Stop.TheVariants.{Sink}
-use Rattle.gltf_clean.specs.Clean.{first_error}
 use Rattle.gltf_clean.proofs.SameErrors.{SameErrors, nothing, one}
 
 abbrev counted : ℕ → List Step → Error → ℕ

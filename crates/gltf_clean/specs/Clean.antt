@@ -1,11 +1,10 @@
 -- Documents without reports, and pushes onto them.
-use Rattle.std.specs.Prelude.{◌≡◌, ◌-◌, ◌^◌, ◌<◌, ◌≤◌, List, [], ◌∷◌, Option, Some, None, Result, Ok, Err}
+use Rattle.std.specs.Prelude.{◌≡◌, ◌-◌, ◌^◌, ◌<◌, ◌≤◌, List, [], Some, Result, Ok, Err}
 use Rattle.gltf_paths.specs.Indexes.{index_number}
 use Rattle.gltf_paths.specs.Lists.{ListName}
 use Rattle.gltf_paths.specs.declared.index.IndexTo.{IndexTo}
-use Rattle.gltf_paths.specs.declared.validation.Error.{Error}
 use Rattle.gltf_schema.specs.Tree.{Tree}
-use Rattle.gltf_sinks.specs.Report.{Report}
+use Rattle.gltf_sinks.specs.Report.{Report, first_error}
 use Rattle.gltf_root.specs.Lists.{count_in}
 use Rattle.gltf_root.specs.Pushed.{pushed, item_kind, item_place}
 use Rattle.gltf_root.specs.RootTable.{root_kind}
@@ -21,11 +20,6 @@ IsClean rules root = reports_by_rules rules root_kind root root [] ≡ []
 
 pub IsClean-prop : (rules : Rules) (root : Tree) → IsProp (IsClean rules root)
 IsClean-prop rules root = none-prop (reports_by_rules rules root_kind root root [])
-
--- what is wrong first, if anything is
-abbrev pub first_error : List Report → Option Error
-first_error [] = None
-first_error (r ∷ rs) = Some r.error
 
 -- what is wrong with an item that is pushed onto a list of a document: at its place, in the document with the item
 abbrev pub item_reports : Rules → ListName → Tree → Tree → List Report

@@ -2,12 +2,12 @@
 
 ghost use Rattle.std.specs.Prelude.{◌≡◌, ◌≤◌, ◌++◌, ◌∷◌, ℕ, suc, List, []};
 ghost use Rattle.gltf_paths.specs.Steps.{Step};
+ghost use Rattle.gltf_sinks.specs.Report.{first_error};
 ghost use Rattle.gltf_root.specs.Pushed.{item_kind};
 ghost use Rattle.gltf_root.specs.RootTrees.{root_tree};
 ghost use Rattle.gltf_faults.specs.Context.{rules_of, under};
 ghost use Rattle.gltf_faults.specs.Reports.{reports_by_rules};
 ghost use Rattle.gltf_validation.specs.ByType.{reports_by};
-ghost use Rattle.gltf_clean.specs.Clean.{first_error};
 
 use crate::item::Item;
 use gltf_base::Steps;

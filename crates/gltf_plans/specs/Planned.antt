@@ -8,7 +8,7 @@ use Rattle.gltf_paths.specs.declared.validation.Error.{Error}
 use Rattle.gltf_schema.specs.Tree.{Tree, text, object, Trees, end, with_tree, items_in, members_in, entries_in}
 use Rattle.gltf_schema.specs.Kind.{Kind, IndexInto, SourceImage, ChannelSampler, Stride, Choice, Attributes, ListOf, Object, ObjectName, Rows, no_rows, row}
 use Rattle.gltf_root.specs.Lists.{count_in, sampler_count}
-use Rattle.gltf_sinks.specs.Report.{Report, From}
+use Rattle.gltf_sinks.specs.Report.{Report, From, first_error}
 use Rattle.gltf_faults.specs.Context.{Context}
 use Rattle.gltf_faults.specs.Faults.{index_faults, source_faults, stride_faults, choice_faults, key_faults, number_faults}
 use Rattle.gltf_faults.specs.Reports.{animation_below}
@@ -30,10 +30,6 @@ error_among steps [] = None
 error_among steps (r ∷ rs) = cond (same_steps steps r.steps) (Some r.error) (error_among steps rs)
 
 -- the first error, wherever it stands
-abbrev pub first_error : List Report → Option Error
-first_error [] = None
-first_error (r ∷ rs) = Some r.error
-
 abbrev pub error_of : From → Option Error
 error_of f = first_error (f [])
 

@@ -1,6 +1,7 @@
 -- An item is looked at where it stands, at the end of its list, and is taken back where it has a report.
 use Rattle.std.proofs.Common.{◌≡◌, ◌-◌, ◌^◌, ◌≤◌, ◌<◌, ◌↔◌, length, None, Err, sym, ◌∙◌, ap, subst}
 use Rattle.std.specs.List.{last_or}
+use Rattle.std.proofs.lemmas.Option.{same_Some}
 use Rattle.gltf_paths.specs.Pushes.{IsHandedBack}
 use Rattle.gltf_paths.specs.declared.index.PushError.TheVariants.{Full}
 use Rattle.gltf_root.specs.Lists.{count_in}
@@ -10,8 +11,9 @@ use Rattle.gltf_root.specs.Undone.{undone}
 use Rattle.gltf_root.proofs.TakenBack.{taken_back}
 use Rattle.gltf_root.proofs.Undoing.{last_or_pop}
 use Rattle.gltf_faults.specs.Context.{rules_of}
+use Rattle.gltf_faults.proofs.Resolving.{count_in-items}
 use Rattle.gltf_clean.specs.Clean.{item_reports}
-use Rattle.gltf_clean.proofs.Pushing.{counted, some_same, room_where_made, room_without_memory, told_of_pushed}
+use Rattle.gltf_clean.proofs.Pushing.{room_where_made, room_without_memory, told_of_pushed}
 use Rattle.gltf_clean.proofs.Sinking.{no_error}
 use Rattle.gltf_clean.proofs.keeping.push_clean.Goals as goal
 
@@ -22,7 +24,7 @@ returns-in-None g c =
     let xs = g.T.RootItem.items old in
     let x = g.T.RootItem.tree c.args.item in
     let by = rules_of c.args.rules.now in
-    let count = counted g.T.RootItem.tree xs named (root_tree old) (g.met.T.RootItem.lists old) in
+    let count = count_in-items named (root_tree old) g.T.RootItem.tree xs (g.met.T.RootItem.lists old) in
     let left = c.in-Ok.ensures.pushed in
     let told = c.fault_of_last.ensures xs c.args.item (item_place named (count_in named (root_tree old))) c.in-Ok.ensures.appended in (
       subst (λ n. n < 2 ^ 32 - 1) (sym count) (room_where_made _ _ _ c.in-Ok.ensures.full),
@@ -38,13 +40,13 @@ returns-in-Some g c =
     let xs = g.T.RootItem.items old in
     let x = g.T.RootItem.tree c.args.item in
     let by = rules_of c.args.rules.now in
-    let count = counted g.T.RootItem.tree xs named (root_tree old) (g.met.T.RootItem.lists old) in
+    let count = count_in-items named (root_tree old) g.T.RootItem.tree xs (g.met.T.RootItem.lists old) in
     let left = c.in-Ok.ensures.pushed in
     let told = c.fault_of_last.ensures xs c.args.item (item_place named (count_in named (root_tree old))) c.in-Ok.ensures.appended in
     let last = sym (ap (last_or None) c.in-Ok.ensures.appended ∙ last_or_pop None xs c.args.item) in (
       subst (λ n. n < 2 ^ 32 - 1) (sym count) (room_where_made _ _ _ c.in-Ok.ensures.full),
       told_of_pushed by named x (root_tree old) (root_tree c.push_onto.new.root) c.fault_of_last.result left.1 told ∙ c.in-Some.is,
-      sym (some_same _ _ (last ∙ c.taken_back.ensures.item)),
+      sym (same_Some _ _ (last ∙ c.taken_back.ensures.item)),
       c.taken_back.ensures.document ∙ ap (undone named c.mark_of-mark.result) left.1 ∙ ap (λ m. undone named m (pushed named x (root_tree old))) c.mark_of-mark.ensures ∙ taken_back old named x,
     )
 
@@ -52,7 +54,7 @@ pub returns-in-Err-Full : goal.returns-in-Err-Full
 returns-in-Err-Full g c =
     let named = g.T.Listed.list in
     let old = c.args.root.now in
-    let count = counted g.T.RootItem.tree (g.T.RootItem.items old) named (root_tree old) (g.met.T.RootItem.lists old) in
+    let count = count_in-items named (root_tree old) g.T.RootItem.tree (g.T.RootItem.items old) (g.met.T.RootItem.lists old) in
     let is = c.in-Err-Full.field-0-is in
     let back = subst (IsHandedBack c.args.item) is c.in-Err-Full.ensures.handed_back in
     rw is (subst (λ n. 2 ^ 32 - 1 ≤ n) (sym count) (c.in-Err-Full.ensures.full.0 (ap Err is ∙ ap (λ x. Err (Full x)) back)), back, c.in-Err-Full.ensures.unchanged)
@@ -61,7 +63,7 @@ pub returns-in-Err-Memory : goal.returns-in-Err-Memory
 returns-in-Err-Memory g c =
     let named = g.T.Listed.list in
     let old = c.args.root.now in
-    let count = counted g.T.RootItem.tree (g.T.RootItem.items old) named (root_tree old) (g.met.T.RootItem.lists old) in
+    let count = count_in-items named (root_tree old) g.T.RootItem.tree (g.T.RootItem.items old) (g.met.T.RootItem.lists old) in
     let is = c.in-Err-Memory.field-0-is in
     let back = subst (IsHandedBack c.args.item) is c.in-Err-Memory.ensures.handed_back in
     let full = subst (λ e. (Err e ≡ Err (Full c.args.item)) ↔ (2 ^ 32 - 1 ≤ length (g.T.RootItem.items old))) is c.in-Err-Memory.ensures.full in

@@ -1,5 +1,5 @@
 -- Items that are pushed onto a list, and what is told of them.
-use Rattle.std.proofs.Common.{◌≡◌, ℕ, suc, ◌-◌, ◌<◌, ◌≤◌, ◌↔◌, List, [], ◌∷◌, ◌++◌, map, length, Option, Some, None, Result, Ok, Err, refl, sym, ◌∙◌, ap, subst, arith}
+use Rattle.std.proofs.Common.{◌≡◌, ℕ, ◌-◌, ◌<◌, ◌≤◌, ◌↔◌, List, [], ◌∷◌, ◌++◌, length, Option, Some, Result, Ok, Err, refl, sym, ◌∙◌, ap, subst, arith}
 use Rattle.std.specs.List.{slice_get}
 use Rattle.std.proofs.lemmas.Grind.{common_steps}
 use Rattle.std.proofs.lemmas.Option.{same_Some}
@@ -11,9 +11,9 @@ use Rattle.gltf_paths.specs.declared.index.PushError.{PushError}
 use Rattle.gltf_paths.specs.declared.index.PushError.TheVariants as refusal
 use Rattle.gltf_paths.specs.declared.validation.Error.{Error}
 use Rattle.gltf_schema.specs.Kind.{Kind}
-use Rattle.gltf_schema.specs.Tree.{Tree, absent, trees, count_of}
+use Rattle.gltf_schema.specs.Tree.{Tree, absent}
 use Rattle.gltf_sinks.specs.Report.{From, first_error}
-use Rattle.gltf_root.specs.Lists.{list_in, count_in}
+use Rattle.gltf_root.specs.Lists.{count_in}
 use Rattle.gltf_root.specs.Pushed.{pushed, item_kind, item_place}
 use Rattle.gltf_root.specs.RootTrees.{root_tree}
 use Rattle.gltf_root.specs.declared.root.Root.{Root}

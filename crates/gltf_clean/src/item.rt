@@ -2,6 +2,7 @@
 
 ghost use Rattle.std.specs.Prelude.{◌≡◌, ◌≤◌, Some, refl};
 ghost use Rattle.std.proofs.Common.{lit≤};
+ghost use Rattle.gltf_schema.specs.Tree.{object};
 ghost use Rattle.gltf_root.specs.Pushed.{item_kind};
 
 use gltf_animations::animation::Animation;
@@ -15,7 +16,7 @@ use gltf_nodes::extensions::scene::khr_lights_punctual::Light;
 use gltf_nodes::extensions::scene::khr_materials_variants::Variant;
 use gltf_nodes::scene::{Node, Scene};
 use gltf_nodes::skin::Skin;
-use gltf_root::root::RootItem;
+use gltf_root::root::{RootItem, TopLevel};
 use gltf_textures::texture::{Sampler, Texture};
 use gltf_validation::validation::Validate;
 
@@ -30,7 +31,24 @@ pub trait Item: Validate + RootItem {
     ghost shallow: { Self.depth ≤ 10 };
 }
 
-impl Item for Accessor {
+/// What a list of the document itself holds: `Item` follows (docs/DECISIONS.md).
+pub trait TopLevelItem: Validate + TopLevel {
+    ghost kinded: { Self.kind ≡ Some (item_kind Self.list) };
+
+    ghost seen: { (item : Self) → Self.Validate.tree item ≡ object (Self.members item) (Self.unknown item) };
+
+    ghost shallow: { Self.depth ≤ 10 };
+}
+
+impl<T: TopLevelItem> Item for T {
+    ghost kinded = { T.kinded };
+
+    ghost seen = { T.seen };
+
+    ghost shallow = { T.shallow };
+}
+
+impl TopLevelItem for Accessor {
     ghost kinded = { refl };
 
     ghost seen = { λ _. refl };
@@ -38,7 +56,7 @@ impl Item for Accessor {
     ghost shallow = { lit≤ tt };
 }
 
-impl Item for Animation {
+impl TopLevelItem for Animation {
     ghost kinded = { refl };
 
     ghost seen = { λ _. refl };
@@ -46,7 +64,7 @@ impl Item for Animation {
     ghost shallow = { lit≤ tt };
 }
 
-impl Item for Buffer {
+impl TopLevelItem for Buffer {
     ghost kinded = { refl };
 
     ghost seen = { λ _. refl };
@@ -54,7 +72,7 @@ impl Item for Buffer {
     ghost shallow = { lit≤ tt };
 }
 
-impl Item for View {
+impl TopLevelItem for View {
     ghost kinded = { refl };
 
     ghost seen = { λ _. refl };
@@ -62,7 +80,7 @@ impl Item for View {
     ghost shallow = { lit≤ tt };
 }
 
-impl Item for Camera {
+impl TopLevelItem for Camera {
     ghost kinded = { refl };
 
     ghost seen = { λ _. refl };
@@ -70,7 +88,7 @@ impl Item for Camera {
     ghost shallow = { lit≤ tt };
 }
 
-impl Item for Image {
+impl TopLevelItem for Image {
     ghost kinded = { refl };
 
     ghost seen = { λ _. refl };
@@ -78,7 +96,7 @@ impl Item for Image {
     ghost shallow = { lit≤ tt };
 }
 
-impl Item for Material {
+impl TopLevelItem for Material {
     ghost kinded = { refl };
 
     ghost seen = { λ _. refl };
@@ -86,7 +104,7 @@ impl Item for Material {
     ghost shallow = { lit≤ tt };
 }
 
-impl Item for Mesh {
+impl TopLevelItem for Mesh {
     ghost kinded = { refl };
 
     ghost seen = { λ _. refl };
@@ -94,7 +112,7 @@ impl Item for Mesh {
     ghost shallow = { lit≤ tt };
 }
 
-impl Item for Node {
+impl TopLevelItem for Node {
     ghost kinded = { refl };
 
     ghost seen = { λ _. refl };
@@ -102,7 +120,7 @@ impl Item for Node {
     ghost shallow = { lit≤ tt };
 }
 
-impl Item for Sampler {
+impl TopLevelItem for Sampler {
     ghost kinded = { refl };
 
     ghost seen = { λ _. refl };
@@ -110,7 +128,7 @@ impl Item for Sampler {
     ghost shallow = { lit≤ tt };
 }
 
-impl Item for Scene {
+impl TopLevelItem for Scene {
     ghost kinded = { refl };
 
     ghost seen = { λ _. refl };
@@ -118,7 +136,7 @@ impl Item for Scene {
     ghost shallow = { lit≤ tt };
 }
 
-impl Item for Skin {
+impl TopLevelItem for Skin {
     ghost kinded = { refl };
 
     ghost seen = { λ _. refl };
@@ -126,7 +144,7 @@ impl Item for Skin {
     ghost shallow = { lit≤ tt };
 }
 
-impl Item for Texture {
+impl TopLevelItem for Texture {
     ghost kinded = { refl };
 
     ghost seen = { λ _. refl };

@@ -25,14 +25,17 @@ use gltf_textures::texture::{self, Texture};
 use serde_json::{Map, Value};
 use std::alloc::{AllocError, Global};
 
+mod extended;
 mod get;
 mod items;
 mod mark;
 mod parse;
 mod print;
+mod top_level;
 
 pub use get::{Get, RootItem};
 pub use mark::Mark;
+pub use top_level::TopLevel;
 
 /// A whole document.
 // What takes longest to drop stands last (docs/DECISIONS.md).

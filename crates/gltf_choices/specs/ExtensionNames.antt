@@ -1,4 +1,4 @@
--- The extensions that a document may require, each by its name.
+-- The extensions that a document may require where nobody rules otherwise, each by its name.
 use Rattle.std.specs.Prelude.{ℕ, List, [], ◌∷◌, codes}
 
 abbrev pub enabled_extensions : List (List ℕ)

@@ -5,8 +5,10 @@ ghost use Rattle.gltf_choices.specs.ExtensionNames.{enabled_extensions};
 
 pub mod scene;
 
-/// The names of the extensions that a document may require. Volumes, specular reflections and variants
-/// of materials are read, and yet are none of them, as in the ported crate.
+/// The names of the extensions that a document may require without a report, where a caller gives
+/// validation no rules. Reading doesn't go by it: each of these is read, and so are
+/// `KHR_materials_volume`, `KHR_materials_specular` and `KHR_materials_variants`, which are not
+/// enabled, as in the ported crate.
 pub const ENABLED_EXTENSIONS: &[&str] = &[
     "KHR_lights_punctual",
     "KHR_materials_pbrSpecularGlossiness",
@@ -17,7 +19,8 @@ pub const ENABLED_EXTENSIONS: &[&str] = &[
     "KHR_materials_emissive_strength",
 ];
 
-/// The names of the extensions that can be enabled; all of them are.
+/// The names of the extensions that can be enabled: the same ones, since no feature of this library
+/// leaves any out. The library never goes by this list, which is for callers that ask.
 pub const SUPPORTED_EXTENSIONS: &[&str] = ENABLED_EXTENSIONS;
 
 /// The constants of this module are the names in their order.

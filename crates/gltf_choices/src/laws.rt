@@ -1,6 +1,6 @@
 //! Laws of the choices. Each function does nothing; its contract is the law.
 
-ghost use Rattle.std.specs.Prelude.{◌≡◌};
+ghost use Rattle.std.specs.Prelude.{◌≡◌, ◌↔◌, true};
 ghost use Rattle.gltf_checked.specs.Spelling.{by_number, is_spelled, item_spelled};
 ghost use Rattle.gltf_checked.specs.declared.validation.Checked.TheVariants.{Valid, Invalid};
 ghost use Rattle.gltf_choices.specs.Choices.{component_type_spelling, generic_component_type_spelling, generic_component_types, index_component_type_spelling, index_component_types, accessor_type_spelling, target_spelling, mode_spelling};
@@ -27,6 +27,7 @@ use crate::extensions::scene::khr_lights_punctual::LightType;
 use crate::material::AlphaMode;
 use crate::mesh::Mode;
 use crate::texture::{MagFilter, MinFilter, WrappingMode};
+use std::hash::Hash;
 
 /// Items of a choice are equal where they are spelled alike.
 pub fn items_are_equal_by_spelling()
@@ -54,6 +55,11 @@ pub fn items_are_equal_by_spelling()
         ≡ is_spelled (min_filter_spelling a) (min_filter_spelling b) }
     ensures wrapping_mode { (a b : AWrappingMode) → ⟦<WrappingMode as PartialEq>⟧.eq a b
         ≡ is_spelled (wrapping_mode_spelling a) (wrapping_mode_spelling b) }
+{}
+
+/// Light types are equal exactly where they hash alike.
+pub fn equal_light_types_hash_alike()
+    ensures { (a b : ALightType) → (⟦<LightType as PartialEq>⟧.eq a b ≡ true) ↔ (⟦<LightType as Hash>⟧.hash_input a ≡ ⟦<LightType as Hash>⟧.hash_input b) }
 {}
 
 /// What some numbers are read as, computed from the definitions.

@@ -1,5 +1,5 @@
--- What a refused push hands back.
-use Rattle.std.specs.Prelude.{◌≡◌}
+-- What a refused push hands back, and what its error prints.
+use Rattle.std.specs.Prelude.{◌≡◌, ℕ, List, codes}
 use Rattle.gltf_paths.specs.declared.index.PushError.{PushError}
 use Rattle.gltf_paths.specs.declared.index.PushError.TheVariants.{Full, Memory}
 
@@ -7,3 +7,8 @@ use Rattle.gltf_paths.specs.declared.index.PushError.TheVariants.{Full, Memory}
 abbrev pub IsHandedBack : {X : Type 0} → X → PushError X → Type 0
 IsHandedBack item (Full x) = x ≡ item
 IsHandedBack item (Memory x) = x ≡ item
+
+-- the item isn't printed
+abbrev pub push_error_text : {X : Type 0} → PushError X → List ℕ
+push_error_text (Full x) = codes "List is full"
+push_error_text (Memory x) = codes "Out of memory"

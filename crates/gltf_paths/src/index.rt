@@ -33,8 +33,11 @@ pub type Index<T> = IndexTo<*const T>;
 #[derive_where(Clone, Copy, PartialEq, Eq, PartialOrd, Ord, Hash)]
 pub struct IndexTo<P>(u32, PhantomData<P>);
 
+// SAFETY: An index is a number alone. `PhantomData<P>` holds no value of `P`, and no pointer is ever
+// made, so an index leads to nothing of another thread's.
 unsafe impl<P> Send for IndexTo<P> {}
 
+// SAFETY: As for `Send`: through a shared index only its number is read.
 unsafe impl<P> Sync for IndexTo<P> {}
 
 impl<T> Index<T> {
@@ -83,6 +86,22 @@ pub enum PushError<T> {
     /// There was no memory for one item more.
     Memory(T),
 }
+
+impl<T> Display for PushError<T> {
+    ghost use Rattle.std.specs.Prelude.{Some};
+    ghost use Rattle.gltf_paths.specs.Pushes.{push_error_text};
+
+    ghost output = { λ error. Some (push_error_text error) };
+
+    fn fmt<W: Write>(&self, f: &mut Formatter<W>) -> fmt::Result {
+        f.write_str(match self {
+            PushError::Full(_) => "List is full",
+            PushError::Memory(_) => "Out of memory",
+        })
+    }
+}
+
+impl<T: Debug + Drop> std::error::Error for PushError<T> {}
 
 impl<P> IndexTo<P> {
     ghost use Rattle.gltf_paths.specs.Indexes.{index_number};

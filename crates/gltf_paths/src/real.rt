@@ -15,13 +15,14 @@ pub struct Real {
 }
 
 impl Real {
-    ghost use Rattle.std.specs.Prelude.{IfOk, IfErr, None};
+    ghost use Rattle.std.specs.Prelude.{IfOk, IfErr, None, Some};
     ghost use Rattle.serde_json.specs.Find.{of_integer};
     ghost use Rattle.gltf_paths.specs.Reals.{real_value, real_number};
 
     /// The number that a value is; a value that is none is handed back.
     pub fn from_value(value: Value) -> Result<Real, Value>
         ensures number { IfOk result (λ x. real_value x ≡ value) }
+        ensures is_number { IfOk result (λ x. as_number (view value) ≡ Some (real_number x)) }
         ensures other { IfErr result (λ v. (v ≡ value) × (as_number (view value) ≡ None)) }
     {
         if value.is_number() {
@@ -42,7 +43,8 @@ impl Real {
 
     /// The number held, as a value.
     pub fn as_value(&self) -> &Value
-        ensures { result.now ≡ real_value self.now }
+        ensures held { result.now ≡ real_value self.now }
+        ensures is_number { as_number (view result.now) ≡ Some (real_number self.now) }
     {
         &self.value
     }

@@ -1,5 +1,5 @@
 -- Numbers read and written as the items of a list are those of an array.
-use Rattle.std.proofs.Common.{◌≡◌, ◌≢◌, ℕ, nat_eq, length, List, [], ◌∷◌, map, Option, Some, None, option_map, Result, Ok, Err, refl, sym, ap, ◌∙◌, if◌then◌else◌}
+use Rattle.std.proofs.Common.{◌≡◌, ◌≢◌, ℕ, false, nat_eq, length, List, [], ◌∷◌, map, Option, Some, None, option_map, Result, Ok, Err, refl, sym, ap, ◌∙◌, if◌then◌else◌}
 use Rattle.std.proofs.lemmas.Bool.{eq-eqb, ne_eqb}
 use Rattle.std.proofs.lemmas.List.{length-map}
 use Rattle.std.specs.Option.{ok_or}
@@ -12,6 +12,7 @@ use Rattle.gltf_paths.specs.declared.real.Real.{Real}
 use Rattle.gltf_schema.specs.declared.error.Error.{Error}
 use Rattle.gltf_schema.specs.declared.error.Error.TheVariants as errors
 use Rattle.gltf_schema.specs.Write.{write, write_items, number_items}
+use Rattle.gltf_schema.specs.Invalid.{any_holds_invalid}
 use Rattle.gltf_schema.specs.Outcome.{Reads, Refuses}
 use Rattle.gltf_schema.specs.Maybe.{◌>>=◌}
 use Rattle.gltf_schema.specs.Tree.{Tree, number, numbers, Trees, end, with_tree, trees}
@@ -69,9 +70,14 @@ pub array_refused : (e : Error) (ds : Items) (n : ℕ) → Refuses e (read_items
 array_refused e ds n h = refused_then e _ (all_numbers ds) (rw (numbers_are_items ds) (refused e numbers_of _ h))
 
 -- reals are written as the array's numbers
-pub reals_written : (xs : List Real) → write_items (write Number) (trees (map real_tree xs)) ≡ Some (number_items (map real_number xs))
+reals_written : (xs : List Real) → write_items (write Number) (trees (map real_tree xs)) ≡ Some (number_items (map real_number xs))
 reals_written [] = refl
 reals_written (x ∷ xs) = ap (option_map (item (json.number (real_number x)))) (reals_written xs)
+
+-- no real is invalid
+pub none_invalid : (xs : List Real) → any_holds_invalid (trees (map real_tree xs)) ≡ false
+none_invalid [] = refl
+none_invalid (x ∷ xs) = none_invalid xs
 
 -- an array has as many reals as it has places
 pub array_written : (xs : List Real) (n : ℕ) (ds : Items) → length xs ≡ n → write_items (write Number) (trees (map real_tree xs)) ≡ Some ds

@@ -1,6 +1,6 @@
 -- Attributes that were read are written where each key means something.
 use Rattle.std.proofs.Common.{◌≡◌, ℕ, ◌^◌, List, [], ◌∷◌, Bool, true, false, ◌&&◌, ◌||◌, cond, nat_lt, length, codes, unwrap_or, Option, Some, None, option_map, option_and_then, is_some, bytes_eq, refl, sym, ap, ◌∙◌, subst, Ordering, Less, Equal, Greater}
-use Rattle.std.specs.List.{list_any, list_all}
+use Rattle.std.specs.List.{list_all}
 use Rattle.std.specs.Str.{all_ascii_digits}
 use Rattle.std.specs.Str.Parse.{digits_value, without_leading_plus}
 use Rattle.std.specs.BTreeMap.{insert_entry}
@@ -10,7 +10,7 @@ use Rattle.gltf_checked.specs.Keys.{Key, extras, colors, tex_coords, joints, wei
 use Rattle.gltf_checked.specs.Names.{behind, set_number, set_or, plain_key, key_named}
 use Rattle.gltf_schema.specs.Read.{read_entries, small_number, whole_number}
 use Rattle.gltf_schema.specs.Write.{write_entries, are_in_order, is_less, is_named}
-use Rattle.gltf_schema.specs.Invalid.{is_unknown}
+use Rattle.gltf_schema.specs.Invalid.{is_unknown, any_unknown}
 use Rattle.gltf_schema.proofs.TakingOut.{first_of_both, second_of_both, both, neither}
 use Rattle.gltf_schema.proofs.ReadPlain.{bound}
 use Rattle.gltf_schema.proofs.ReadBack.{inside, allowed}
@@ -140,17 +140,17 @@ entries_read es fs (member n d ms) before h =
 named_from_nameable : (k : Key) → is_nameable k ≡ true → is_unknown k ≡ false → is_named k ≡ true
 named_from_nameable k nameable known = ap (λ b. b || is_named k) (sym known) ∙ nameable
 
-entries_written : (es : List (Key × ℕ)) (ms : Members) → list_all may_be_written es ≡ true → list_any (λ (e : Key × ℕ). is_unknown e.0) es ≡ false → is_some (write_entries es ms) ≡ true
+entries_written : (es : List (Key × ℕ)) (ms : Members) → list_all may_be_written es ≡ true → any_unknown es ≡ false → is_some (write_entries es ms) ≡ true
 entries_written [] ms each known = refl
 entries_written (e ∷ es) ms each known =
     let first = first_of_both (may_be_written e) (list_all may_be_written es) each in
-    let apart = neither (is_unknown e.0) (list_any (λ (e : Key × ℕ). is_unknown e.0) es) known in
+    let apart = neither (is_unknown e.0) (any_unknown es) known in
     let named = named_from_nameable e.0 (first_of_both (is_nameable e.0) _ first) apart.0 in
     let small = second_of_both (is_nameable e.0) _ first in
     rw (named, small) (entries_written es _ (second_of_both (may_be_written e) (list_all may_be_written es) each) apart.1)
 
 -- attributes that were read are in order, and are written where each key is known
-pub attributes_written : (ms : Members) (es : List (Key × ℕ)) → read_entries [] ms ≡ Some es → list_any (λ (e : Key × ℕ). is_unknown e.0) es ≡ false
+pub attributes_written : (ms : Members) (es : List (Key × ℕ)) → read_entries [] ms ≡ Some es → any_unknown es ≡ false
     → (are_in_order es ≡ true) × (is_some (write_entries es no_members) ≡ true)
 attributes_written ms es h known =
     let done = entries_read [] es ms (record { ordered = refl; each = refl }) h in

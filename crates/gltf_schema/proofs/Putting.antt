@@ -3,7 +3,7 @@ use Rattle.std.proofs.lemmas.Bool.{lt-ltb, false≢true}
 use Rattle.std.specs.List.{AllZip}
 use Rattle.std.specs.declared.alloc.Global.{Global}
 use Rattle.serde_json.specs.declared.value.Value.{Value}
-use Rattle.std.proofs.Common.{◌≡◌, ℕ, ◌^◌, Bool, true, false, if◌then◌else◌, String, string_bytes, nat_eq, length, List, [], ◌∷◌, ◌++◌, Option, Some, None, option_map, map, refl, ap, ◌∙◌}
+use Rattle.std.proofs.Common.{◌≡◌, ℕ, zero, suc, drop, ◌^◌, Bool, true, false, if◌then◌else◌, String, string_bytes, nat_eq, length, List, [], ◌∷◌, ◌++◌, Option, Some, None, option_map, map, refl, ap, ◌∙◌}
 use Rattle.serde_json.specs.Data as json
 use Rattle.serde_json.specs.Data.{Data, Items, Members, put}
 use Rattle.serde_json.specs.View.{items_of, view, members_view}
@@ -13,29 +13,35 @@ use Rattle.gltf_schema.specs.declared.error.Error.{Error}
 use Rattle.gltf_schema.specs.declared.error.Error.TheVariants as errors
 use Rattle.gltf_schema.specs.Maybe.{◌>>=◌}
 use Rattle.gltf_schema.specs.Outcome.{Withholds}
+use Rattle.gltf_schema.specs.Invalid.{is_unknown, any_unknown, holds_invalid, any_holds_invalid}
 use Rattle.gltf_schema.specs.Tree.{Tree, list, end, trees}
 use Rattle.gltf_schema.specs.Kind.{required, unless}
 use Rattle.gltf_schema.specs.Write.{write_items, write_member, write_entries, key_name, small_data}
+use Rattle.gltf_schema.proofs.PuttingIn.{or_left, or_right}
+
+-- what is made of something withheld
+pub withheld_through : {A B : Type 0} (e : Error) (w : Option A) (v : Option B) (b c : Bool)
+    → ((w ≡ None) × (b ≡ true) → (v ≡ None) × (c ≡ true)) → Withholds e w b → Withholds e v c
+withheld_through (errors.Memory e) w v b c through h = tt
+withheld_through errors.InvalidItem w v b c through h = through h
+withheld_through errors.Json w v b c through h = h
+withheld_through errors.Schema w v b c through h = h
+withheld_through errors.Read w v b c through h = h
+withheld_through errors.Write w v b c through h = h
+withheld_through errors.TooLong w v b c through h = h
 
 -- a step that is withheld withholds what comes after it
-pub withheld_then : {A B : Type 0} (e : Error) (f : A → Option B) (written : Option A) → Withholds e written → Withholds e (written >>= f)
-withheld_then (errors.Memory e) f written h = tt
-withheld_then errors.InvalidItem f written h = ap (λ o. o >>= f) h
-withheld_then errors.Json f written h = h
-withheld_then errors.Schema f written h = h
-withheld_then errors.Read f written h = h
-withheld_then errors.Write f written h = h
-withheld_then errors.TooLong f written h = h
+pub withheld_then : {A B : Type 0} (e : Error) (f : A → Option B) (written : Option A) (b c : Bool) → (b ≡ true → c ≡ true)
+    → Withholds e written b → Withholds e (written >>= f) c
+withheld_then e f written b c wider h = withheld_through e written (written >>= f) b c (λ g. (ap (λ o. o >>= f) g.0, wider g.1)) h
 
 -- and what is made of it
-pub withheld : {A B : Type 0} (e : Error) (f : A → B) (written : Option A) → Withholds e written → Withholds e (option_map f written)
-withheld (errors.Memory e) f written h = tt
-withheld errors.InvalidItem f written h = ap (option_map f) h
-withheld errors.Json f written h = h
-withheld errors.Schema f written h = h
-withheld errors.Read f written h = h
-withheld errors.Write f written h = h
-withheld errors.TooLong f written h = h
+pub withheld : {A B : Type 0} (e : Error) (f : A → B) (written : Option A) (b : Bool) → Withholds e written b → Withholds e (option_map f written) b
+withheld e f written b h = withheld_through e written (option_map f written) b b (λ g. (ap (option_map f) g.0, g.1)) h
+
+-- what nothing is invalid in is withheld for want of memory alone
+pub withheld_anyway : {A B : Type 0} (e : Error) (v : Option A) (written : Option B) (b : Bool) → Withholds e v false → Withholds e written b
+withheld_anyway e v written b h = withheld_through e v written false b (λ g. absurd (false≢true g.1)) h
 
 -- what is written, behind what was written before
 abbrev pub behind : List Data → Option Items → Option Items
@@ -57,30 +63,22 @@ behind_none (x ∷ ds) = ap (option_map (json.item x)) (behind_none ds)
 pub write_next : (f : Tree → Option Data) (ds : List Data) (d : Data) (t : Tree) (ts : List Tree) → f t ≡ Some d → behind (ds ++ d ∷ []) (write_items f (trees ts)) ≡ behind ds (write_items f (trees (t ∷ ts)))
 write_next f ds d t ts h = behind_push ds d (write_items f (trees ts)) ∙ ap (behind ds) (rw h refl)
 
-pub write_stops : (e : Error) (f : Tree → Option Data) (ds : List Data) (t : Tree) (ts : List Tree) → Withholds e (f t) → Withholds e (behind ds (write_items f (trees (t ∷ ts))))
-write_stops (errors.Memory e) f ds t ts h = tt
-write_stops errors.InvalidItem f ds t ts h = ap (behind ds) (rw h refl) ∙ behind_none ds
-write_stops errors.Json f ds t ts h = h
-write_stops errors.Schema f ds t ts h = h
-write_stops errors.Read f ds t ts h = h
-write_stops errors.Write f ds t ts h = h
-write_stops errors.TooLong f ds t ts h = h
+pub write_stops : (e : Error) (f : Tree → Option Data) (ds : List Data) (t : Tree) (ts : List Tree) (b c : Bool) → (b ≡ true → c ≡ true)
+    → Withholds e (f t) b → Withholds e (behind ds (write_items f (trees (t ∷ ts)))) c
+write_stops e f ds t ts b c wider h =
+    withheld_through e (f t) (behind ds (write_items f (trees (t ∷ ts)))) b c (λ g. (ap (behind ds) (rw (g.0) refl) ∙ behind_none ds, wider g.1)) h
+
+-- what is invalid in an item behind others is invalid in the list
+pub some_behind : {X : Type 0} (f : X → Tree) (i : ℕ) (xs : List X) → any_holds_invalid (trees (map f (drop i xs))) ≡ true → any_holds_invalid (trees (map f xs)) ≡ true
+some_behind f zero xs h = h
+some_behind f (suc i) [] h = h
+some_behind f (suc i) (x ∷ xs) h = or_right (holds_invalid (f x)) _ (some_behind f i xs h)
 
 -- a list with items is not left out
 pub filled : {X : Type 0} (f : X → Tree) (xs : List X) (n : List ℕ) (g : Tree → Option Data) (ms : Members) (r : Option Members) → nat_eq (length xs) 0 ≡ false
     → write_member n required g (list (trees (map f xs))) ms ≡ r → write_member n (unless (list end)) g (list (trees (map f xs))) ms ≡ r
 filled f [] n g ms r some h = absurd cc
 filled f (x ∷ xs) n g ms r some h = h
-
--- what is written anyway is withheld for want of memory alone
-pub withheld_anyway : {A B : Type 0} (e : Error) (x : A) (written : Option B) → Withholds e (Some x) → Withholds e written
-withheld_anyway (errors.Memory e) x written h = tt
-withheld_anyway errors.InvalidItem x written h = absurd cc
-withheld_anyway errors.Json x written h = h
-withheld_anyway errors.Schema x written h = h
-withheld_anyway errors.Read x written h = h
-withheld_anyway errors.Write x written h = h
-withheld_anyway errors.TooLong x written h = h
 
 -- a copy of members says what they say
 pub copied : (es fs : List (String Global × Value)) → AllZip (λ (p q : String Global × Value). (string_bytes q.0 ≡ string_bytes p.0) × (view q.1 ≡ view p.1)) es fs → members_view fs ≡ members_view es
@@ -95,15 +93,9 @@ in_order_written true written d is h = h
 in_order_written false written d is h = absurd (false≢true is)
 
 -- and are withheld as they are by themselves
-pub in_order_withheld : (e : Error) (in_order : Bool) (written : Option Data) → Withholds e written → Withholds e (if in_order then written else None)
-in_order_withheld e true written h = h
-in_order_withheld (errors.Memory e) false written h = tt
-in_order_withheld errors.InvalidItem false written h = refl
-in_order_withheld errors.Json false written h = h
-in_order_withheld errors.Schema false written h = h
-in_order_withheld errors.Read false written h = h
-in_order_withheld errors.Write false written h = h
-in_order_withheld errors.TooLong false written h = h
+pub in_order_withheld : (e : Error) (in_order : Bool) (written : Option Data) (b : Bool) → Withholds e written b → Withholds e (if in_order then written else None) b
+in_order_withheld e true written b h = h
+in_order_withheld e false written b h = withheld_through e written None b b (λ g. (refl, g.1)) h
 
 -- what a semantic means has a name
 pub named : (k : Key) → IsNamed k → key_name k ≡ Some (key_text k)
@@ -123,5 +115,6 @@ pub entry_written : (e : Key × ℕ) (es : List (Key × ℕ)) (ms : Members) (n 
 entry_written e es ms n d name value = rw (name, value) refl
 
 -- an attribute whose key is invalid is not written
-pub key_withheld : (error : Error) (e : Key × ℕ) (es : List (Key × ℕ)) (ms : Members) → Withholds error (key_name e.0) → Withholds error (write_entries (e ∷ es) ms)
-key_withheld error e es ms h = withheld_then error _ (key_name e.0) h
+pub key_withheld : (error : Error) (e : Key × ℕ) (es : List (Key × ℕ)) (ms : Members) (c : Bool) → (any_unknown (e ∷ es) ≡ true → c ≡ true)
+    → Withholds error (key_name e.0) (is_unknown e.0) → Withholds error (write_entries (e ∷ es) ms) c
+key_withheld error e es ms c wider h = withheld_then error _ (key_name e.0) (is_unknown e.0) c (λ g. wider (or_left (is_unknown e.0) _ g)) h

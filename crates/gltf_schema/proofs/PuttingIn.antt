@@ -28,7 +28,7 @@ other_name q n apart same = false≢true (sym apart ∙ (bytes_eq-Decides q n).1
 pub same_name : (q n : List ℕ) → slice_cmp nat_cmp q n ≡ Equal → q ≡ n
 same_name q n is = (bytes_eq-Decides q n).0 (sym (is_eq-slice_cmp q n) ∙ ap is_eq is)
 
-or_left : (a b : Bool) → a ≡ true → (a || b) ≡ true
+pub or_left : (a b : Bool) → a ≡ true → (a || b) ≡ true
 or_left true b h = refl
 or_left false b h = absurd (false≢true h)
 

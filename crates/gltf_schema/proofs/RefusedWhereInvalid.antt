@@ -13,7 +13,7 @@ use Rattle.gltf_schema.specs.Tree.{Tree, Trees, end, with_tree, is_absent}
 use Rattle.gltf_schema.specs.Kind.{Mark, required, optional, always, unless, sometimes, or_null, Kind, IndexInto, SourceImage, ChannelSampler, U32, U64, Stride, Number, Numbers, Text, Truth, Any, Choice, Attributes, ListOf, Object, Rows, no_rows, row}
 use Rattle.gltf_schema.specs.Read.{read, read_rows, read_items, read_member, read_entries, all_numbers, spelling_in, choice_among, small_number, whole_number, kept}
 use Rattle.gltf_schema.specs.Write.{write, write_rows, write_items, write_member, write_entries, written, leaves_out, is_default, is_named, key_name, small_data, are_in_order}
-use Rattle.gltf_schema.specs.Invalid.{is_unknown, holds_invalid, any_holds_invalid, has_written_default, writes_defaults, write_defaults}
+use Rattle.gltf_schema.specs.Invalid.{is_unknown, any_unknown, holds_invalid, any_holds_invalid, has_written_default, writes_defaults, write_defaults}
 use Rattle.gltf_schema.proofs.TakingOut.{first_of_both, second_of_both, neither}
 use Rattle.gltf_schema.proofs.PuttingIn.{or_right}
 use Rattle.gltf_schema.proofs.ReadPlain.{mapped, bound}
@@ -29,7 +29,7 @@ named_known : (k : Key) → is_named k ≡ true → is_unknown k ≡ false
 named_known unknown h = absurd (false≢true h)
 named_known _ h = refl
 
-entries_known : (es : List (Key × ℕ)) (old new : Members) → write_entries es old ≡ Some new → list_any (λ (e : Key × ℕ). is_unknown e.0) es ≡ false
+entries_known : (es : List (Key × ℕ)) (old new : Members) → write_entries es old ≡ Some new → any_unknown es ≡ false
 entries_known [] old new h = refl
 entries_known (e ∷ es) old new h =
     let name = bound (key_name e.0) (λ n. small_data e.1 >>= λ d. write_entries es (put n d old)) new h in
@@ -74,7 +74,7 @@ member_valid false n mark write t old new each is h =
 
 mutual
   -- whatever tree it is
-  written_valid : (kind : Kind) (t : Tree) (d : Data) → write kind t ≡ Some d → holds_invalid t ≡ false
+  pub written_valid : (kind : Kind) (t : Tree) (d : Data) → write kind t ≡ Some d → holds_invalid t ≡ false
   written_valid (Attributes named) (tree.attributes es) d h =
       let w = allowed (are_in_order es) _ d h in
       let ms = mapped json_object (write_entries es no_members) d w.1 in

@@ -1,5 +1,5 @@
 -- Rows written one after another, by a state that goes on or stays failed.
-use Rattle.std.proofs.Common.{◌≡◌, ℕ, List, String, Option, Some, option_map, Result, Ok, Err, refl, sym, ap, ◌∙◌, subst}
+use Rattle.std.proofs.Common.{◌≡◌, ℕ, Bool, List, String, Option, Some, option_map, Result, Ok, Err, refl, sym, ap, ◌∙◌, subst}
 use Rattle.std.specs.BTreeMap.{BTreeMap}
 use Rattle.std.specs.declared.alloc.Global.{Global}
 use Rattle.serde_json.specs.Data.{object as json_object, Members}
@@ -14,10 +14,12 @@ use Rattle.gltf_schema.specs.Tree.{Tree, whole, index, Trees, end, with_tree}
 use Rattle.gltf_paths.specs.Lists.{images}
 use Rattle.gltf_schema.specs.Kind.{Mark, required, unless, Kind, IndexInto, SourceImage, ChannelSampler, U32, Rows, no_rows, row}
 use Rattle.gltf_schema.specs.Write.{write_rows}
-use Rattle.gltf_schema.specs.Put.{put_member, put_rows}
+use Rattle.gltf_schema.specs.Invalid.{holds_invalid, any_holds_invalid}
+use Rattle.gltf_schema.specs.Put.{put_member, put_rows, some_invalid}
 use Rattle.gltf_schema.specs.Readings.{members_or_error}
 use Rattle.gltf_schema.specs.Writings.{BeginsWith, MemberOnto, RowsOnto, WritesMember, WritesRows}
-use Rattle.gltf_schema.proofs.Putting.{withheld_then, withheld_anyway}
+use Rattle.gltf_schema.proofs.Putting.{withheld_through, withheld_then, withheld_anyway}
+use Rattle.gltf_schema.proofs.PuttingIn.{or_left, or_right}
 
 none_put : (ms : Members) → put_rows no_rows end ms ≡ Some ms
 unfolding put_rows
@@ -29,9 +31,21 @@ unfolding put_rows put_member
 row_put n mark kind rows t ts ms ms' h = ap (λ o. o >>= write_rows rows ts) h
 
 row_withheld : (e : Error) (n : List ℕ) (mark : Mark) (kind : Kind) (rows : Rows) (t : Tree) (ts : Trees) (ms : Members)
-    → Withholds e (put_member n mark kind t ms) → Withholds e (put_rows (row n mark kind rows) (with_tree t ts) ms)
-unfolding put_rows put_member
-row_withheld e n mark kind rows t ts ms h = withheld_then e (write_rows rows ts) _ h
+    → Withholds e (put_member n mark kind t ms) (holds_invalid t) → Withholds e (put_rows (row n mark kind rows) (with_tree t ts) ms) (some_invalid (with_tree t ts))
+unfolding put_rows put_member some_invalid
+row_withheld e n mark kind rows t ts ms h = withheld_then e (write_rows rows ts) _ (holds_invalid t) _ (or_left (holds_invalid t) (any_holds_invalid ts)) h
+
+later_withheld : (e : Error) (n : List ℕ) (mark : Mark) (kind : Kind) (rows : Rows) (t : Tree) (ts : Trees) (ms ms' : Members) → put_member n mark kind t ms ≡ Some ms'
+    → Withholds e (put_rows rows ts ms') (some_invalid ts) → Withholds e (put_rows (row n mark kind rows) (with_tree t ts) ms) (some_invalid (with_tree t ts))
+unfolding some_invalid
+later_withheld e n mark kind rows t ts ms ms' put h =
+    withheld_through e (put_rows rows ts ms') (put_rows (row n mark kind rows) (with_tree t ts) ms) (any_holds_invalid ts) _
+    (λ g. (row_put n mark kind rows t ts ms ms' put ∙ g.0, or_right (holds_invalid t) _ g.1)) h
+
+later_written : (after : Result Members Error) (n : List ℕ) (mark : Mark) (kind : Kind) (rows : Rows) (t : Tree) (ts : Trees) (ms ms' : Members) → put_member n mark kind t ms ≡ Some ms'
+    → Writes (λ m. m) after (put_rows rows ts ms') (some_invalid ts) → Writes (λ m. m) after (put_rows (row n mark kind rows) (with_tree t ts) ms) (some_invalid (with_tree t ts))
+later_written (Ok rest) n mark kind rows t ts ms ms' put h = row_put n mark kind rows t ts ms ms' put ∙ h
+later_written (Err e) n mark kind rows t ts ms ms' put h = later_withheld e n mark kind rows t ts ms ms' put h
 
 none_onto : (s : Result Members Error) → RowsOnto s no_rows end s
 none_onto (Ok ms) = none_put ms
@@ -43,9 +57,9 @@ write_none {s} = record { is = none_onto s }
 
 both_onto : (before mid after : Result Members Error) (n : List ℕ) (mark : Mark) (kind : Kind) (rows : Rows) (t : Tree) (ts : Trees)
     → MemberOnto before n mark kind t mid → RowsOnto mid rows ts after → RowsOnto before (row n mark kind rows) (with_tree t ts) after
-both_onto (Ok ms) (Ok ms') after n mark kind rows t ts h k = subst (Writes (λ m. m) after) (sym (row_put n mark kind rows t ts ms ms' h)) k
+both_onto (Ok ms) (Ok ms') after n mark kind rows t ts h k = later_written after n mark kind rows t ts ms ms' h k
 both_onto (Ok ms) (Err e) after n mark kind rows t ts h k =
-    subst (λ r. Writes (λ m. m) r (put_rows (row n mark kind rows) (with_tree t ts) ms)) (sym k) (row_withheld e n mark kind rows t ts ms h)
+    subst (λ r. Writes (λ m. m) r (put_rows (row n mark kind rows) (with_tree t ts) ms) (some_invalid (with_tree t ts))) (sym k) (row_withheld e n mark kind rows t ts ms h)
 both_onto (Err e) mid after n mark kind rows t ts h k = subst (λ (r : Result Members Error). RowsOnto r rows ts after) h k
 
 -- one row, and those after it
@@ -55,20 +69,20 @@ write_row {before} {mid} {after} {n} {mark} {kind} {rows} {t} {ts} h k =
     record { is = both_onto before mid after n mark kind rows t ts h.is k.is }
 
 rows_written : (s s' : Result Members Error) (rows : Rows) (ts : Trees) (others : Members)
-    → BeginsWith others s → RowsOnto s rows ts s' → Writes (λ m. m) s' (put_rows rows ts others)
-rows_written (Ok ms) s' rows ts others first h = let same : ms ≡ others = cc in subst (λ (m : Members). Writes (λ x. x) s' (put_rows rows ts m)) same h
-rows_written (Err e) s' rows ts others first h = subst (λ (r : Result Members Error). Writes (λ x. x) r (put_rows rows ts others)) (sym h) (withheld_anyway e others _ first)
+    → BeginsWith others s → RowsOnto s rows ts s' → Writes (λ m. m) s' (put_rows rows ts others) (some_invalid ts)
+rows_written (Ok ms) s' rows ts others first h = let same : ms ≡ others = cc in subst (λ (m : Members). Writes (λ x. x) s' (put_rows rows ts m) (some_invalid ts)) same h
+rows_written (Err e) s' rows ts others first h = subst (λ (r : Result Members Error). Writes (λ x. x) r (put_rows rows ts others) (some_invalid ts)) (sym h) (withheld_anyway e (Some others) _ _ first)
 
-members_written : (r : Result (BTreeMap (String Global) Value) Error) (written : Option Members)
-    → Writes (λ m. m) (members_or_error r) written → Writes (λ (m : BTreeMap (String Global) Value). members_view m.entries) r written
-members_written (Ok m) written h = h
-members_written (Err e) written h = h
+members_written : (r : Result (BTreeMap (String Global) Value) Error) (written : Option Members) (b : Bool)
+    → Writes (λ m. m) (members_or_error r) written b → Writes (λ (m : BTreeMap (String Global) Value). members_view m.entries) r written b
+members_written (Ok m) written b h = h
+members_written (Err e) written b h = h
 
 -- each row was written onto the others
 pub all_written : (others : Members) (r : Result (BTreeMap (String Global) Value) Error) {s s' : Result Members Error} {rows : Rows} {ts : Trees}
-    → BeginsWith others s → WritesRows s rows ts s' → members_or_error r ≡ s' → Writes (λ (m : BTreeMap (String Global) Value). members_view m.entries) r (put_rows rows ts others)
+    → BeginsWith others s → WritesRows s rows ts s' → members_or_error r ≡ s' → Writes (λ (m : BTreeMap (String Global) Value). members_view m.entries) r (put_rows rows ts others) (some_invalid ts)
 all_written others r {s} {s'} {rows} {ts} first h ended =
-    members_written r _ (subst (λ (x : Result Members Error). Writes (λ m. m) x (put_rows rows ts others)) (sym ended) (rows_written s s' rows ts others first h.is))
+    members_written r _ _ (subst (λ (x : Result Members Error). Writes (λ m. m) x (put_rows rows ts others) (some_invalid ts)) (sym ended) (rows_written s s' rows ts others first h.is))
 
 -- members are an object's value
 pub object_written : (members : BTreeMap (String Global) Value) (written : Option Members)

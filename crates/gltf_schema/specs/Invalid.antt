@@ -1,5 +1,5 @@
 -- Trees in which something is invalid, and kinds whose defaults are written.
-use Rattle.std.specs.Prelude.{Bool, true, false, ◌&&◌, ◌||◌, is_some}
+use Rattle.std.specs.Prelude.{ℕ, List, Bool, true, false, ◌&&◌, ◌||◌, is_some}
 use Rattle.std.specs.List.{list_any}
 use Rattle.gltf_checked.specs.Keys.{Key, unknown}
 use Rattle.gltf_schema.specs.Tree.{Tree, invalid, list, attributes, object, Trees, end, with_tree}
@@ -11,12 +11,16 @@ abbrev pub is_unknown : Key → Bool
 is_unknown unknown = true
 is_unknown _ = false
 
+-- one of the keys means nothing
+abbrev pub any_unknown : List (Key × ℕ) → Bool
+any_unknown es = list_any (λ e. is_unknown e.0) es
+
 abbrev mutual
   -- an item or a key in the tree is invalid
   pub holds_invalid : Tree → Bool
   holds_invalid invalid = true
   holds_invalid (list ts) = any_holds_invalid ts
-  holds_invalid (attributes es) = list_any (λ e. is_unknown e.0) es
+  holds_invalid (attributes es) = any_unknown es
   holds_invalid (object ts others) = any_holds_invalid ts
   holds_invalid _ = false
 

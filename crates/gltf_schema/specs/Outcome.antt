@@ -1,5 +1,5 @@
 -- What a call that reads or writes answers, want of memory aside.
-use Rattle.std.specs.Prelude.{◌≡◌, Option, Some, None, Result, Ok, Err}
+use Rattle.std.specs.Prelude.{◌≡◌, Bool, true, Option, Some, None, Result, Ok, Err}
 use Rattle.gltf_schema.specs.declared.error.Error.{Error}
 use Rattle.gltf_schema.specs.declared.error.Error.TheVariants as errors
 
@@ -14,13 +14,13 @@ abbrev pub Reads : {X Y : Type 0} → (X → Y) → Result X Error → Option Y 
 Reads view (Ok x) read = read ≡ Some (view x)
 Reads view (Err e) read = Refuses e read
 
--- only what is not written is refused, and as an invalid item
-abbrev pub Withholds : {Y : Type 0} → Error → Option Y → Type 0
-Withholds (errors.Memory e) written = Unit {0}
-Withholds errors.InvalidItem written = written ≡ None
-Withholds _ written = ⊥
+-- only what is not written since something in it is invalid is refused, and as an invalid item
+abbrev pub Withholds : {Y : Type 0} → Error → Option Y → Bool → Type 0
+Withholds (errors.Memory e) written is_invalid = Unit {0}
+Withholds errors.InvalidItem written is_invalid = (written ≡ None) × (is_invalid ≡ true)
+Withholds _ written is_invalid = ⊥
 
--- the value, seen by view, is what is written
-abbrev pub Writes : {X Y : Type 0} → (X → Y) → Result X Error → Option Y → Type 0
-Writes view (Ok x) written = written ≡ Some (view x)
-Writes view (Err e) written = Withholds e written
+-- the value, seen by view, is what is written; or something is invalid
+abbrev pub Writes : {X Y : Type 0} → (X → Y) → Result X Error → Option Y → Bool → Type 0
+Writes view (Ok x) written is_invalid = written ≡ Some (view x)
+Writes view (Err e) written is_invalid = Withholds e written is_invalid

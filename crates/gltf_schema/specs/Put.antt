@@ -1,9 +1,10 @@
 -- Rows written one after another, each putting its member in.
-use Rattle.std.specs.Prelude.{ℕ, List, Option}
+use Rattle.std.specs.Prelude.{ℕ, List, Bool, Option}
 use Rattle.serde_json.specs.Data.{Members}
 use Rattle.gltf_schema.specs.Tree.{Tree, Trees}
 use Rattle.gltf_schema.specs.Kind.{Mark, Kind, Rows}
 use Rattle.gltf_schema.specs.Write.{write, write_member, write_rows}
+use Rattle.gltf_schema.specs.Invalid.{any_holds_invalid}
 
 -- the members with a row's
 unfoldable pub put_member : List ℕ → Mark → Kind → Tree → Members → Option Members
@@ -12,3 +13,7 @@ put_member n mark kind t ms = write_member n mark (write kind) t ms
 -- the members with each row's
 unfoldable pub put_rows : Rows → Trees → Members → Option Members
 put_rows rows ts ms = write_rows rows ts ms
+
+-- an item or a key in one of the trees is invalid
+unfoldable pub some_invalid : Trees → Bool
+some_invalid ts = any_holds_invalid ts

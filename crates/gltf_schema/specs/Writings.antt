@@ -1,10 +1,11 @@
 -- Rows written onto members that are under way, or that failed.
-use Rattle.std.specs.Prelude.{◌≡◌, ℕ, List, Some, Result, Ok, Err}
+use Rattle.std.specs.Prelude.{◌≡◌, ℕ, List, false, Some, Result, Ok, Err}
 use Rattle.serde_json.specs.Data.{Members}
 use Rattle.gltf_schema.specs.declared.error.Error.{Error}
 use Rattle.gltf_schema.specs.declared.writing.Writing.{Writing}
 use Rattle.gltf_schema.specs.Outcome.{Writes}
-use Rattle.gltf_schema.specs.Put.{put_member, put_rows}
+use Rattle.gltf_schema.specs.Invalid.{holds_invalid}
+use Rattle.gltf_schema.specs.Put.{put_member, put_rows, some_invalid}
 use Rattle.gltf_schema.specs.Readings.{members_or_error}
 use Rattle.gltf_schema.specs.Tree.{Tree, Trees}
 use Rattle.gltf_schema.specs.Kind.{Mark, Kind, Rows}
@@ -15,15 +16,15 @@ writing_state w = members_or_error w.state
 
 -- the members that were there at first
 abbrev pub BeginsWith : Members → Result Members Error → Type 0
-BeginsWith ms state = Writes (λ m. m) state (Some ms)
+BeginsWith ms state = Writes (λ m. m) state (Some ms) false
 
 -- the members with a row's; what failed before stays
 abbrev pub MemberOnto : Result Members Error → List ℕ → Mark → Kind → Tree → Result Members Error → Type 0
-MemberOnto (Ok ms) n mark kind t after = Writes (λ m. m) after (put_member n mark kind t ms)
+MemberOnto (Ok ms) n mark kind t after = Writes (λ m. m) after (put_member n mark kind t ms) (holds_invalid t)
 MemberOnto (Err e) n mark kind t after = after ≡ Err e
 
 abbrev pub RowsOnto : Result Members Error → Rows → Trees → Result Members Error → Type 0
-RowsOnto (Ok ms) rows ts after = Writes (λ m. m) after (put_rows rows ts ms)
+RowsOnto (Ok ms) rows ts after = Writes (λ m. m) after (put_rows rows ts ms) (some_invalid ts)
 RowsOnto (Err e) rows ts after = after ≡ Err e
 
 -- one row was written

@@ -7,6 +7,7 @@ ghost use Rattle.gltf_checked.specs.Semantics.{checked_key};
 ghost use Rattle.gltf_schema.specs.Kind.{Attributes};
 ghost use Rattle.gltf_schema.specs.Read.{read_entries};
 ghost use Rattle.gltf_schema.specs.Fields.{entry_of, attributes_tree};
+ghost use Rattle.gltf_schema.specs.Invalid.{is_unknown, any_unknown};
 ghost use Rattle.gltf_schema.specs.Write.{key_name, are_in_order, write_entries};
 ghost use Rattle.gltf_schema.specs.Outcome.{Reads, Writes};
 
@@ -64,7 +65,7 @@ fn encode_entries<P: Names>(
     attributes: &BTreeMap<Checked<Semantic>, IndexTo<P>>,
 ) -> Result<Map<String, Value>, Error>
     ensures written { Writes (λ m. members_view m.entries) result
-        (write_entries (map entry_of attributes.now.entries) no_members) }
+        (write_entries (map entry_of attributes.now.entries) no_members) (any_unknown (map entry_of attributes.now.entries)) }
     ensures in_order { OnOk result (are_in_order (map entry_of attributes.now.entries) ≡ true) }
 {
     let mut written = Map::new(alloc);
@@ -77,7 +78,7 @@ fn encode_entries<P: Names>(
 
 /// The name under which a key is written.
 fn name_of(alloc: Global, key: &Checked<Semantic>) -> Result<String, Error>
-    ensures { Writes string_bytes result (key_name (checked_key key.now)) }
+    ensures { Writes string_bytes result (key_name (checked_key key.now)) (is_unknown (checked_key key.now)) }
 {
     match key {
         Checked::Valid(semantic) => Ok(semantic.to_string(alloc)?),

@@ -1,7 +1,7 @@
 //! Laws of the definitions that the contracts of this crate speak by. Each is the contract of a
 //! function that does nothing.
 
-ghost use Rattle.std.specs.Prelude.{◌≡◌, ◌↔◌, true, Some, None};
+ghost use Rattle.std.specs.Prelude.{◌≡◌, ◌↔◌, true, false, Some, None};
 ghost use Rattle.serde_json.specs.Data.{Data};
 ghost use Rattle.gltf_schema.specs.Tree.{Tree};
 ghost use Rattle.gltf_schema.specs.Kind.{Kind};
@@ -13,6 +13,11 @@ ghost use Rattle.gltf_schema.specs.Write.{write};
 /// What a plain tree is written as is read back as that tree.
 pub fn written_trees_are_read_back()
     ensures { (kind : Kind) (t : Tree) (d : Data) → is_sound kind ≡ true → is_plain kind t ≡ true → write kind t ≡ Some d → read kind d ≡ Some t }
+{}
+
+/// In what is written no item and no key is invalid.
+pub fn written_trees_hold_nothing_invalid()
+    ensures { (kind : Kind) (t : Tree) (d : Data) → write kind t ≡ Some d → holds_invalid t ≡ false }
 {}
 
 /// What was read, by a kind whose defaults are written, is refused for writing exactly where an item

@@ -9,6 +9,7 @@ ghost use Rattle.gltf_schema.specs.Kind.{IndexInto, U32, U64, Number, Numbers, T
 ghost use Rattle.gltf_schema.specs.Read.{read, read_items, small_number as number_of_32_bits};
 ghost use Rattle.gltf_schema.specs.Fields.{reals_tree};
 ghost use Rattle.gltf_schema.specs.Write.{write, write_items};
+ghost use Rattle.gltf_schema.specs.Invalid.{any_holds_invalid};
 ghost use Rattle.gltf_schema.specs.Outcome.{Reads, Writes};
 ghost use Rattle.gltf_schema.specs.Leaves.{checked_tree, choice_of, checked_tree-present};
 
@@ -243,7 +244,7 @@ fn decode_items<T: Schema>(alloc: Global, items: Vec<Value>) -> Result<Vec<T>, E
 /// Each item, in order.
 fn encode_items<T: Schema>(alloc: Global, items: &[T]) -> Result<Vec<Value>, Error>
     ensures { Writes (λ v. items_view v.items) result
-        (write_items (write T.kind) (trees (map T.tree items.now))) }
+        (write_items (write T.kind) (trees (map T.tree items.now))) (any_holds_invalid (trees (map T.tree items.now))) }
 {
     let mut written = Vec::with_capacity(alloc, items.len())?;
     for item in items {

@@ -4,6 +4,7 @@ ghost use Rattle.std.specs.Prelude.{◌≡◌, map};
 ghost use Rattle.serde_json.specs.View.{members_view};
 ghost use Rattle.gltf_schema.specs.Tree.{Tree, tree_or_absent, trees, list as list_tree, end};
 ghost use Rattle.gltf_schema.specs.Kind.{required as is_required, optional as is_optional, always as is_always, unless as is_unless, sometimes as is_sometimes, or_null as is_or_null, ListOf};
+ghost use Rattle.gltf_schema.specs.Invalid.{holds_invalid};
 ghost use Rattle.gltf_schema.specs.Put.{put_member};
 ghost use Rattle.gltf_schema.specs.Outcome.{Writes};
 
@@ -22,9 +23,9 @@ pub(crate) fn put_always<T: Schema>(
     value: &T,
 ) -> Result<(), Error>
     ensures required { Writes (λ _. members_view members.new.entries) result
-        (put_member name.now is_required T.kind (T.tree value.now) (members_view members.old.entries)) }
+        (put_member name.now is_required T.kind (T.tree value.now) (members_view members.old.entries)) (holds_invalid (T.tree value.now)) }
     ensures always { (default : Tree) → Writes (λ _. members_view members.new.entries) result
-        (put_member name.now (is_always default) T.kind (T.tree value.now) (members_view members.old.entries)) }
+        (put_member name.now (is_always default) T.kind (T.tree value.now) (members_view members.old.entries)) (holds_invalid (T.tree value.now)) }
 {
     let written = value.encode(alloc)?;
     serde_json::put(members, alloc, name, written)?;
@@ -40,9 +41,11 @@ pub(crate) fn put_optional<T: Schema>(
     value: &Option<T>,
 ) -> Result<(), Error>
     ensures optional { Writes (λ _. members_view members.new.entries) result
-        (put_member name.now is_optional T.kind (tree_or_absent T.tree value.now) (members_view members.old.entries)) }
+        (put_member name.now is_optional T.kind (tree_or_absent T.tree value.now) (members_view members.old.entries))
+        (holds_invalid (tree_or_absent T.tree value.now)) }
     ensures sometimes { Writes (λ _. members_view members.new.entries) result
-        (put_member name.now is_sometimes T.kind (tree_or_absent T.tree value.now) (members_view members.old.entries)) }
+        (put_member name.now is_sometimes T.kind (tree_or_absent T.tree value.now) (members_view members.old.entries))
+        (holds_invalid (tree_or_absent T.tree value.now)) }
 {
     match value {
         Some(value) => {
@@ -62,7 +65,8 @@ pub(crate) fn put_or_null<T: Schema>(
     value: &Option<T>,
 ) -> Result<(), Error>
     ensures { Writes (λ _. members_view members.new.entries) result
-        (put_member name.now is_or_null T.kind (tree_or_absent T.tree value.now) (members_view members.old.entries)) }
+        (put_member name.now is_or_null T.kind (tree_or_absent T.tree value.now) (members_view members.old.entries))
+        (holds_invalid (tree_or_absent T.tree value.now)) }
 {
     let written = match value {
         Some(value) => value.encode(alloc)?,
@@ -82,7 +86,7 @@ pub(crate) fn put_unless<T: Omittable>(
     default: T,
 ) -> Result<(), Error>
     ensures { Writes (λ _. members_view members.new.entries) result
-        (put_member name.now (is_unless (T.tree default)) T.kind (T.tree value.now) (members_view members.old.entries)) }
+        (put_member name.now (is_unless (T.tree default)) T.kind (T.tree value.now) (members_view members.old.entries)) (holds_invalid (T.tree value.now)) }
 {
     if value.is_default(&default) {
         return Ok(());
@@ -101,7 +105,8 @@ pub(crate) fn put_list<T: Schema>(
 ) -> Result<(), Error>
     ensures { Writes (λ _. members_view members.new.entries) result
         (put_member name.now (is_unless (list_tree end)) (ListOf T.kind)
-        (list_tree (trees (map T.tree value.now.items))) (members_view members.old.entries)) }
+        (list_tree (trees (map T.tree value.now.items))) (members_view members.old.entries))
+        (holds_invalid (list_tree (trees (map T.tree value.now.items)))) }
 {
     if value.is_empty() {
         return Ok(());

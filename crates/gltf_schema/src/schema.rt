@@ -1,13 +1,14 @@
 //! What is read and written by the table.
 
-ghost use Rattle.std.specs.Prelude.{◌≡◌, Bool, true, false, IsTrue, IfOk, Some, Err, refl};
+ghost use Rattle.std.specs.Prelude.{◌≡◌, Bool, true, false, IsTrue, IfOk, OnOk, Some, Err, refl};
 ghost use Rattle.serde_json.specs.Data.{Members};
 ghost use Rattle.serde_json.specs.View.{view, members_view};
 ghost use Rattle.gltf_schema.specs.Tree.{Tree, Trees, object, is_absent};
 ghost use Rattle.gltf_schema.specs.Kind.{Kind, ObjectName, Rows, Object as object_kind};
 ghost use Rattle.gltf_schema.specs.Read.{read};
 ghost use Rattle.gltf_schema.specs.Write.{write};
-ghost use Rattle.gltf_schema.specs.Put.{put_rows};
+ghost use Rattle.gltf_schema.specs.Invalid.{holds_invalid};
+ghost use Rattle.gltf_schema.specs.Put.{put_rows, some_invalid};
 ghost use Rattle.gltf_schema.specs.Plain.{is_plain, are_sound};
 ghost use Rattle.gltf_schema.specs.Taken.{take_all};
 ghost use Rattle.gltf_schema.specs.Leaves.{wants_object};
@@ -34,7 +35,7 @@ pub trait Schema: Drop {
     /// choice or the key of an attribute is invalid, here or below; `Memory` may come in place of
     /// either where a growth was refused.
     fn encode(&self, alloc: Global) -> Result<Value, Error>
-        ensures { Writes view result (write kind (tree self.now)) };
+        ensures { Writes view result (write kind (tree self.now)) (holds_invalid (tree self.now)) };
 
     // What is there is not seen as missing.
     ghost present: { (x : Self) → is_absent (tree x) ≡ false };
@@ -62,7 +63,7 @@ pub trait Object: Drop {
     /// a row's member holds an invalid item, `Memory` where a growth was refused.
     fn encode_members(&self, alloc: Global) -> Result<Map<String, Value>, Error>
         ensures { Writes (λ m. members_view m.entries) result
-            (put_rows rows (members self.now) (unknown self.now)) };
+            (put_rows rows (members self.now) (unknown self.now)) (some_invalid (members self.now)) };
 
     // No two rows have one name, here and below, and each default is plain.
     ghost sound: { are_sound rows ≡ true };
@@ -88,7 +89,9 @@ impl<T: Object> Schema for T {
     }
 
     fn encode(&self, alloc: Global) -> Result<Value, Error>
-        ensures by_table { Writes view result (write (object_kind T.named T.rows T.keeps) (object (T.members self.now) (T.unknown self.now))) }
+        ensures by_table { Writes view result (write (object_kind T.named T.rows T.keeps) (object (T.members self.now) (T.unknown self.now)))
+            (holds_invalid (object (T.members self.now) (T.unknown self.now))) }
+        ensures valid { OnOk result (holds_invalid (object (T.members self.now) (T.unknown self.now)) ≡ false) }
         // What a plain value is written as is read back as that value.
         ensures reads_back { IfOk result (λ v. is_plain (object_kind T.named T.rows T.keeps) (object (T.members self.now) (T.unknown self.now)) ≡ true
             → read (object_kind T.named T.rows T.keeps) (view v) ≡ Some (object (T.members self.now) (T.unknown self.now))) }

@@ -31,7 +31,7 @@ pub trait Unlisted: Drop {
         ensures { option_map_or (λ m. members_view m.now.entries) result no_members ≡ kept self.now };
 }
 
-#[tactic(auto, unfolding(crate::specs::Taken::take_all, crate::specs::Taken::take_rows, crate::specs::Put::put_rows))]
+#[tactic(auto, unfolding(crate::specs::Taken::take_all, crate::specs::Taken::take_rows, crate::specs::Put::put_rows, crate::specs::Put::some_invalid))]
 impl<T: Unlisted> Object for T {
     ghost named = { extensions_of T.extends };
 

@@ -1,6 +1,6 @@
 //! An object's members as they are written, row by row.
 
-ghost use Rattle.std.specs.Prelude.{◌≡◌, Some, map};
+ghost use Rattle.std.specs.Prelude.{◌≡◌, false, Some, map};
 ghost use Rattle.serde_json.specs.Data.{no_members};
 ghost use Rattle.serde_json.specs.View.{members_view};
 ghost use Rattle.gltf_schema.specs.Tree.{Tree, tree_or_absent, trees, list as list_tree, end};
@@ -115,7 +115,7 @@ impl Writing {
 
 /// A copy of the members.
 pub(crate) fn copied(members: &Map<String, Value>) -> Result<Map<String, Value>, Error>
-    ensures { Writes (λ m. members_view m.entries) result (Some (members_view members.now.entries)) }
+    ensures { Writes (λ m. members_view m.entries) result (Some (members_view members.now.entries)) false }
 {
     Ok(members.clone()?)
 }

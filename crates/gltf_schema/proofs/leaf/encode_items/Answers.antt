@@ -4,8 +4,10 @@ use Rattle.std.proofs.lemmas.List.{map_push, nil_from_length, length-drop}
 use Rattle.serde_json.specs.View.{view}
 use Rattle.gltf_schema.specs.Tree.{trees}
 use Rattle.gltf_schema.specs.Write.{write, write_items}
+use Rattle.gltf_schema.specs.Invalid.{holds_invalid, any_holds_invalid}
 use Rattle.gltf_schema.specs.Outcome.{Withholds}
-use Rattle.gltf_schema.proofs.Putting.{behind, write_next, write_stops, behind_end}
+use Rattle.gltf_schema.proofs.Putting.{behind, write_next, write_stops, some_behind, behind_end}
+use Rattle.gltf_schema.proofs.PuttingIn.{or_left}
 use Rattle.gltf_schema.proofs.leaf.encode_items.Goals as goal
 
 drop_item : {X : Type 0} (xs : List X) (i : ℕ) (x : X) → i < length xs → x ≡ get_or xs i x → drop i xs ≡ x ∷ drop (i + 1) xs
@@ -20,7 +22,10 @@ returns-in_err-encode g c =
     let p = err_from_is_err_and c.from_residual-in_err-encode.result c.from_residual-in_err-encode.ensures.1 in
     let next = drop_item all c.loop-item.item-index c.item-item.result c.loop-item-test.true c.item-item.is in
     let left = ap (λ vs. behind before (write_items f (trees (map s.tree vs)))) (sym next) ∙ c.loop-item.invariant in
-    rw (p.1, p.2) (subst (Withholds c.in_err-encode.field-0.0) left (write_stops c.in_err-encode.field-0.0 f before _ _ c.in_err-encode.ensures))
+    let whole = any_holds_invalid (trees (map s.tree all)) in
+    let behind_them = some_behind s.tree c.loop-item.item-index all in
+    rw (p.1, p.2) (subst (λ w. Withholds c.in_err-encode.field-0.0 w whole) left (write_stops c.in_err-encode.field-0.0 f before _ _ (holds_invalid (s.tree c.item-item.result)) whole
+    (λ h. behind_them (rw next (or_left (holds_invalid (s.tree c.item-item.result)) _ h))) c.in_err-encode.ensures))
 
 pub loop-item-preserved : goal.loop-item-preserved
 loop-item-preserved g c =

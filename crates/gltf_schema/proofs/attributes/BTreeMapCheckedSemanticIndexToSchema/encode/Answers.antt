@@ -12,7 +12,7 @@ pub returns-in_err-encode_entries : goal.returns-in_err-encode_entries
 returns-in_err-encode_entries g c =
     let exit = err_from_is_err_and c.from_residual.result c.from_residual.ensures.1 in
     let e = c.in_err-encode_entries.field-0.0 in
-    rw (exit.1, exit.2) (in_order_withheld e (are_in_order (map entry_of c.args.self.now.entries)) _ (withheld e object _ c.in_err-encode_entries.ensures.written))
+    rw (exit.1, exit.2) (in_order_withheld e (are_in_order (map entry_of c.args.self.now.entries)) _ _ (withheld e object _ _ c.in_err-encode_entries.ensures.written))
 
 pub returns : goal.returns
 returns g c =

@@ -1,5 +1,5 @@
 -- Numbers read and written as the items of a list are those of an array.
-use Rattle.std.proofs.Common.{◌≡◌, ◌≢◌, ℕ, false, nat_eq, length, List, [], ◌∷◌, map, Option, Some, None, option_map, Result, Ok, Err, refl, sym, ap, ◌∙◌, if◌then◌else◌}
+use Rattle.std.proofs.Common.{◌≡◌, ◌≢◌, ℕ, Bool, false, nat_eq, length, List, [], ◌∷◌, map, Option, Some, None, option_map, Result, Ok, Err, refl, sym, ap, subst, ◌∙◌, if◌then◌else◌}
 use Rattle.std.proofs.lemmas.Bool.{eq-eqb, ne_eqb}
 use Rattle.std.proofs.lemmas.List.{length-map}
 use Rattle.std.specs.Option.{ok_or}
@@ -13,7 +13,7 @@ use Rattle.gltf_schema.specs.declared.error.Error.{Error}
 use Rattle.gltf_schema.specs.declared.error.Error.TheVariants as errors
 use Rattle.gltf_schema.specs.Write.{write, write_items, number_items}
 use Rattle.gltf_schema.specs.Invalid.{any_holds_invalid}
-use Rattle.gltf_schema.specs.Outcome.{Reads, Refuses}
+use Rattle.gltf_schema.specs.Outcome.{Reads, Refuses, Withholds}
 use Rattle.gltf_schema.specs.Maybe.{◌>>=◌}
 use Rattle.gltf_schema.specs.Tree.{Tree, number, numbers, Trees, end, with_tree, trees}
 use Rattle.gltf_schema.specs.Kind.{Number}
@@ -21,6 +21,7 @@ use Rattle.gltf_schema.specs.Read.{read, read_items, all_numbers}
 use Rattle.gltf_schema.specs.Fields.{real_tree, reals_tree}
 use Rattle.gltf_schema.proofs.TakingOut.{refused}
 use Rattle.gltf_schema.proofs.RowByRow.{refused_then}
+use Rattle.gltf_schema.proofs.Putting.{withheld_anyway}
 
 abbrev number_of : Tree → Num
 number_of (number x) = x
@@ -75,9 +76,15 @@ reals_written [] = refl
 reals_written (x ∷ xs) = ap (option_map (item (json.number (real_number x)))) (reals_written xs)
 
 -- no real is invalid
-pub none_invalid : (xs : List Real) → any_holds_invalid (trees (map real_tree xs)) ≡ false
+none_invalid : (xs : List Real) → any_holds_invalid (trees (map real_tree xs)) ≡ false
 none_invalid [] = refl
 none_invalid (x ∷ xs) = none_invalid xs
+
+-- so reals are withheld for want of memory alone
+pub reals_withheld : {B : Type 0} (e : Error) (xs : List Real) (written : Option B) (b : Bool)
+    → Withholds e (write_items (write Number) (trees (map real_tree xs))) (any_holds_invalid (trees (map real_tree xs))) → Withholds e written b
+reals_withheld e xs written b h =
+    withheld_anyway e _ written b (subst (λ invalid. Withholds e (write_items (write Number) (trees (map real_tree xs))) invalid) (none_invalid xs) h)
 
 -- an array has as many reals as it has places
 pub array_written : (xs : List Real) (n : ℕ) (ds : Items) → length xs ≡ n → write_items (write Number) (trees (map real_tree xs)) ≡ Some ds

@@ -19,12 +19,13 @@ loop-key-preserved g c =
     let before = members_view c.loop-key.written.entries in
     let rest = map entry_of c.next.new.self in
     let after : members_view c.insert.new.self.entries ≡ put (string_bytes c.in_ok-name.name) (view c.in_ok-encode.field-0) before =
-    ap (λ es. members_view es) c.in_ok-insert.ensures.entries ∙ members_view-insert_entry c.loop-key.written.entries c.in_ok-name.name c.in_ok-encode.field-0 in
-    (ap (write_entries rest) after
-    ∙ sym (entry_written (entry_of (c.in-Some.key.now, c.in-Some.index.now)) rest before (string_bytes c.in_ok-name.name) (view c.in_ok-encode.field-0) c.in_ok-name.ensures c.in_ok-encode.ensures)
-    ∙ ap (λ es. write_entries (map entry_of es) before) (sym c.in-Some.ensures.steps)
-    ∙ c.loop-key.invariant.0,
-    λ h. c.loop-key.invariant.1 (rw c.in-Some.ensures.steps (or_right (is_unknown (entry_of (c.in-Some.key.now, c.in-Some.index.now)).0) _ h)))
+    ap (λ es. members_view es) c.in_ok-insert.ensures.entries ∙ members_view-insert_entry c.loop-key.written.entries c.in_ok-name.name c.in_ok-encode.field-0 in (
+      ap (write_entries rest) after
+          ∙ sym (entry_written (entry_of (c.in-Some.key.now, c.in-Some.index.now)) rest before (string_bytes c.in_ok-name.name) (view c.in_ok-encode.field-0) c.in_ok-name.ensures c.in_ok-encode.ensures)
+          ∙ ap (λ es. write_entries (map entry_of es) before) (sym c.in-Some.ensures.steps)
+          ∙ c.loop-key.invariant.0,
+      λ h. c.loop-key.invariant.1 (rw c.in-Some.ensures.steps (or_right (is_unknown (entry_of (c.in-Some.key.now, c.in-Some.index.now)).0) _ h)),
+    )
 
 pub returns-in_err-name-clause-written : goal.returns-in_err-name-clause-written
 returns-in_err-name-clause-written g c =

@@ -1,3 +1,4 @@
 pub mod Walks
 pub mod Loops
 pub mod Counting
+pub mod Collecting

@@ -4,6 +4,7 @@ use Rattle.gltf_paths.specs.Steps.{Step}
 use Rattle.gltf_paths.specs.Text.{path_text}
 use Rattle.gltf_paths.specs.declared.path.Path.{Path}
 use Rattle.gltf_paths.specs.declared.validation.Error.{Error}
+use Rattle.gltf_sinks.specs.Report.{Report}
 use Rattle.gltf_sinks.specs.declared.collect.Collect.{Collect}
 use Rattle.gltf_sinks.specs.declared.sink.Count.{Count}
 
@@ -33,3 +34,7 @@ reports_collected c = texts_and_errors c.reports.items
 -- one report more, behind the others
 abbrev pub with_report : List (List ℕ × Error) → List Step → Error → List (List ℕ × Error)
 with_report rs steps error = rs ++ (path_text steps, error) ∷ []
+
+-- a report as a collection holds it
+abbrev pub as_collected : Report → List ℕ × Error
+as_collected r = (path_text r.steps, r.error)

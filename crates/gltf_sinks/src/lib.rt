@@ -3,6 +3,7 @@
 
 mod collect;
 mod found;
+pub mod laws;
 mod sink;
 
 pub use collect::Collect;

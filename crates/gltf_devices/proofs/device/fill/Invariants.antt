@@ -12,4 +12,5 @@ invariant-loop g l = record {
   given : IsFresh (g.R.ByteIn.seen l.initial.reader) → (g.R.ByteIn.seen l.reader).given ≡ length (vec_items l.bytes);
   calls : IsFresh (g.R.ByteIn.seen l.initial.reader) → (g.R.ByteIn.seen l.reader).calls ≡ l.counter;
   going_on : IsFresh (g.R.ByteIn.seen l.initial.reader) → (g.R.ByteIn.seen l.reader).has_ended ≡ false;
+  uncalled : l.most_calls ≡ 0 → l.reader ≡ l.initial.reader;
 }

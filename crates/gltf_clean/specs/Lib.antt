@@ -1,3 +1,4 @@
 pub mod NoItems
 pub mod Clean
 pub mod Held
+pub mod ErrorText

@@ -15,6 +15,7 @@ use gltf_base::validation::Error;
 use gltf_base::{Index, PushError};
 use gltf_faults::Rules;
 use gltf_root::root::{Mark, Root};
+use std::fmt::{self, Debug, Display, Formatter, Write};
 
 /// Why an item was not pushed; each kind hands it back.
 #[derive(Debug, Drop)]
@@ -26,6 +27,22 @@ pub enum CleanError<T> {
     /// The item has a report where it would stand: what is wrong first.
     Faulty(T, Error),
 }
+
+impl<T> Display for CleanError<T> {
+    ghost use Rattle.gltf_clean.specs.ErrorText.{clean_error_text};
+
+    ghost output = { λ error. Some (clean_error_text error) };
+
+    fn fmt<W: Write>(&self, f: &mut Formatter<W>) -> fmt::Result {
+        match self {
+            CleanError::Full(_) => f.write_str("List is full"),
+            CleanError::Memory(_) => f.write_str("Out of memory"),
+            CleanError::Faulty(_, error) => Display::fmt(error, f),
+        }
+    }
+}
+
+impl<T: Debug + Drop> std::error::Error for CleanError<T> {}
 
 impl<'a> Clean<'a> {
     /// The root with its rules where it has no report under them; else it is handed back. It takes no

@@ -1,8 +1,9 @@
 //! Documents as values, texts and bytes, and into writers.
 
-ghost use Rattle.std.specs.Prelude.{◌≡◌, ◌≢◌, true, Some, IfOk, IfErr, OnOk, Err, string_bytes};
+ghost use Rattle.std.specs.Prelude.{◌≡◌, ◌≢◌, true, false, Some, IfOk, IfErr, OnOk, Err, string_bytes};
 ghost use Rattle.std.specs.Io.KnownBytes.{Appends};
 ghost use Rattle.serde_json.specs.View.{view};
+ghost use Rattle.gltf_schema.specs.Invalid.{holds_invalid};
 ghost use Rattle.gltf_schema.specs.Outcome.{Writes};
 ghost use Rattle.gltf_schema.specs.Plain.{is_plain};
 ghost use Rattle.gltf_schema.specs.Read.{read};
@@ -23,7 +24,8 @@ impl Root {
     /// choice or the key of an attribute is invalid; `Memory` may come in place of either where a
     /// growth was refused. Indexes are written whether or not they name anything.
     pub fn to_value(&self, alloc: Global) -> Result<Value, Error>
-        ensures by_table { Writes view result (write root_kind (root_tree self.now)) }
+        ensures by_table { Writes view result (write root_kind (root_tree self.now)) (holds_invalid (root_tree self.now)) }
+        ensures valid { OnOk result (holds_invalid (root_tree self.now) ≡ false) }
         // A plain document reads back as itself.
         ensures reads_back { IfOk result (λ v. is_plain root_kind (root_tree self.now) ≡ true
             → read root_kind (view v) ≡ Some (root_tree self.now)) }
@@ -34,7 +36,8 @@ impl Root {
     /// The document as JSON in one line, without blanks between its tokens; errors are those of
     /// [`Root::to_value`]. It reads back where it isn't nested deeper than 127 levels.
     pub fn to_vec(&self, alloc: Global) -> Result<Vec<u8>, Error>
-        ensures printed { Prints IsCompact (λ b. b.items) result (write root_kind (root_tree self.now)) }
+        ensures printed { Prints IsCompact (λ b. b.items) result (write root_kind (root_tree self.now))
+            (holds_invalid (root_tree self.now)) }
         ensures reads_back { IfOk result (λ b. IsReadBack (root_tree self.now) b.items) }
     {
         Ok(self.to_value(alloc)?.to_vec(alloc)?)
@@ -43,7 +46,8 @@ impl Root {
     /// The document as JSON in lines, two blanks deeper at each level, without a newline at the end;
     /// errors are those of [`Root::to_value`].
     pub fn to_vec_pretty(&self, alloc: Global) -> Result<Vec<u8>, Error>
-        ensures printed { Prints IsPretty (λ b. b.items) result (write root_kind (root_tree self.now)) }
+        ensures printed { Prints IsPretty (λ b. b.items) result (write root_kind (root_tree self.now))
+            (holds_invalid (root_tree self.now)) }
         ensures reads_back { IfOk result (λ b. IsReadBack (root_tree self.now) b.items) }
     {
         Ok(self.to_value(alloc)?.to_vec_pretty(alloc)?)
@@ -51,7 +55,8 @@ impl Root {
 
     /// The text of [`Root::to_vec`].
     pub fn to_string(&self, alloc: Global) -> Result<String, Error>
-        ensures printed { Prints IsCompact string_bytes result (write root_kind (root_tree self.now)) }
+        ensures printed { Prints IsCompact string_bytes result (write root_kind (root_tree self.now))
+            (holds_invalid (root_tree self.now)) }
         ensures reads_back { IfOk result (λ s. IsReadBack (root_tree self.now) (string_bytes s)) }
     {
         Ok(self.to_value(alloc)?.to_string(alloc)?)
@@ -59,7 +64,8 @@ impl Root {
 
     /// The text of [`Root::to_vec_pretty`].
     pub fn to_string_pretty(&self, alloc: Global) -> Result<String, Error>
-        ensures printed { Prints IsPretty string_bytes result (write root_kind (root_tree self.now)) }
+        ensures printed { Prints IsPretty string_bytes result (write root_kind (root_tree self.now))
+            (holds_invalid (root_tree self.now)) }
         ensures reads_back { IfOk result (λ s. IsReadBack (root_tree self.now) (string_bytes s)) }
     {
         Ok(self.to_value(alloc)?.to_string_pretty(alloc)?)
@@ -70,7 +76,7 @@ impl Root {
     /// or `Memory` it is as it was. Nothing is flushed.
     pub fn to_writer<W: ByteOut>(&self, alloc: Global, writer: &mut W) -> Result<(), Error>
         ensures taken { Takes IsCompact (W.taken writer.old) (W.taken writer.new) result
-            (write root_kind (root_tree self.now)) }
+            (write root_kind (root_tree self.now)) (holds_invalid (root_tree self.now)) }
         ensures works { OnOk result (W.has_failed writer.new ≡ W.has_failed writer.old) }
         ensures breaks { result ≡ Err Error.Write → W.has_failed writer.new ≡ true }
         ensures untouched { IfErr result (λ e. e ≢ Error.Write → writer.new ≡ writer.old) }
@@ -82,7 +88,7 @@ impl Root {
     /// Writes the bytes of [`Root::to_vec_pretty`], as [`Root::to_writer`].
     pub fn to_writer_pretty<W: ByteOut>(&self, alloc: Global, writer: &mut W) -> Result<(), Error>
         ensures taken { Takes IsPretty (W.taken writer.old) (W.taken writer.new) result
-            (write root_kind (root_tree self.now)) }
+            (write root_kind (root_tree self.now)) (holds_invalid (root_tree self.now)) }
         ensures works { OnOk result (W.has_failed writer.new ≡ W.has_failed writer.old) }
         ensures breaks { result ≡ Err Error.Write → W.has_failed writer.new ≡ true }
         ensures untouched { IfErr result (λ e. e ≢ Error.Write → writer.new ≡ writer.old) }

@@ -11,16 +11,13 @@ use Rattle.gltf_checked.specs.Names.{behind, set_number, set_or, plain_key, key_
 use Rattle.gltf_schema.specs.Read.{read_entries, small_number, whole_number}
 use Rattle.gltf_schema.specs.Write.{write_entries, are_in_order, is_less, is_named}
 use Rattle.gltf_schema.specs.Invalid.{is_unknown, any_unknown}
+use Rattle.gltf_schema.specs.OfKind.{is_nameable, is_attribute}
 use Rattle.gltf_schema.proofs.TakingOut.{first_of_both, second_of_both, both, neither}
 use Rattle.gltf_schema.proofs.ReadPlain.{bound}
 use Rattle.gltf_schema.proofs.ReadBack.{inside, allowed}
 use Rattle.gltf_schema.proofs.AttributesBack.{keys_total, tail_in_order}
 
 -- ---- keys that are read
-
--- the key is unknown, or has a name
-abbrev is_nameable : Key → Bool
-is_nameable k = is_unknown k || is_named k
 
 set_at : (written : Option ℕ) (key : ℕ → Key) (other : Key) → ((set : ℕ) → written ≡ Some set → is_nameable (key set) ≡ true) → is_nameable other ≡ true
     → is_nameable (unwrap_or (option_map key written) other) ≡ true
@@ -71,10 +68,6 @@ small_is d n h =
     let w = allowed (nat_lt m.0 (2 ^ 32)) (Some m.0) n m.2 in
     rw (← inside m.0 n w.1) w.0
 
--- written, unless its key is unknown
-abbrev may_be_written : Key × ℕ → Bool
-may_be_written e = is_nameable e.0 && nat_lt e.1 (2 ^ 32)
-
 -- the key is before the first of the entries
 abbrev comes_before : Key → List (Key × ℕ) → Bool
 comes_before k [] = true
@@ -108,22 +101,22 @@ order_inserted : (k : Key) (v : ℕ) (es : List (Key × ℕ)) → are_in_order e
 order_inserted k v [] h = refl
 order_inserted k v (e ∷ es) h = order_at _ k v e es refl h (order_inserted k v es (tail_in_order e es h))
 
-each_at : (o : Ordering) (k : Key) (v : ℕ) (e : Key × ℕ) (es later : List (Key × ℕ)) → may_be_written (k, v) ≡ true → may_be_written e ≡ true → list_all may_be_written es ≡ true → list_all may_be_written later ≡ true
-    → list_all may_be_written (match_ordering o ((k, v) ∷ e ∷ es) ((e.0, v) ∷ es) (e ∷ later)) ≡ true
+each_at : (o : Ordering) (k : Key) (v : ℕ) (e : Key × ℕ) (es later : List (Key × ℕ)) → is_attribute (k, v) ≡ true → is_attribute e ≡ true → list_all is_attribute es ≡ true → list_all is_attribute later ≡ true
+    → list_all is_attribute (match_ordering o ((k, v) ∷ e ∷ es) ((e.0, v) ∷ es) (e ∷ later)) ≡ true
 each_at Less k v e es later new old rest all = both _ _ new (both _ _ old rest)
 each_at Equal k v e es later new old rest all =
     both _ _ (both _ _ (first_of_both (is_nameable e.0) _ old) (second_of_both (is_nameable k) _ new)) rest
 each_at Greater k v e es later new old rest all = both _ _ old all
 
-each_inserted : (k : Key) (v : ℕ) (es : List (Key × ℕ)) → may_be_written (k, v) ≡ true → list_all may_be_written es ≡ true → list_all may_be_written (insert_entry key_cmp es k v) ≡ true
+each_inserted : (k : Key) (v : ℕ) (es : List (Key × ℕ)) → is_attribute (k, v) ≡ true → list_all is_attribute es ≡ true → list_all is_attribute (insert_entry key_cmp es k v) ≡ true
 each_inserted k v [] new h = both _ _ new refl
 each_inserted k v (e ∷ es) new h =
-    let rest = second_of_both (may_be_written e) (list_all may_be_written es) h in
-    each_at (key_cmp k e.0) k v e es (insert_entry key_cmp es k v) new (first_of_both (may_be_written e) (list_all may_be_written es) h) rest (each_inserted k v es new rest)
+    let rest = second_of_both (is_attribute e) (list_all is_attribute es) h in
+    each_at (key_cmp k e.0) k v e es (insert_entry key_cmp es k v) new (first_of_both (is_attribute e) (list_all is_attribute es) h) rest (each_inserted k v es new rest)
 
 record AreRead (es : List (Key × ℕ)) : Type 0 where
   ordered : are_in_order es ≡ true
-  each : list_all may_be_written es ≡ true
+  each : list_all is_attribute es ≡ true
 
 entries_read : (es fs : List (Key × ℕ)) (ms : Members) → AreRead es → read_entries es ms ≡ Some fs → AreRead fs
 entries_read es fs no_members before h = subst (λ (l : List (Key × ℕ)). AreRead l) (inside es fs h) before
@@ -140,14 +133,15 @@ entries_read es fs (member n d ms) before h =
 named_from_nameable : (k : Key) → is_nameable k ≡ true → is_unknown k ≡ false → is_named k ≡ true
 named_from_nameable k nameable known = ap (λ b. b || is_named k) (sym known) ∙ nameable
 
-entries_written : (es : List (Key × ℕ)) (ms : Members) → list_all may_be_written es ≡ true → any_unknown es ≡ false → is_some (write_entries es ms) ≡ true
+-- attributes are written where each key is known
+pub entries_written : (es : List (Key × ℕ)) (ms : Members) → list_all is_attribute es ≡ true → any_unknown es ≡ false → is_some (write_entries es ms) ≡ true
 entries_written [] ms each known = refl
 entries_written (e ∷ es) ms each known =
-    let first = first_of_both (may_be_written e) (list_all may_be_written es) each in
+    let first = first_of_both (is_attribute e) (list_all is_attribute es) each in
     let apart = neither (is_unknown e.0) (any_unknown es) known in
     let named = named_from_nameable e.0 (first_of_both (is_nameable e.0) _ first) apart.0 in
     let small = second_of_both (is_nameable e.0) _ first in
-    rw (named, small) (entries_written es _ (second_of_both (may_be_written e) (list_all may_be_written es) each) apart.1)
+    rw (named, small) (entries_written es _ (second_of_both (is_attribute e) (list_all is_attribute es) each) apart.1)
 
 -- attributes that were read are in order, and are written where each key is known
 pub attributes_written : (ms : Members) (es : List (Key × ℕ)) → read_entries [] ms ≡ Some es → any_unknown es ≡ false

@@ -12,3 +12,4 @@ pub mod ReadPlain
 pub mod Entries
 pub mod AttributesRead
 pub mod RefusedWhereInvalid
+pub mod WrittenWhereValid

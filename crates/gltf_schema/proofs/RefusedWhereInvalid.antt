@@ -97,11 +97,11 @@ mutual
 
 -- ---- what was read is written where it holds nothing invalid
 
-some_mapped : {A B : Type 0} (f : A → B) (r : Option A) → is_some r ≡ true → is_some (option_map f r) ≡ true
+pub some_mapped : {A B : Type 0} (f : A → B) (r : Option A) → is_some r ≡ true → is_some (option_map f r) ≡ true
 some_mapped f None h = h
 some_mapped f (Some x) h = refl
 
-some_bound : {A B : Type 0} (f : A → Option B) (r : Option A) → is_some r ≡ true → ((x : A) → is_some (f x) ≡ true) → is_some (r >>= f) ≡ true
+pub some_bound : {A B : Type 0} (f : A → Option B) (r : Option A) → is_some r ≡ true → ((x : A) → is_some (f x) ≡ true) → is_some (r >>= f) ≡ true
 some_bound f None h each = absurd (false≢true h)
 some_bound f (Some x) h each = each x
 
@@ -116,10 +116,10 @@ items_written read write each (item d ds) ts h valid =
     (λ e. some_mapped (item e) (write_items write later.0) (items_written read write each ds later.0 later.1 apart.1)))
 
 -- the row's member is left out or written
-abbrev is_done : Mark → (Tree → Option Data) → Tree → Bool
+abbrev pub is_done : Mark → (Tree → Option Data) → Tree → Bool
 is_done mark write t = leaves_out mark t || is_some (written mark write t)
 
-done_written : (mark : Mark) (write : Tree → Option Data) (t : Tree) → is_some (write t) ≡ true → is_done mark write t ≡ true
+pub done_written : (mark : Mark) (write : Tree → Option Data) (t : Tree) → is_some (write t) ≡ true → is_done mark write t ≡ true
 done_written or_null write tree.absent h = refl
 done_written mark write t h = or_right (leaves_out mark t) _ h
 
@@ -142,7 +142,7 @@ member_done or_null kind None t default each h = rw (← inside tree.absent t h)
 member_done or_null kind (Some d) t default each h = present_done (is_some (as_null d)) or_null (write kind) (read kind d) t refl (each d) h
 member_done mark kind (Some d) t default each h = done_written mark (write kind) t (each d h)
 
-done_put : (left : Bool) (n : List ℕ) (d : Option Data) (ms : Members) → (left || is_some d) ≡ true → is_some (cond left (Some ms) (option_map (λ e. put n e ms) d)) ≡ true
+pub done_put : (left : Bool) (n : List ℕ) (d : Option Data) (ms : Members) → (left || is_some d) ≡ true → is_some (cond left (Some ms) (option_map (λ e. put n e ms) d)) ≡ true
 done_put true n d ms h = refl
 done_put false n d ms h = some_mapped (λ e. put n e ms) d h
 
@@ -207,11 +207,11 @@ mutual
 
 -- ---- both ways
 
-refused_at : (b : Bool) (r : Option Data) (t : Tree) → holds_invalid t ≡ b → (holds_invalid t ≡ false → is_some r ≡ true) → r ≡ None → b ≡ true
+pub refused_at : (b : Bool) (r : Option Data) (t : Tree) → holds_invalid t ≡ b → (holds_invalid t ≡ false → is_some r ≡ true) → r ≡ None → b ≡ true
 refused_at true r t is each none = refl
 refused_at false r t is each none = absurd (false≢true (ap is_some (sym none) ∙ each is))
 
-invalid_at : (r : Option Data) (t : Tree) → ((d : Data) → r ≡ Some d → holds_invalid t ≡ false) → holds_invalid t ≡ true → r ≡ None
+pub invalid_at : (r : Option Data) (t : Tree) → ((d : Data) → r ≡ Some d → holds_invalid t ≡ false) → holds_invalid t ≡ true → r ≡ None
 invalid_at None t each invalid = refl
 invalid_at (Some d) t each invalid = absurd (true≢false (sym invalid ∙ each d refl))
 

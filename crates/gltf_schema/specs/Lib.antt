@@ -6,6 +6,7 @@ pub mod Write
 pub mod Put
 pub mod Plain
 pub mod Invalid
+pub mod OfKind
 pub mod Outcome
 pub mod ErrorText
 pub mod Taken

@@ -7,6 +7,7 @@ ghost use Rattle.gltf_schema.specs.Tree.{Tree};
 ghost use Rattle.gltf_schema.specs.Kind.{Kind};
 ghost use Rattle.gltf_schema.specs.Plain.{is_plain, is_sound};
 ghost use Rattle.gltf_schema.specs.Invalid.{holds_invalid, writes_defaults};
+ghost use Rattle.gltf_schema.specs.OfKind.{is_of_kind};
 ghost use Rattle.gltf_schema.specs.Read.{read};
 ghost use Rattle.gltf_schema.specs.Write.{write};
 
@@ -24,4 +25,10 @@ pub fn written_trees_hold_nothing_invalid()
 /// or a key in it is invalid.
 pub fn read_trees_are_refused_where_invalid()
     ensures { (kind : Kind) (d : Data) (t : Tree) → writes_defaults kind ≡ true → read kind d ≡ Some t → (write kind t ≡ None) ↔ (holds_invalid t ≡ true) }
+{}
+
+/// A tree of a kind is refused for writing exactly where an item or a key in it is invalid. So a
+/// plain one of a sound kind, in which none is, is written and read back as that tree.
+pub fn trees_of_a_kind_are_refused_where_invalid()
+    ensures { (kind : Kind) (t : Tree) → is_of_kind kind t ≡ true → (write kind t ≡ None) ↔ (holds_invalid t ≡ true) }
 {}

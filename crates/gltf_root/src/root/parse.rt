@@ -68,8 +68,8 @@ impl Root {
 
     /// The document that a reader gives up to its end, as [`Root::from_reader`] with other limits:
     /// `TooLong` comes where it gives more than `bytes` bytes, or hasn't given its end in `calls`
-    /// calls, the call at the end among them. With no call allowed the reader isn't touched. It reads
-    /// 65536 bytes a call, so a reader may be asked for some bytes past the limit.
+    /// calls, the call at the end among them. It reads 65536 bytes a call, so a reader may be asked
+    /// for some bytes past the limit.
     #[tactic(auto, using(crate::proofs::AnswerLemmas::readings))]
     pub fn from_reader_within<R: ByteIn>(
         alloc: Global,
@@ -79,6 +79,7 @@ impl Root {
     ) -> Result<Root, Error>
         ensures told { IfSome (R.left reader.old) (λ bytes. IsReadAnswer (answer bytes) result) }
         ensures fresh { IsFresh (R.seen reader.old) → IsReading bytes calls (R.seen reader.new) result }
+        ensures uncalled { calls ≡ 0 → reader.new ≡ reader.old }
         ensures plain { IfOk result (λ root. is_plain root_kind (root_tree root) ≡ true) }
     {
         let text = read_to_end(alloc, reader, bytes, calls)?;

@@ -17,7 +17,7 @@ pub struct Rules<'a> {
 
 /// The names of the extensions that a document may require where its textures may be without an
 /// image: those of `ENABLED_EXTENSIONS`, and the extensions that give a texture an image of another
-/// format.
+/// format. For callers that give it as `enabled` beside `empty_texture`; nothing goes by it otherwise.
 pub const ENABLED_WITH_EMPTY_TEXTURES: &[&str] = &[
     "KHR_lights_punctual",
     "KHR_materials_pbrSpecularGlossiness",

@@ -19,12 +19,12 @@ use Rattle.gltf_plans.specs.Plan.{Plan, place, Plans, nothing, below, errors, le
 
 -- ---- what is wrong at one place
 
--- the error of the report that stands at the steps
 abbrev pub same_steps : List Step → List Step → Bool
 same_steps [] [] = true
 same_steps (s ∷ ss) (u ∷ us) = same_step s u && same_steps ss us
 same_steps _ _ = false
 
+-- the error of the first report that stands at the steps
 abbrev pub error_among : List Step → List Report → Option Error
 error_among steps [] = None
 error_among steps (r ∷ rs) = cond (same_steps steps r.steps) (Some r.error) (error_among steps rs)

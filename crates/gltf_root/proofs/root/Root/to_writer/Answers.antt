@@ -1,0 +1,9 @@
+-- The bytes that are written are those that are printed.
+use Rattle.gltf_root.specs.Written.{IsCompact}
+use Rattle.gltf_root.proofs.Taking.{taken}
+use Rattle.gltf_root.proofs.root.Root.to_writer.Goals as goal
+
+pub returns-clause-taken : goal.returns-clause-taken
+returns-clause-taken g c =
+    taken IsCompact (λ b. b.items) c.in_ok-to_vec.field-0 _ _ c.write_out.result _ _ _
+    c.in_ok-to_vec.ensures.printed c.write_out.ensures.whole c.write_out.ensures.front c.write_out.ensures.breaks

@@ -5,5 +5,5 @@ use Rattle.gltf_root.proofs.root.Root.to_writer.Goals as goal
 
 pub returns-clause-taken : goal.returns-clause-taken
 returns-clause-taken g c =
-    taken IsCompact (λ b. b.items) c.in_ok-to_vec.field-0 _ _ c.write_out.result _ _ _
-    c.in_ok-to_vec.ensures.printed c.write_out.ensures.whole c.write_out.ensures.front c.write_out.ensures.breaks
+    taken IsCompact (λ b. b.items) c.in_ok-bytes.bytes _ _ c.write_out.result _ _ _ _ c.deref.ensures.value
+    c.in_ok-bytes.ensures.printed c.write_out.ensures.whole c.write_out.ensures.front c.write_out.ensures.breaks

@@ -5,5 +5,5 @@ use Rattle.gltf_root.proofs.root.Root.to_writer_pretty.Goals as goal
 
 pub returns-clause-taken : goal.returns-clause-taken
 returns-clause-taken g c =
-    taken IsPretty (λ b. b.items) c.in_ok-to_vec_pretty.field-0 _ _ c.write_out.result _ _ _
-    c.in_ok-to_vec_pretty.ensures.printed c.write_out.ensures.whole c.write_out.ensures.front c.write_out.ensures.breaks
+    taken IsPretty (λ b. b.items) c.in_ok-bytes.bytes _ _ c.write_out.result _ _ _ _ c.deref.ensures.value
+    c.in_ok-bytes.ensures.printed c.write_out.ensures.whole c.write_out.ensures.front c.write_out.ensures.breaks

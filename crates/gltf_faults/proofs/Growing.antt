@@ -1,12 +1,12 @@
 -- The lists of a document with one more item in one of them.
-use Rattle.std.proofs.Common.{◌≡◌, ◌⊎◌, ℕ, inl, inr, Option, Some, None, refl}
+use Rattle.std.proofs.Common.{◌≡◌, ◌≢◌, ◌⊎◌, ℕ, zero, suc, inl, inr, Option, Some, None, refl, ap}
 use Rattle.gltf_paths.specs.Lists.{ListName}
 use Rattle.gltf_schema.specs.Tree.{Tree, list, Trees, end, with_tree, tree_at, tree_or_absent, members_in}
 use Rattle.gltf_schema.specs.Fields.{closed_object}
-use Rattle.gltf_root.specs.Lists.{list_at, list_in}
-use Rattle.gltf_root.specs.Pushed.{with_last, with_extension_list, with_extended_list, pushed}
+use Rattle.gltf_root.specs.Lists.{list_at, list_in, row_of}
+use Rattle.gltf_root.specs.Pushed.{with_last, with_extension_list, with_extended_list, row_listed, pushed}
 use Rattle.gltf_root.specs.RootExtensionTrees.{root_extensions, root_extension_members, lights_members, variants_members}
-use Rattle.gltf_root.specs.RootTrees.{root_members, root_tree}
+use Rattle.gltf_root.specs.RootTrees.{put_at, root_members, root_tree}
 use Rattle.gltf_root.specs.declared.root.Root.{Root}
 use Rattle.gltf_root.specs.declared.extensions.root.Root.{Root as RootExtensions}
 
@@ -82,3 +82,32 @@ grows ListName.variants x r ListName.variants = inl (refl, variants_extended x r
 grows ListName.lights x r ListName.variants = inr (variants_kept x r.extensions)
 grows ListName.variants x r ListName.lights = inr (lights_kept x r.extensions)
 grows named x r other = inr refl
+
+-- ---- the one list, and the others
+
+pub grown : (named : ListName) (x : Tree) (r : Root) → list_in named (pushed named x (root_tree r)) ≡ with_last x (list_in named (root_tree r))
+unfolding root_members
+grown ListName.lights x r = lights_extended x r.extensions
+grown ListName.variants x r = variants_extended x r.extensions
+grown ListName.accessors x r = refl
+grown named x r = refl
+
+same_elsewhere : (other named : ListName) (x old new : Tree) → other ≢ named → GrowsAt other named x old new → list_in other new ≡ list_in other old
+same_elsewhere other named x old new apart (inl h) = absurd (apart h.0)
+same_elsewhere other named x old new apart (inr h) = h
+
+pub others_kept : (other named : ListName) (x : Tree) (r : Root) → other ≢ named → list_in other (pushed named x (root_tree r)) ≡ list_in other (root_tree r)
+others_kept other named x r apart = same_elsewhere other named x (root_tree r) (pushed named x (root_tree r)) apart (grows named x r other)
+
+-- ---- the other members
+
+put_elsewhere : (m n : ℕ) (t : Tree) (ts : Trees) → n ≢ m → tree_at n (put_at m t ts) ≡ tree_at n ts
+put_elsewhere m n t end apart = refl
+put_elsewhere zero zero t (with_tree u ts) apart = absurd (apart refl)
+put_elsewhere zero (suc n) t (with_tree u ts) apart = refl
+put_elsewhere (suc m) zero t (with_tree u ts) apart = refl
+put_elsewhere (suc m) (suc n) t (with_tree u ts) apart = put_elsewhere m n t ts (λ e. apart (ap (λ k. suc k) e))
+
+pub members_kept : (named : ListName) (n : ℕ) (x : Tree) (r : Root) → n ≢ row_of named → tree_at n (members_in (pushed named x (root_tree r))) ≡ tree_at n (members_in (root_tree r))
+members_kept named n x r apart =
+    put_elsewhere (row_of named) n (row_listed named (with_last x (list_in named (root_tree r))) (tree_at (row_of named) (root_members r))) (root_members r) apart

@@ -135,6 +135,14 @@ inserted rules named x r off =
 
 -- ---- onto a document without reports
 
+-- no index in it is the number that an item takes
+pub clean_avoids : (rules : Rules) (named : ListName) (r : Root) → reports_by_rules rules root_kind (root_tree r) (root_tree r) [] ≡ []
+    → Avoids named (count_in named (root_tree r)) root_kind (root_tree r)
+clean_avoids rules named r clean =
+    let old = root_tree r in
+    let context = under rules old in
+    closed_avoids named context root_kind old absent root_listed (clean_is_closed root_kind old context absent [] clean)
+
 alone : {A : Type 0} {old new whole : List A} → old ≡ [] → IsInserted old new whole → whole ≡ new
 alone {A} {old} {new} {whole} none h =
     let nothing = sym h.was ∙ none in
@@ -143,7 +151,4 @@ alone {A} {old} {new} {whole} none h =
 pub onto_clean : (rules : Rules) (named : ListName) (x : Tree) (r : Root) → reports_by_rules rules root_kind (root_tree r) (root_tree r) [] ≡ []
     → reports_by_rules rules root_kind (pushed named x (root_tree r)) (pushed named x (root_tree r)) []
     ≡ reports_by_rules rules (item_kind named) x (pushed named x (root_tree r)) (item_place named (count_in named (root_tree r)))
-onto_clean rules named x r clean =
-    let old = root_tree r in
-    let context = under rules old in
-    alone clean (inserted rules named x r (closed_avoids named context root_kind old absent root_listed (clean_is_closed root_kind old context absent [] clean)))
+onto_clean rules named x r clean = alone clean (inserted rules named x r (clean_avoids rules named r clean))

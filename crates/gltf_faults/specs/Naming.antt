@@ -12,22 +12,23 @@ abbrev pub IndexAvoids : ℕ → Tree → Type 0
 IndexAvoids n (index m) = m ≢ n
 IndexAvoids n _ = Unit {0}
 
--- the same, where 2^32 - 1 stands for no image
+-- the same, where 2^32 - 1 stands for no image and is no index
 abbrev pub SourceAvoids : ℕ → Tree → Type 0
 SourceAvoids n (index m) = m ≢ 4294967295 → m ≢ n
 SourceAvoids n _ = Unit {0}
 
+-- the index of each attribute is another number
 abbrev pub EntriesAvoid : ℕ → List (Key × ℕ) → Type 0
 EntriesAvoid n [] = Unit {0}
 EntriesAvoid n (e ∷ es) = (e.1 ≢ n) × EntriesAvoid n es
 
--- a primitive's rule looks its attributes up among the accessors
+-- nor does a rule look up the number: a primitive's looks its attributes up among the accessors
 abbrev pub RuleAvoids : ListName → ℕ → ObjectName → Trees → Type 0
 RuleAvoids named n ObjectName.primitive ts = ListName.accessors ≡ named → EntriesAvoid n (entries_in (primitive_attributes ts))
 RuleAvoids named n _ ts = Unit {0}
 
 abbrev mutual
-  -- no index into the list, in a tree of a kind, is the number
+  -- in a tree of a kind no index into the list is the number
   pub Avoids : ListName → ℕ → Kind → Tree → Type 0
   Avoids named n (IndexInto other) t = other ≡ named → IndexAvoids n t
   Avoids named n SourceImage t = ListName.images ≡ named → SourceAvoids n t
@@ -36,6 +37,7 @@ abbrev mutual
   Avoids named n (Object of rows keeps) t = RuleAvoids named n of (members_in t) × MembersAvoid named n (members_in t) rows
   Avoids named n _ t = Unit {0}
 
+  -- the same of the members of an object
   pub MembersAvoid : ListName → ℕ → Trees → Rows → Type 0
   MembersAvoid named n end rows = Unit {0}
   MembersAvoid named n (with_tree t ts) no_rows = Unit {0}

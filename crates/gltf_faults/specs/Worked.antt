@@ -1,14 +1,17 @@
 -- Documents worked by hand, to test the definitions by.
 use Rattle.std.specs.Prelude.{ℕ, Bool, List, [], ◌∷◌, codes, Option, option_map, option_and_then}
 use Rattle.serde_json.specs.Data.{Data, number, unsigned, string, array, object, no_items, item as data_item, Members, no_members, member}
+use Rattle.gltf_checked.specs.Spelling.{Spelling}
 use Rattle.gltf_paths.specs.Lists.{ListName}
 use Rattle.gltf_paths.specs.Steps.{Step, field, item, key}
 use Rattle.gltf_sinks.specs.Report.{Report}
 use Rattle.gltf_faults.specs.Reports.{reports_by_rules, reports_of}
-use Rattle.gltf_root.specs.Pushed.{item_kind, pushed}
+use Rattle.gltf_root.specs.Pushed.{item_kind, pushed, with_member}
 use Rattle.gltf_root.specs.RootTable.{root_kind}
 use Rattle.gltf_schema.specs.Read.{read}
-use Rattle.gltf_schema.specs.Tree.{Tree}
+use Rattle.gltf_schema.specs.Plain.{is_plain}
+use Rattle.gltf_schema.specs.Tree as tree
+use Rattle.gltf_schema.specs.Tree.{Tree, absent, trees}
 use Rattle.gltf_schema.specs.Write.{write}
 
 -- what is wrong in the document that a JSON value is, if it is one
@@ -108,3 +111,18 @@ listed_variant = object (member (codes "variants") (one (object (member (codes "
 
 abbrev pub node_of : ℕ → Data
 node_of child = object (member (codes "children") (one (whole child)) no_members)
+
+-- whether the document that a JSON value is is plain, and whether it is with other extras, which are its member at 7
+abbrev pub plain_in : Data → Option Bool
+plain_in d = option_map (is_plain root_kind) (read root_kind d)
+
+abbrev pub plain_with_extras : Tree → Data → Option Bool
+plain_with_extras extras d = option_map (λ t. is_plain root_kind (with_member 7 extras t)) (read root_kind d)
+
+-- sparse indices in view 0, of a component type, with other members
+abbrev pub indices_of : Spelling → Members → Tree
+indices_of component_type others = tree.object (trees (tree.index 0 ∷ tree.whole 0 ∷ tree.chosen component_type ∷ absent ∷ absent ∷ [])) others
+
+-- the extensions of a document with neither lights nor variants, beside others
+abbrev pub extensions_beside : Members → Tree
+extensions_beside others = tree.object (trees (absent ∷ absent ∷ [])) others

@@ -1,5 +1,5 @@
 -- A walk that begins has all reports of the document to come.
-use Rattle.std.proofs.Common.{◌≡◌, ◌≤◌, List, [], ◌∷◌, Bor, append-nil, arith, ◌∙◌}
+use Rattle.std.proofs.Common.{◌≡◌, ◌≤◌, List, [], ◌∷◌, None, Bor, append-nil, arith, ◌∙◌}
 use Rattle.gltf_paths.specs.Steps.{Step}
 use Rattle.gltf_root.specs.RootTable.{root_kind}
 use Rattle.gltf_root.specs.RootTrees.{root_tree}
@@ -17,7 +17,7 @@ use Rattle.gltf_walk.proofs.PlanReports.{planned_told}
 use Rattle.gltf_walk.proofs.Stacks.{of_last}
 
 abbrev pub first_frame : Bor Root → Frame
-first_frame document = record { part = part.Root document; number = 0 }
+first_frame document = record { part = part.Root document; number = 0; behind = None }
 
 pub begun_fits : (document : Bor Root) (context : Context) (fs : List Frame) → fs ≡ first_frame document ∷ [] → reach 0 (plans_left context fs) ≤ 10
 begun_fits document context fs h = rw h (omega (arith, planned_height (root_tree document.now) context))

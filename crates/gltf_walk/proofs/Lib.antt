@@ -3,3 +3,4 @@ pub mod PlanHeight
 pub mod Stacks
 pub mod Begun
 pub mod Moves
+pub mod AttributesBehind

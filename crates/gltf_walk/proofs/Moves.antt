@@ -1,27 +1,53 @@
 -- What a move does to the frames of a walk.
-use Rattle.std.proofs.Common.{◌≡◌, suc, ◌+◌, ◌-◌, ◌≤◌, List, [], ◌∷◌, ◌++◌, length, map, Option, refl, sym, ◌∙◌, ap, subst, arith, length-append}
+use Rattle.std.proofs.Common.{◌≡◌, ℕ, suc, ◌+◌, ◌-◌, ◌≤◌, List, [], ◌∷◌, ◌++◌, length, map, Option, None, Bor, refl, sym, ◌∙◌, ap, subst, arith, length-append}
 use Rattle.std.proofs.lemmas.List.{map-append, length-map}
 use Rattle.std.specs.Option.{option_to_list}
 use Rattle.gltf_paths.specs.Steps.{Step, step_of}
 use Rattle.gltf_paths.specs.declared.path.Step.{Step as Borrowed}
 use Rattle.gltf_faults.specs.Context.{Context}
 use Rattle.gltf_plans.specs.Parts.{plan_of}
-use Rattle.gltf_walk.specs.Left.{plan_left, plans_left}
-use Rattle.gltf_plans.specs.Plan.{Plan, place, nothing, below, told, down, over, left, first, weight, height}
+use Rattle.gltf_walk.specs.Left.{part_left, plan_left, plans_left, IsNumbered}
+use Rattle.gltf_plans.specs.Plan.{Plan, place, nothing, below, told, down, over, at, left, first, weight, height}
 use Rattle.gltf_walk.specs.Stacks.{reach, to_come_of, weight_of}
 use Rattle.gltf_walk.specs.declared.frame.Frame.{Frame}
 use Rattle.gltf_plans.specs.declared.part.Part.{Part}
+use Rattle.gltf_plans.specs.declared.part.Part.TheVariants as part
+use Rattle.gltf_checked.specs.declared.mesh.Semantic.{Semantic}
+use Rattle.gltf_checked.specs.declared.validation.Checked.{Checked}
 use Rattle.gltf_walk.proofs.Stacks.{rest, left_further, told_by, height_by, height_move, reach_last, weight_last, moved, entered, left_behind}
 
 -- ---- one plan
 
-pub further_left : (context : Context) (f g : Frame) → g.part ≡ f.part → g.number ≡ f.number + 1 → plan_left context g ≡ rest (plan_left context f)
-further_left context f g e n =
-    let h : f.number + 1 ≡ suc f.number = omega arith in
-    ap (λ q. left (plan_of context q) g.number) e ∙ (ap (left (plan_of context f.part)) (n ∙ h) ∙ left_further (plan_of context f.part) f.number)
-
 pub left_none : (p : Plan) → left p 0 ≡ p
 left_none (place ps es) = refl
+
+pub left_one : (p : Plan) → left p 1 ≡ rest p
+left_one p = left_further p 0 ∙ ap rest (left_none p)
+
+left_more : (p : Plan) (n : ℕ) → left p (n + 1) ≡ left (left p n) 1
+left_more p n =
+    let h : n + 1 ≡ suc n = omega arith in
+    ap (left p) h ∙ (left_further p n ∙ sym (left_one (left p n)))
+
+-- ---- one part
+
+-- a part that is gone through by numbers
+numbered_left : (context : Context) (q : Part) (n : ℕ) (behind : Option (Bor (Checked Semantic))) → IsNumbered q → part_left context q n behind ≡ left (plan_of context q) n
+numbered_left context (part.Attributes m) n behind h = absurd h
+numbered_left context q n behind h = refl
+
+pub numbered_first : (context : Context) (q : Part) (n : ℕ) (behind : Option (Bor (Checked Semantic))) → IsNumbered q → at (plan_of context q) n ≡ first (part_left context q n behind)
+numbered_first context q n behind h = ap first (sym (numbered_left context q n behind h))
+
+pub numbered_more : (context : Context) (q : Part) (n : ℕ) (behind : Option (Bor (Checked Semantic))) → IsNumbered q
+    → part_left context q (n + 1) behind ≡ left (part_left context q n behind) 1
+numbered_more context q n behind h =
+    numbered_left context q (n + 1) behind h ∙ (left_more (plan_of context q) n ∙ ap (λ p. left p 1) (sym (numbered_left context q n behind h)))
+
+-- a part of which nothing was gone through
+pub begun_left : (context : Context) (q : Part) → part_left context q 0 None ≡ plan_of context q
+begun_left context (part.Attributes m) = refl
+begun_left context q = left_none (plan_of context q)
 
 pub rest_height : (p : Plan) → height (rest p) ≤ height p
 rest_height p = omega (arith, height_move p)
@@ -85,13 +111,13 @@ move_made context fs gs hs f g bs e d n l =
     ∙ (moved steps (plans_left context gs) (plan_left context f) beside ∙ ap (λ ps. told_by (first (plan_left context f)) steps ++ to_come_of steps ps) after)
 
 -- the part at the step is gone into
-pub part_entered : (context : Context) (hs is : List Frame) (q : Part) (bs cs : List Borrowed) (s : Borrowed) → is ≡ hs ++ record { part = q; number = 0 } ∷ []
+pub part_entered : (context : Context) (hs is : List Frame) (q : Part) (bs cs : List Borrowed) (s : Borrowed) → is ≡ hs ++ record { part = q; number = 0; behind = None } ∷ []
     → cs ≡ bs ++ s ∷ [] → 1 ≤ length hs → length hs ≤ suc (length bs)
     → to_come_of (map step_of cs) (plans_left context is) ≡ told (plan_of context q) (map step_of bs ++ step_of s ∷ []) ++ to_come_of (map step_of bs) (plans_left context hs)
 part_entered context hs is q bs cs s e d some l =
     let steps = map step_of bs in
     let here : map step_of cs ≡ steps ++ step_of s ∷ [] = ap (map step_of) d ∙ map-append step_of bs (s ∷ []) in
-    let plans : plans_left context is ≡ plans_left context hs ++ plan_of context q ∷ [] = plans_last context is hs _ e ∙ ap (λ p. plans_left context hs ++ p ∷ []) (left_none (plan_of context q)) in
+    let plans : plans_left context is ≡ plans_left context hs ++ plan_of context q ∷ [] = plans_last context is hs _ e ∙ ap (λ p. plans_left context hs ++ p ∷ []) (begun_left context q) in
     ap (λ us. to_come_of us (plans_left context is)) here
     ∙ (ap (to_come_of (steps ++ step_of s ∷ [])) plans
     ∙ entered steps (step_of s) (plans_left context hs) (plan_of context q) (omega (arith, some, length-map hs (plan_left context))) (omega (arith, l, length-map hs (plan_left context), length-map bs step_of)))

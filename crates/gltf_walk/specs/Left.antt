@@ -1,12 +1,54 @@
 -- What is left of the plans of frames.
-use Rattle.std.specs.Prelude.{List, map}
+use Rattle.std.specs.Prelude.{◌≡◌, ℕ, List, [], ◌∷◌, map, Option, Some, None, MatchOption}
+use Rattle.std.specs.Borrow.{Bor}
+use Rattle.std.specs.List.{filter}
+use Rattle.std.specs.Ordering.{is_lt}
+use Rattle.std.specs.BTreeMap.{BTreeMap}
+use Rattle.gltf_checked.specs.Keys.{Key, key_cmp}
+use Rattle.gltf_checked.specs.Semantics.{checked_key}
+use Rattle.gltf_checked.specs.declared.mesh.Semantic.{Semantic}
+use Rattle.gltf_checked.specs.declared.validation.Checked.{Checked}
+use Rattle.gltf_paths.specs.declared.index.IndexTo.{IndexTo}
+use Rattle.gltf_paths.specs.Lists.{ListName}
+use Rattle.gltf_schema.specs.Fields.{entry_of}
+use Rattle.gltf_root.specs.Lists.{count_in}
 use Rattle.gltf_faults.specs.Context.{Context}
 use Rattle.gltf_plans.specs.Parts.{plan_of}
-use Rattle.gltf_plans.specs.Plan.{Plan, left}
+use Rattle.gltf_plans.specs.Plan.{Plan, place, left}
+use Rattle.gltf_plans.specs.Planned.{entry_plans}
+use Rattle.gltf_plans.specs.declared.part.Part.{Part}
+use Rattle.gltf_plans.specs.declared.part.Part.TheVariants as part
 use Rattle.gltf_walk.specs.declared.frame.Frame.{Frame}
 
+-- ---- attributes, which are gone through by their keys
+
+-- the entries behind a key, or all of them
+abbrev pub entries_behind : Option (Bor (Checked Semantic)) → List (Key × ℕ) → List (Key × ℕ)
+entries_behind None es = es
+entries_behind (Some k) es = filter (λ e. is_lt (key_cmp (checked_key k.now) e.0)) es
+
+-- the first entry behind a key, or of all: those behind its own key are the others
+abbrev pub IsFirstBehind : {P : Type 0} → Option (Bor (Checked Semantic)) → List (Checked Semantic × IndexTo P) → Option (Bor (Checked Semantic) × Bor (IndexTo P)) → Type 0
+IsFirstBehind b es r = MatchOption r (entries_behind b (map entry_of es) ≡ [])
+    (λ e. entries_behind b (map entry_of es) ≡ entry_of (e.0.now, e.1.now) ∷ entries_behind (Some e.0) (map entry_of es))
+
+abbrev pub attributes_left : {P : Type 0} → Context → BTreeMap (Checked Semantic) (IndexTo P) → Option (Bor (Checked Semantic)) → Plan
+attributes_left context m behind = place (entry_plans (count_in ListName.accessors context.root) (entries_behind behind (map entry_of m.entries))) []
+
+-- ---- all other parts, which are gone through by numbers
+
+abbrev pub IsNumbered : Part → Type 0
+IsNumbered (part.Attributes m) = ⊥
+IsNumbered _ = Unit {0}
+
+abbrev pub part_left : Context → Part → ℕ → Option (Bor (Checked Semantic)) → Plan
+part_left context (part.Attributes m) number behind = attributes_left context m.now behind
+part_left context q number behind = left (plan_of context q) number
+
+-- ---- frames
+
 abbrev pub plan_left : Context → Frame → Plan
-plan_left context f = left (plan_of context f.part) f.number
+plan_left context f = part_left context f.part f.number f.behind
 
 abbrev pub plans_left : Context → List Frame → List Plan
 plans_left context fs = map (plan_left context) fs

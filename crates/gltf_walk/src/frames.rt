@@ -3,17 +3,37 @@
 ghost use Rattle.std.specs.Prelude.{◌≡◌, ◌+◌, ◌<◌, ◌^◌};
 ghost use Rattle.gltf_faults.specs.Context.{context_of};
 ghost use Rattle.gltf_plans.specs.Parts.{move_of, plan_of, IsMore};
-ghost use Rattle.gltf_plans.specs.Plan.{at};
+ghost use Rattle.gltf_plans.specs.Plan.{at, first, left};
+ghost use Rattle.gltf_walk.specs.Left.{plan_left, IsNumbered};
 
+use crate::frame::Frame;
 use crate::lists::{
-    at_attributes, attribute_at, channel_at, extension_at, in_attribute, in_channel, in_extension,
-    in_positions, item_at, leaf_at,
+    at_attributes, channel_at, extension_at, in_attribute, in_channel, in_extension, in_positions,
+    item_at, leaf_at, next_attribute,
 };
 use gltf_faults::Context;
 use gltf_plans::{Next, Object, Part};
 
-/// What comes at a number in a part of a document.
-pub(crate) fn next_in<'a>(part: Part<'a>, number: usize, context: &Context<'_>) -> Next<'a>
+/// What comes next in a frame, which stands behind it then.
+pub(crate) fn next_in<'a>(frame: &mut Frame<'a>, context: &Context<'_>) -> Next<'a>
+    ensures comes { move_of (context_of context.now) result ≡ first (plan_left (context_of context.now) frame.old) }
+    ensures left { IsMore result → plan_left (context_of context.now) frame.new ≡ left (plan_left (context_of context.now) frame.old) 1 }
+{
+    match frame.part {
+        Part::Attributes(attributes) => next_attribute(attributes, &mut frame.behind, context),
+        part => match next_at(part, frame.number, context) {
+            Next::Done => Next::Done,
+            next => {
+                frame.number += 1;
+                next
+            }
+        },
+    }
+}
+
+/// What comes at a number in a part that is gone through by numbers.
+fn next_at<'a>(part: Part<'a>, number: usize, context: &Context<'_>) -> Next<'a>
+    requires { IsNumbered part }
     ensures comes { move_of (context_of context.now) result ≡ at (plan_of (context_of context.now) part.entry) number }
     ensures small { IsMore result → number + 1 < 2 ^ 64 }
 {
@@ -21,7 +41,7 @@ pub(crate) fn next_in<'a>(part: Part<'a>, number: usize, context: &Context<'_>) 
         Part::Leaf(fault) => leaf_at(fault, number),
         Part::Channels(animation) => channel_at(animation, number),
         Part::Channel(channel, animation) => in_channel(channel, animation, number, context),
-        Part::Attributes(attributes) => attribute_at(attributes, number, context),
+        Part::Attributes(_) => unreachable!(),
         Part::Attribute(key, index) => in_attribute(key, index, number),
         Part::AtPositions(faults) => at_attributes(faults, number),
         Part::Positions(faults) => in_positions(faults, number),

@@ -4,14 +4,14 @@
 ghost use Rattle.std.specs.Prelude.{◌≡◌, ◌+◌, ◌<◌, ◌^◌, []};
 ghost use Rattle.gltf_animations.specs.AnimationTable.{animation_channel_kind};
 ghost use Rattle.gltf_animations.specs.AnimationTrees.{animation_channel_members, animation_members};
-ghost use Rattle.gltf_paths.specs.Lists.{ListName};
-ghost use Rattle.gltf_schema.specs.Fields.{attributes_tree, closed_object, list_tree, text_tree};
-ghost use Rattle.gltf_schema.specs.Kind.{Attributes, ListOf};
+ghost use Rattle.gltf_schema.specs.Fields.{closed_object, list_tree, text_tree};
+ghost use Rattle.gltf_schema.specs.Kind.{ListOf};
 ghost use Rattle.gltf_schema.specs.Tree.{absent, items_in};
 ghost use Rattle.gltf_faults.specs.Context.{context_of};
 ghost use Rattle.gltf_plans.specs.Parts.{found_plan, move_of, IsMore};
-ghost use Rattle.gltf_plans.specs.Plan.{at, leaf, place};
+ghost use Rattle.gltf_plans.specs.Plan.{at, first, leaf, left, place};
 ghost use Rattle.gltf_plans.specs.Planned.{at_positions, entry_plan, item_plans, name_plan, planned};
+ghost use Rattle.gltf_walk.specs.Left.{attributes_left, IsFirstBehind};
 
 use gltf_animations::animation::{Animation, Channel};
 use gltf_base::mesh::Semantic;
@@ -23,6 +23,7 @@ use gltf_faults::{
 };
 use gltf_plans::{Next, Part, Visited, found, member, told};
 use std::collections::BTreeMap;
+use std::ops::Bound;
 
 /// A place with nothing below, at which something is wrong or not.
 pub(crate) fn leaf_at<'a>(fault: Option<Error>, number: usize) -> Next<'a>
@@ -50,22 +51,38 @@ pub(crate) fn item_at<'a, T: Visited>(
     }
 }
 
-/// The entry of a map of attributes at a number.
-pub(crate) fn attribute_at<'a>(
+/// The attribute behind a key, or the first one, whose key is `behind` then.
+pub(crate) fn next_attribute<'a>(
     attributes: &'a BTreeMap<Checked<Semantic>, Index<Accessor>>,
-    number: usize,
+    behind: &mut Option<&'a Checked<Semantic>>,
     context: &Context<'_>,
 ) -> Next<'a>
-    ensures comes { move_of (context_of context.now) result ≡ at (planned (Attributes ListName.accessors) (attributes_tree attributes.now) (context_of context.now) absent) number }
-    ensures small { IsMore result → number + 1 < 2 ^ 64 }
+    ensures comes { move_of (context_of context.now) result ≡ first (attributes_left (context_of context.now) attributes.now behind.old) }
+    ensures left { IsMore result → attributes_left (context_of context.now) attributes.now behind.new ≡ left (attributes_left (context_of context.now) attributes.now behind.old) 1 }
 {
-    for (i, (semantic, index)) in attributes.iter().enumerate() {
-        if i == number {
+    match entry_behind(attributes, *behind) {
+        Some((semantic, index)) => {
+            *behind = Some(semantic);
             let part = Part::Attribute(choice_fault(semantic), index_fault(index, context.root));
-            return Next::Down(semantic.key_step(), part);
+            Next::Down(semantic.key_step(), part)
         }
+        None => Next::Done,
     }
-    Next::Done
+}
+
+/// The entry of a map of attributes behind a key, or the first one.
+fn entry_behind<'a>(
+    attributes: &'a BTreeMap<Checked<Semantic>, Index<Accessor>>,
+    behind: Option<&Checked<Semantic>>,
+) -> Option<(&'a Checked<Semantic>, &'a Index<Accessor>)>
+    ensures { IsFirstBehind behind.entry attributes.now.entries result }
+{
+    match behind {
+        Some(key) => attributes
+            .range((Bound::Excluded(key), Bound::Unbounded))
+            .next(),
+        None => attributes.iter().next(),
+    }
 }
 
 /// What comes at a number in an attribute: what is wrong with its key, and with its index.

@@ -1,6 +1,6 @@
 //! The walk.
 
-ghost use Rattle.std.specs.Prelude.{◌≡◌, ◌≤◌, ◌<◌, ◌+◌, ◌^◌, [], suc, length, IfOk, None, OnErr, false};
+ghost use Rattle.std.specs.Prelude.{◌≡◌, ◌<◌, ◌+◌, [], length, IfOk, None, OnErr, false};
 ghost use Rattle.gltf_paths.specs.Steps.{steps_of};
 ghost use Rattle.gltf_root.specs.RootTable.{root_kind};
 ghost use Rattle.gltf_root.specs.RootTrees.{root_tree};
@@ -41,6 +41,7 @@ impl<'a> Descent<'a> {
         frames.push(Frame {
             part: Part::Root(document),
             number: 0,
+            behind: None,
         });
         Descent {
             rules,
@@ -56,27 +57,31 @@ impl<'a> Descent<'a> {
         ensures next { IfOk result (λ error. IsNextOf self.old error self.new) }
         ensures full { OnErr result (16 < base_count self.old + 10) }
     {
-        while let Some(frame) = self.frames.pop() {
+        while let Some(mut frame) = self.frames.pop() {
             let context = Context {
                 rules: &self.rules,
                 root: self.root,
             };
-            match next_in(frame.part, frame.number, &context) {
+            match next_in(&mut frame, &context) {
                 Next::Done => {
                     let _ = self.steps.pop();
                 }
                 Next::Fault(error) => {
-                    self.frames.push(further(frame));
+                    self.frames.push(frame);
                     return Ok(Some(error));
                 }
                 Next::Down(step, part) => {
-                    self.frames.push(further(frame));
+                    self.frames.push(frame);
                     // Most of what a walk comes to is an index or a choice with nothing wrong.
                     if needs_frame(&part) {
                         if self.steps.is_full() {
                             return Err(StepsFull);
                         }
-                        self.frames.push(Frame { part, number: 0 });
+                        self.frames.push(Frame {
+                            part,
+                            number: 0,
+                            behind: None,
+                        });
                         self.steps.push(step);
                     }
                 }
@@ -147,16 +152,4 @@ fn needs_frame(part: &Part<'_>) -> bool
     ensures { result ≡ false → (context : _) → plan_of context part.now ≡ leaf None }
 {
     !matches!(part, Part::Leaf(None))
-}
-
-/// A frame at its next number.
-fn further(frame: Frame<'_>) -> Frame<'_>
-    requires { frame.number + 1 < 2 ^ 64 }
-    ensures part { result.part ≡ frame.entry.part }
-    ensures number { result.number ≡ frame.entry.number + 1 }
-{
-    Frame {
-        part: frame.part,
-        number: frame.number + 1,
-    }
 }

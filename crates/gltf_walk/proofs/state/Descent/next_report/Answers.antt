@@ -8,7 +8,7 @@ use Rattle.gltf_plans.specs.Plan.{height, leaf, weight}
 use Rattle.gltf_walk.specs.Stacks.{to_come_of}
 use Rattle.gltf_walk.specs.ToCome.{context_in}
 use Rattle.gltf_walk.proofs.Stacks.{told_by, weight_by, weight_move, weight_least}
-use Rattle.gltf_walk.proofs.Moves.{further_left, left_none, rest_height, down_height, popped_fits, pushed_fits, frames_weight, frames_length, over_goes, move_made, part_entered}
+use Rattle.gltf_walk.proofs.Moves.{left_one, begun_left, rest_height, down_height, popped_fits, pushed_fits, frames_weight, frames_length, over_goes, move_made, part_entered}
 use Rattle.gltf_walk.proofs.state.Descent.next_report.Goals as goal
 
 -- ---- a part that is over
@@ -49,7 +49,7 @@ invariant_of-self-in-Fault c =
     let context = context_in c.loop-frame.self in
     let e = c.in-Some.ensures.items in
     let low = popped_fits context _ _ c.in-Some.frame e c.loop-frame.self.fits in
-    let next = further_left context c.in-Some.frame c.further.result c.further.ensures.part c.further.ensures.number in
+    let next = c.in-Fault.ensures.left tt ∙ left_one (plan_left context c.in-Some.frame) in
     let deep = ap height next in
     record {
       fits = pushed_fits context _ _ _ c.push.ensures.items low.0 (omega (arith, low.1, deep, rest_height (plan_left context c.in-Some.frame)));
@@ -60,10 +60,10 @@ pub returns-in-Fault-clause-next : goal.returns-in-Fault-clause-next
 returns-in-Fault-clause-next c =
     let context = context_in c.loop-frame.self in
     let e = c.in-Some.ensures.items in
-    let next = further_left context c.in-Some.frame c.further.result c.further.ensures.part c.further.ensures.number in
+    let next = c.in-Fault.ensures.left tt ∙ left_one (plan_left context c.in-Some.frame) in
     let steps = map step_of c.loop-frame.self.steps.items in (
       c.loop-frame.invariant.same
-          ∙ (move_made context _ _ _ c.in-Some.frame c.further.result c.loop-frame.self.steps.items e c.push.ensures.items next c.loop-frame.self.beside
+          ∙ (move_made context _ _ _ c.in-Some.frame c.next_in.new.frame c.loop-frame.self.steps.items e c.push.ensures.items next c.loop-frame.self.beside
           ∙ ap (λ m. told_by m steps ++ to_come_of steps (plans_left context c.push.new.self.items)) (sym c.in-Fault.ensures.comes)),
       omega (arith, c.loop-frame.invariant.base, frames_length _ _ _ e, frames_length _ _ _ c.push.ensures.items),
     )
@@ -73,12 +73,11 @@ returns-in-Fault-clause-next c =
 pub loop-frame-smaller : goal.loop-frame-smaller
 loop-frame-smaller c =
     let context = context_in c.loop-frame.self in
-    let more = c.further-in-Down in
-    let next = ap weight (further_left context c.in-Some.frame more.result more.ensures.part more.ensures.number) in
+    let next = ap weight (c.in-Down.ensures.left tt ∙ left_one (plan_left context c.in-Some.frame)) in
     omega (
       arith,
       frames_weight context _ _ c.in-Some.frame c.in-Some.ensures.items,
-      frames_weight context _ _ more.result c.push-in-Down.ensures.items,
+      frames_weight context _ _ c.next_in.new.frame c.push-in-Down.ensures.items,
       next,
       weight_move (plan_left context c.in-Some.frame),
       ap weight_by c.in-Down.ensures.comes,
@@ -88,15 +87,14 @@ pub loop-frame-preserved : goal.loop-frame-preserved
 loop-frame-preserved c =
     let context = context_in c.loop-frame.self in
     let e = c.in-Some.ensures.items in
-    let more = c.further-in-Down in
     let d = c.push-in-Down.ensures.items in
-    let next = further_left context c.in-Some.frame more.result more.ensures.part more.ensures.number in
+    let next = c.in-Down.ensures.left tt ∙ left_one (plan_left context c.in-Some.frame) in
     let steps = map step_of c.loop-frame.self.steps.items in
     let clean : plan_of context c.in-Down.part ≡ leaf None = c.needs_frame.ensures c.if-needs_frame.false context in
     let comes = rw clean at c.in-Down.ensures.comes in
     record {
       same = c.loop-frame.invariant.same
-          ∙ (move_made context _ _ _ c.in-Some.frame more.result c.loop-frame.self.steps.items e d next c.loop-frame.self.beside
+          ∙ (move_made context _ _ _ c.in-Some.frame c.next_in.new.frame c.loop-frame.self.steps.items e d next c.loop-frame.self.beside
           ∙ ap (λ m. told_by m steps ++ to_come_of steps (plans_left context c.push-in-Down.new.self.items)) (sym comes));
       base = omega (arith, c.loop-frame.invariant.base, frames_length _ _ _ e, frames_length _ _ _ d);
     }
@@ -106,9 +104,8 @@ invariant_of-self-else-needs_frame c =
     let context = context_in c.loop-frame.self in
     let e = c.in-Some.ensures.items in
     let low = popped_fits context _ _ c.in-Some.frame e c.loop-frame.self.fits in
-    let more = c.further-in-Down in
     let d = c.push-in-Down.ensures.items in
-    let next = ap height (further_left context c.in-Some.frame more.result more.ensures.part more.ensures.number) in
+    let next = ap height (c.in-Down.ensures.left tt ∙ left_one (plan_left context c.in-Some.frame)) in
     record {
       fits = pushed_fits context _ _ _ d low.0 (omega (arith, low.1, next, rest_height (plan_left context c.in-Some.frame)));
       beside = omega (arith, c.loop-frame.self.beside, frames_length _ _ _ e, frames_length _ _ _ d);
@@ -127,9 +124,8 @@ invariant_of-self-then-is_full c =
     let context = context_in c.loop-frame.self in
     let e = c.in-Some.ensures.items in
     let low = popped_fits context _ _ c.in-Some.frame e c.loop-frame.self.fits in
-    let more = c.further-in-Down in
     let d = c.push-in-Down.ensures.items in
-    let next = ap height (further_left context c.in-Some.frame more.result more.ensures.part more.ensures.number) in
+    let next = ap height (c.in-Down.ensures.left tt ∙ left_one (plan_left context c.in-Some.frame)) in
     record {
       fits = pushed_fits context _ _ _ d low.0 (omega (arith, low.1, next, rest_height (plan_left context c.in-Some.frame)));
       beside = omega (arith, c.loop-frame.self.beside, frames_length _ _ _ e, frames_length _ _ _ d);
@@ -155,26 +151,24 @@ invariant_of-self-then-needs_frame c =
     let context = context_in c.loop-frame.self in
     let e = c.in-Some.ensures.items in
     let low = popped_fits context _ _ c.in-Some.frame e c.loop-frame.self.fits in
-    let more = c.further-in-Down in
     let d = c.push-in-Down.ensures.items in
-    let next = ap height (further_left context c.in-Some.frame more.result more.ensures.part more.ensures.number) in
+    let next = ap height (c.in-Down.ensures.left tt ∙ left_one (plan_left context c.in-Some.frame)) in
     let deep = down_height (plan_left context c.in-Some.frame) (plan_of context c.in-Down.part) (step_of c.in-Down.step) c.in-Down.ensures.comes in
     let moved = pushed_fits context _ _ _ d low.0 (omega (arith, low.1, next, rest_height (plan_left context c.in-Some.frame))) in
     record {
-      fits = pushed_fits context _ _ _ c.push-then-needs_frame.ensures.items moved (omega (arith, low.1, deep, frames_length _ _ _ d, ap height (left_none (plan_of context c.in-Down.part))));
+      fits = pushed_fits context _ _ _ c.push-then-needs_frame.ensures.items moved (omega (arith, low.1, deep, frames_length _ _ _ d, ap height (begun_left context c.in-Down.part)));
       beside = omega (arith, c.loop-frame.self.beside, frames_length _ _ _ e, frames_length _ _ _ d, frames_length _ _ _ c.push-then-needs_frame.ensures.items, c.push-then-needs_frame-2.ensures.len);
     }
 
 pub loop-frame-smaller-then-needs_frame : goal.loop-frame-smaller-then-needs_frame
 loop-frame-smaller-then-needs_frame c =
     let context = context_in c.loop-frame.self in
-    let more = c.further-in-Down in
-    let next = ap weight (further_left context c.in-Some.frame more.result more.ensures.part more.ensures.number) in
-    let child = ap weight (left_none (plan_of context c.in-Down.part)) in
+    let next = ap weight (c.in-Down.ensures.left tt ∙ left_one (plan_left context c.in-Some.frame)) in
+    let child = ap weight (begun_left context c.in-Down.part) in
     omega (
       arith,
       frames_weight context _ _ c.in-Some.frame c.in-Some.ensures.items,
-      frames_weight context _ _ more.result c.push-in-Down.ensures.items,
+      frames_weight context _ _ c.next_in.new.frame c.push-in-Down.ensures.items,
       frames_weight context _ _ _ c.push-then-needs_frame.ensures.items,
       next,
       child,
@@ -186,13 +180,12 @@ pub loop-frame-preserved-then-needs_frame : goal.loop-frame-preserved-then-needs
 loop-frame-preserved-then-needs_frame c =
     let context = context_in c.loop-frame.self in
     let e = c.in-Some.ensures.items in
-    let more = c.further-in-Down in
     let d = c.push-in-Down.ensures.items in
-    let next = further_left context c.in-Some.frame more.result more.ensures.part more.ensures.number in
+    let next = c.in-Down.ensures.left tt ∙ left_one (plan_left context c.in-Some.frame) in
     let steps = map step_of c.loop-frame.self.steps.items in
     record {
       same = c.loop-frame.invariant.same
-          ∙ (move_made context _ _ _ c.in-Some.frame more.result c.loop-frame.self.steps.items e d next c.loop-frame.self.beside
+          ∙ (move_made context _ _ _ c.in-Some.frame c.next_in.new.frame c.loop-frame.self.steps.items e d next c.loop-frame.self.beside
           ∙ (ap (λ m. told_by m steps ++ to_come_of steps (plans_left context c.push-in-Down.new.self.items)) (sym c.in-Down.ensures.comes)
           ∙ sym (part_entered context _ _ c.in-Down.part c.loop-frame.self.steps.items _ c.in-Down.step c.push-then-needs_frame.ensures.items c.push-then-needs_frame-2.ensures.items
           (omega (arith, frames_length _ _ _ d)) (omega (arith, c.loop-frame.self.beside, frames_length _ _ _ e, frames_length _ _ _ d)))));

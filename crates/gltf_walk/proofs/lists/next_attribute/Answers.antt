@@ -1,5 +1,5 @@
 -- The entry comes, and those behind it are left.
-use Rattle.std.proofs.Common.{◌≡◌, refl, ap, sym, ◌∙◌}
+use Rattle.std.proofs.Common.{refl}
 use Rattle.gltf_paths.specs.Indexes.{index_number}
 use Rattle.gltf_paths.specs.Lists.{ListName}
 use Rattle.gltf_root.specs.Lists.{count_in}

@@ -3,7 +3,6 @@
 
 mod built;
 mod clean;
-mod example;
 mod hostile;
 mod lists;
 mod made;

@@ -3,6 +3,7 @@
 
 mod built;
 mod clean;
+mod example;
 mod hostile;
 mod lists;
 mod made;

@@ -132,6 +132,25 @@ fn first_light_makes_its_extension(rt: HostRuntime) -> Result<(), Fail> {
     Ok(())
 }
 
+/// The text of a new document with a light.
+fn text_with_light(alloc: Global) -> Result<String, Fail> {
+    let root = new_with::<Light>(alloc, POINT)?;
+    Ok(root.to_string(alloc)?)
+}
+
+/// Whether the document that is read of that text has one light, and nothing is told of it.
+fn is_light_read_back(alloc: Global) -> Result<bool, Fail> {
+    let text = text_with_light(alloc)?;
+    let root = Root::from_str(alloc, text.as_str())?;
+    Ok(has_one::<Light>(&root) && has_lines(alloc, &root, ""))
+}
+
+#[test]
+fn pushed_lights_are_read_back(rt: HostRuntime) -> Result<(), Fail> {
+    assert!(rt; is_light_read_back(rt.alloc())?);
+    Ok(())
+}
+
 /// Whether a document that is read is written as a line with an item more.
 fn is_line_with<T: Schema + Debug>(
     alloc: Global,

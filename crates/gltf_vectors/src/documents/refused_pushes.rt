@@ -1,4 +1,4 @@
-//! Pushes onto lists that can't grow.
+//! Pushes onto lists that can't grow, and what refused pushes print.
 
 use super::NEW;
 use super::built::{ONE_LIGHT, POINT};
@@ -7,6 +7,7 @@ use crate::reading::object;
 use crate::writing::is_line;
 use gltf_json::extensions::scene::khr_lights_punctual::Light;
 use gltf_json::root::{Get, PushError};
+use gltf_json::validation::{CleanError, Error};
 use gltf_json::{Buffer, Index, Root, Schema};
 use std::alloc::{AllocError, Global};
 use std::fmt::Debug;
@@ -105,5 +106,21 @@ fn lights_without_memory(rt: HostRuntime) -> Result<(), Fail> {
 fn buffers_without_memory(rt: HostRuntime) -> Result<(), Fail> {
     let line = r#"{"asset":{"version":"2.0"},"buffers":[{"byteLength":1}]}"#;
     assert!(rt; refusal_count::<Buffer>(rt.alloc(), r#"{"byteLength":1}"#, line)? > 0);
+    Ok(())
+}
+
+/// Whether an error prints this text.
+fn is_shown<E: std::error::Error>(alloc: Global, error: E, text: &str) -> Result<bool, AllocError> {
+    Ok(format!(in alloc; "{error}")?.as_str() == text)
+}
+
+#[test]
+fn refused_pushes_are_printed(rt: HostRuntime) -> Result<(), Fail> {
+    let alloc = rt.alloc();
+    assert!(rt; is_shown(alloc, PushError::Full(7), "List is full")?);
+    assert!(rt; is_shown(alloc, PushError::Memory(7), "Out of memory")?);
+    assert!(rt; is_shown(alloc, CleanError::Full(7), "List is full")?);
+    assert!(rt; is_shown(alloc, CleanError::Memory(7), "Out of memory")?);
+    assert!(rt; is_shown(alloc, CleanError::Faulty(7, Error::Missing), "Missing data")?);
     Ok(())
 }

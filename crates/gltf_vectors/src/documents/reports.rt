@@ -23,7 +23,7 @@ const ANIMATIONS: &str =
 
 const NULL_CAMERA: &str = r#"{"asset":{"version":"2.0"},"nodes":[{"camera":null}]}"#;
 
-const CASES: [Case; 15] = [
+const CASES: [Case; 16] = [
     (WITHOUT_SOURCE, NO_SOURCE),
     (EMPTY_SOURCE, NO_SOURCE),
     (
@@ -35,6 +35,8 @@ const CASES: [Case; 15] = [
         ANIMATIONS,
         "animations[0].channels[0].sampler: Index out of bounds\nanimations[0].channels[0].target.node: Index out of bounds\nanimations[0].channels[0].target.path: Invalid value\n",
     ),
+    // The lists of an animation may be left out.
+    (r#"{"asset":{"version":"2.0"},"animations":[{}]}"#, ""),
     (SIX, SIX_LINES),
     (
         r#"{"asset":{"version":"2.0"},"cameras":[{"type":"foo"}]}"#,

@@ -1,0 +1,68 @@
+//! The example of `README.md`.
+
+use super::FAULTY;
+use gltf_json::Root;
+use gltf_json::path::Steps;
+use gltf_json::validation::{Count, Validate};
+use std::test::Fail;
+
+/// A document with a view of its buffer, in the lines that it is written in.
+const CLEAN: &str = r#"{
+  "accessors": [
+    {
+      "bufferView": 0,
+      "componentType": 5126,
+      "count": 1,
+      "type": "SCALAR"
+    }
+  ],
+  "asset": {
+    "version": "2.0"
+  },
+  "bufferViews": [
+    {
+      "buffer": 0,
+      "byteLength": 4
+    }
+  ],
+  "buffers": [
+    {
+      "byteLength": 4
+    }
+  ]
+}"#;
+
+/// Whether a document is clean, how long the view of its first accessor is, and its text.
+type Answer = (bool, Option<u64>, String);
+
+/// What the lines of the example answer. They stand here as they stand there.
+fn example(rt: HostRuntime, bytes: &[u8]) -> Result<Answer, gltf_json::Error> {
+    let root = Root::from_slice(rt.alloc(), bytes)?;
+    let mut count = Count::new();
+    let clean = root.validate(&root, &mut Steps::new(), &mut count).is_ok() && count.count() == 0;
+    let view = root
+        .accessors
+        .first()
+        .and_then(|accessor| root.get(accessor.buffer_view?));
+    let text = root.to_string_pretty(rt.alloc())?;
+    Ok((clean, view.map(|view| view.byte_length.0), text))
+}
+
+/// Whether the clean document is answered by its view and by itself.
+fn is_clean_answered(rt: HostRuntime) -> Result<bool, gltf_json::Error> {
+    let (clean, view, text) = example(rt, CLEAN.as_bytes())?;
+    Ok(clean && view == Some(4) && text.as_str() == CLEAN)
+}
+
+/// Whether a document with an accessor without a view is told from it.
+fn is_fault_answered(rt: HostRuntime) -> Result<bool, gltf_json::Error> {
+    let (clean, view, _) = example(rt, FAULTY.as_bytes())?;
+    Ok(!clean && view.is_none())
+}
+
+#[test]
+fn example_of_the_front_page(rt: HostRuntime) -> Result<(), Fail> {
+    assert!(rt; is_clean_answered(rt)?);
+    assert!(rt; is_fault_answered(rt)?);
+    Ok(())
+}

@@ -35,26 +35,15 @@ pub record IsWithin (bytes calls : ℕ) (seen : Seen) : Type 0 where
   pub short : seen.given ≤ bytes
   pub soon : seen.calls ≤ calls
 
--- a reader that was fresh gave too many bytes, or not its end in all its calls; none was made past them
+-- a reader that was fresh gave too many bytes, or not its end in all its calls
 pub record IsPastLimit (bytes calls : ℕ) (seen : Seen) : Type 0 where
   pub works : seen.has_failed ≡ false
-  pub soon : seen.calls ≤ calls
   pub past : (bytes < seen.given) ⊎ ((seen.calls ≡ calls) × (seen.has_ended ≡ false))
 
--- a reader that was fresh failed; no call was made past the limit
-pub record IsBroken (calls : ℕ) (seen : Seen) : Type 0 where
-  pub breaks : seen.has_failed ≡ true
-  pub soon : seen.calls ≤ calls
-
--- a reader that was fresh never failed; no call was made past the limit
-pub record IsWorking (calls : ℕ) (seen : Seen) : Type 0 where
-  pub works : seen.has_failed ≡ false
-  pub soon : seen.calls ≤ calls
-
--- why reading a reader that was fresh was given up
+-- why reading a reader that was fresh was given up: it failed, or memory was refused while it never failed, or a limit was passed
 abbrev pub IsCause : ℕ → ℕ → Seen → Error → Type 0
-IsCause bytes calls seen errors.Read = IsBroken calls seen
-IsCause bytes calls seen (errors.Memory e) = IsWorking calls seen
+IsCause bytes calls seen errors.Read = seen.has_failed ≡ true
+IsCause bytes calls seen (errors.Memory e) = seen.has_failed ≡ false
 IsCause bytes calls seen errors.TooLong = IsPastLimit bytes calls seen
 IsCause bytes calls seen _ = ⊥
 

@@ -60,8 +60,7 @@ pub trait ByteOut {
 
 /// All bytes that a reader gives up to its end, read 65536 at a time. `Read` comes where the reader
 /// fails; `TooLong` where it gives more than `most_bytes` bytes, or hasn't given its end in
-/// `most_calls` calls; `Memory` where memory was refused. Whatever the answer, no more than
-/// `most_calls` calls are made.
+/// `most_calls` calls; `Memory` where memory was refused.
 pub fn read_to_end<R: ByteIn>(
     alloc: Global,
     reader: &mut R,
@@ -71,6 +70,7 @@ pub fn read_to_end<R: ByteIn>(
     ensures all { IfOk result (λ bytes. IsReadToEnd (R.left reader.old) (R.left reader.new) bytes.items) }
     ensures within { IsFresh (R.seen reader.old) → OnOk result (IsWithin most_bytes most_calls (R.seen reader.new)) }
     ensures gave_up { IfErr result (λ e. GaveUp most_bytes most_calls (R.seen reader.old) (R.seen reader.new) e) }
+    ensures soon { (R.seen reader.new).calls ≤ (R.seen reader.old).calls + most_calls }
     ensures uncalled { most_calls ≡ 0 → reader.new ≡ reader.old }
 {
     let mut bytes = Vec::new(alloc);
@@ -93,6 +93,7 @@ fn fill<R: ByteIn>(
     ensures all { OnOk result (IsReadToEnd (R.left reader.old) (R.left reader.new) bytes.new.items) }
     ensures within { IsFresh (R.seen reader.old) → OnOk result (IsWithin most_bytes most_calls (R.seen reader.new)) }
     ensures gave_up { IfErr result (λ e. GaveUp most_bytes most_calls (R.seen reader.old) (R.seen reader.new) e) }
+    ensures soon { (R.seen reader.new).calls ≤ (R.seen reader.old).calls + most_calls }
     ensures uncalled { most_calls ≡ 0 → reader.new ≡ reader.old }
 {
     for _ in 0..most_calls {

@@ -84,7 +84,7 @@ pub IsReading-within : (bytes calls : ℕ) (seen : Seen) (due : Answer) (r : Res
 IsReading-within bytes calls seen due (Ok root) within h = within
 IsReading-within bytes calls seen due (Err Json) within h = within
 IsReading-within bytes calls seen due (Err Schema) within h = within
-IsReading-within bytes calls seen due (Err (Memory e)) within h = record { works = within.works; soon = within.soon }
+IsReading-within bytes calls seen due (Err (Memory e)) within h = within.works
 IsReading-within bytes calls seen due (Err Read) within h = absurd h
 IsReading-within bytes calls seen due (Err Write) within h = absurd h
 IsReading-within bytes calls seen due (Err TooLong) within h = absurd h

@@ -1,6 +1,6 @@
 //! Documents from values, texts, bytes and readers.
 
-ghost use Rattle.std.specs.Prelude.{◌≡◌, true, None, Err, IfOk, IfSome};
+ghost use Rattle.std.specs.Prelude.{◌≡◌, ◌≤◌, ◌+◌, true, None, Err, IfOk, IfSome};
 ghost use Rattle.serde_json.specs.Find.{as_object};
 ghost use Rattle.serde_json.specs.View.{view};
 ghost use Rattle.gltf_schema.specs.Outcome.{Reads};
@@ -61,6 +61,7 @@ impl Root {
     pub fn from_reader<R: ByteIn>(alloc: Global, reader: &mut R) -> Result<Root, Error>
         ensures told { IfSome (R.left reader.old) (λ bytes. IsReadAnswer (answer bytes) result) }
         ensures fresh { IsFresh (R.seen reader.old) → IsReading byte_limit call_limit (R.seen reader.new) result }
+        ensures soon { (R.seen reader.new).calls ≤ (R.seen reader.old).calls + call_limit }
         ensures plain { IfOk result (λ root. is_plain root_kind (root_tree root) ≡ true) }
     {
         Root::from_reader_within(alloc, reader, MOST_BYTES, MOST_CALLS)
@@ -79,6 +80,7 @@ impl Root {
     ) -> Result<Root, Error>
         ensures told { IfSome (R.left reader.old) (λ bytes. IsReadAnswer (answer bytes) result) }
         ensures fresh { IsFresh (R.seen reader.old) → IsReading bytes calls (R.seen reader.new) result }
+        ensures soon { (R.seen reader.new).calls ≤ (R.seen reader.old).calls + calls }
         ensures uncalled { calls ≡ 0 → reader.new ≡ reader.old }
         ensures plain { IfOk result (λ root. is_plain root_kind (root_tree root) ≡ true) }
     {

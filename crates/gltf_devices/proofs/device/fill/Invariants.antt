@@ -1,4 +1,4 @@
-use Rattle.std.proofs.Common.{◌≡◌, ◌<◌, ◌≤◌, false, length, vec_items}
+use Rattle.std.proofs.Common.{◌≡◌, ◌+◌, ◌<◌, ◌≤◌, false, length, vec_items}
 use Rattle.std.specs.Io.KnownBytes.{Consumes}
 use Rattle.gltf_devices.specs.Device.{IsFresh}
 use Rattle.gltf_devices.proofs.device.fill.Given as goal
@@ -12,5 +12,6 @@ invariant-loop g l = record {
   given : IsFresh (g.R.ByteIn.seen l.initial.reader) → (g.R.ByteIn.seen l.reader).given ≡ length (vec_items l.bytes);
   calls : IsFresh (g.R.ByteIn.seen l.initial.reader) → (g.R.ByteIn.seen l.reader).calls ≡ l.counter;
   going_on : IsFresh (g.R.ByteIn.seen l.initial.reader) → (g.R.ByteIn.seen l.reader).has_ended ≡ false;
+  soon : (g.R.ByteIn.seen l.reader).calls ≤ (g.R.ByteIn.seen l.initial.reader).calls + l.counter;
   uncalled : l.most_calls ≡ 0 → l.reader ≡ l.initial.reader;
 }

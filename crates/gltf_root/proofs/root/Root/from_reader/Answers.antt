@@ -7,5 +7,8 @@ returns-clause-told g c = c.from_reader_within.ensures.told
 pub returns-clause-fresh : goal.returns-clause-fresh
 returns-clause-fresh g c = c.from_reader_within.ensures.fresh
 
+pub returns-clause-soon : goal.returns-clause-soon
+returns-clause-soon g c = c.from_reader_within.ensures.soon
+
 pub returns-clause-plain : goal.returns-clause-plain
 returns-clause-plain g c = c.from_reader_within.ensures.plain

@@ -13,9 +13,9 @@ use Rattle.gltf_schema.specs.Kind.{Kind, IndexInto, SourceImage, ChannelSampler,
 use Rattle.gltf_root.specs.Lists.{count_in, sampler_count}
 use Rattle.gltf_sinks.specs.Report.{From, Report, report}
 use Rattle.gltf_faults.specs.Context.{Context}
-use Rattle.gltf_faults.specs.Faults.{report_if, number_faults, index_faults, source_faults, stride_faults, choice_faults, key_faults, entries_faults}
-use Rattle.gltf_faults.specs.Reports.{animation_below, items_reports, reports, member_reports}
-use Rattle.gltf_faults.specs.Rules.{is_positions, accessor_min, accessor_max, root_extensions_required, primitive_attributes, bound_faults, bounds_faults, positions_faults, extension_faults, extensions_faults, rule, object_faults}
+use Rattle.gltf_faults.specs.Faults.{report_if, number_faults, index_faults, source_faults, stride_faults, choice_faults, key_faults, entries_faults, items_reports}
+use Rattle.gltf_faults.specs.Reports.{animation_below, reports, member_reports}
+use Rattle.gltf_faults.specs.Rules.{is_positions, accessor_min, accessor_max, root_extensions_required, primitive_attributes, bound_faults, bounds_faults, positions_faults, extension_faults, rule, object_faults}
 
 -- reports that are wrong in the same ways, in the same order
 pub data SameErrors : List Report → List Report → Type 0 where
@@ -66,6 +66,11 @@ entries_same count (e ∷ es) a b =
     let step = key (key_text e.0) ∷ [] in
     then (then (key_same e.0 (a ++ step) (b ++ step)) (if_same _ _ (a ++ step) (b ++ step))) (entries_same count es a b)
 
+items_same : (f : Tree → From) → ((t : Tree) (a b : List Step) → SameErrors (f t a) (f t b)) → (i : ℕ) (ts : Trees) (a b : List Step)
+    → SameErrors (items_reports f i ts a) (items_reports f i ts b)
+items_same f each i end a b = nothing
+items_same f each i (with_tree t ts) a b = then (each t (a ++ item i ∷ []) (b ++ item i ∷ [])) (items_same f each (suc i) ts a b)
+
 -- ---- the rules
 
 bound_same : (t : Tree) (a b : List Step) → SameErrors (bound_faults t a) (bound_faults t b)
@@ -88,11 +93,6 @@ extension_same : (enabled : List (List ℕ)) (t : Tree) (a b : List Step) → Sa
 extension_same enabled (tree.text s) a b = if_same _ _ (a ++ value s ∷ []) (b ++ value s ∷ [])
 extension_same enabled t a b = nothing
 
-extensions_same : (enabled : List (List ℕ)) (i : ℕ) (ts : Trees) (a b : List Step) → SameErrors (extensions_faults enabled i ts a) (extensions_faults enabled i ts b)
-extensions_same enabled i end a b = nothing
-extensions_same enabled i (with_tree t ts) a b =
-    then (extension_same enabled t (a ++ item i ∷ []) (b ++ item i ∷ [])) (extensions_same enabled (suc i) ts a b)
-
 rule_same : (of : ObjectName) (ts : Trees) (context : Context) (a b : List Step) → SameErrors (rule of ts context a) (rule of ts context b)
 rule_same ObjectName.accessor ts context a b = if_same _ _ (a ++ field (codes "bufferView") ∷ []) (b ++ field (codes "bufferView") ∷ [])
 rule_same ObjectName.camera ts context a b = if_same _ _ a b
@@ -103,7 +103,7 @@ rule_same ObjectName.primitive ts context a b =
     positions_same (lookup is_positions (entries_in (primitive_attributes ts))) context.root ((a ++ attributes) ++ position) ((b ++ attributes) ++ position)
 rule_same ObjectName.root ts context a b =
     let required = field (codes "extensionsRequired") ∷ [] in
-    extensions_same context.rules.enabled 0 (items_in (root_extensions_required ts)) (a ++ required) (b ++ required)
+    items_same (extension_faults context.rules.enabled) (extension_same context.rules.enabled) 0 (items_in (root_extensions_required ts)) (a ++ required) (b ++ required)
 rule_same of ts context a b = nothing
 
 object_same : (of : ObjectName) (t : Tree) (context : Context) (a b : List Step) → SameErrors (object_faults t of context a) (object_faults t of context b)
@@ -111,11 +111,6 @@ object_same of (tree.object ts others) context a b = rule_same of ts context a b
 object_same of t context a b = nothing
 
 -- ---- a whole tree
-
-items_same : (f : Tree → From) → ((t : Tree) (a b : List Step) → SameErrors (f t a) (f t b)) → (i : ℕ) (ts : Trees) (a b : List Step)
-    → SameErrors (items_reports f i ts a) (items_reports f i ts b)
-items_same f each i end a b = nothing
-items_same f each i (with_tree t ts) a b = then (each t (a ++ item i ∷ []) (b ++ item i ∷ [])) (items_same f each (suc i) ts a b)
 
 mutual
   -- the law, at every kind

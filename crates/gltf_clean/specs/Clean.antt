@@ -7,25 +7,24 @@ use Rattle.gltf_schema.specs.Tree.{Tree}
 use Rattle.gltf_sinks.specs.Report.{Report, first_error}
 use Rattle.gltf_root.specs.Lists.{count_in}
 use Rattle.gltf_root.specs.Pushed.{pushed, item_kind, item_place}
-use Rattle.gltf_root.specs.RootTable.{root_kind}
 use Rattle.gltf_faults.specs.Context.{Rules}
-use Rattle.gltf_faults.specs.Reports.{reports_by_rules}
+use Rattle.gltf_faults.specs.Reports.{document_reports, reports_by_rules}
 use Rattle.gltf_clean.specs.NoItems.{none-prop}
 use Rattle.gltf_clean.specs.declared.keeping.CleanError.{CleanError}
 use Rattle.gltf_clean.specs.declared.keeping.CleanError.TheVariants.{Full, Memory, Faulty}
 
 -- a document has no report by rules, against itself
 abbrev pub IsClean : Rules → Tree → Type 0
-IsClean rules root = reports_by_rules rules root_kind root root [] ≡ []
+IsClean rules root = document_reports rules root ≡ []
 
 pub IsClean-prop : (rules : Rules) (root : Tree) → IsProp (IsClean rules root)
-IsClean-prop rules root = none-prop (reports_by_rules rules root_kind root root [])
+IsClean-prop rules root = none-prop (document_reports rules root)
 
 -- what is wrong with an item that is pushed onto a list of a document: at its place, in the document with the item
 abbrev pub item_reports : Rules → ListName → Tree → Tree → List Report
 item_reports rules named x root = reports_by_rules rules (item_kind named) x (pushed named x root) (item_place named (count_in named root))
 
--- a list has as many items as there are indexes; a list has room
+-- a list has 2^32 - 1 items or more; a list has room
 abbrev pub IsFull : ListName → Tree → Type 0
 IsFull named root = 2 ^ 32 - 1 ≤ count_in named root
 

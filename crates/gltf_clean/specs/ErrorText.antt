@@ -1,11 +1,13 @@
 -- What an error of a push prints.
-use Rattle.std.specs.Prelude.{ℕ, List, codes}
+use Rattle.std.specs.Prelude.{ℕ, List}
 use Rattle.gltf_paths.specs.Errors.{error_text}
+use Rattle.gltf_paths.specs.Pushes.{push_error_text}
+use Rattle.gltf_paths.specs.declared.index.PushError.TheVariants as pushes
 use Rattle.gltf_clean.specs.declared.keeping.CleanError.{CleanError}
 use Rattle.gltf_clean.specs.declared.keeping.CleanError.TheVariants.{Full, Memory, Faulty}
 
--- of a faulty item it is what is wrong first
+-- what the error of any refused push prints, and of a faulty item what is wrong first
 abbrev pub clean_error_text : {X : Type 0} → CleanError X → List ℕ
-clean_error_text (Full x) = codes "List is full"
-clean_error_text (Memory x) = codes "Out of memory"
+clean_error_text (Full x) = push_error_text (pushes.Full x)
+clean_error_text (Memory x) = push_error_text (pushes.Memory x)
 clean_error_text (Faulty x error) = error_text error

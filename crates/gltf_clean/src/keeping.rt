@@ -20,7 +20,7 @@ use std::fmt::{self, Debug, Display, Formatter, Write};
 /// Why an item was not pushed; each kind hands it back.
 #[derive(Debug, Drop)]
 pub enum CleanError<T> {
-    /// The list has as many items as there are indexes.
+    /// The list has 4294967295 items or more.
     Full(T),
     /// There was no memory for one item more.
     Memory(T),
@@ -35,8 +35,8 @@ impl<T> Display for CleanError<T> {
 
     fn fmt<W: Write>(&self, f: &mut Formatter<W>) -> fmt::Result {
         match self {
-            CleanError::Full(_) => f.write_str("List is full"),
-            CleanError::Memory(_) => f.write_str("Out of memory"),
+            CleanError::Full(_) => Display::fmt(&PushError::Full(()), f),
+            CleanError::Memory(_) => Display::fmt(&PushError::Memory(()), f),
             CleanError::Faulty(_, error) => Display::fmt(error, f),
         }
     }

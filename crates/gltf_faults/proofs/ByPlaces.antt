@@ -12,9 +12,9 @@ use Rattle.gltf_schema.specs.Kind.{Kind, IndexInto, SourceImage, ChannelSampler,
 use Rattle.gltf_root.specs.Lists.{count_in}
 use Rattle.gltf_sinks.specs.Report.{From}
 use Rattle.gltf_faults.specs.Context.{Rules, Context, under}
-use Rattle.gltf_faults.specs.Faults.{choice_faults, key_faults, entries_faults}
+use Rattle.gltf_faults.specs.Faults.{choice_faults, key_faults, entries_faults, items_reports}
 use Rattle.gltf_faults.specs.Rules.{object_faults}
-use Rattle.gltf_faults.specs.Reports.{animation_below, items_reports, reports, member_reports, reports_by_rules}
+use Rattle.gltf_faults.specs.Reports.{animation_below, reports, member_reports, reports_by_rules}
 use Rattle.gltf_faults.specs.Places.{Place, place_of, object_place, key_kind, key_tree, entry_places, item_places, places, member_places, kind_faults, faults, reports_by_places}
 use Rattle.gltf_faults.proofs.Joining.{joined}
 

@@ -9,12 +9,13 @@ use Rattle.gltf_paths.specs.declared.validation.Error.TheVariants.{IndexOutOfBou
 use Rattle.gltf_schema.specs.Tree as tree
 use Rattle.gltf_schema.specs.Tree.{Tree, absent, Trees, end, with_tree, items_in, members_in, entries_in}
 use Rattle.gltf_schema.specs.Kind.{Kind, IndexInto, SourceImage, ChannelSampler, U32, U64, Stride, Number, Numbers, Text, Truth, Any, Choice, Attributes, ListOf, Object, Rows, no_rows, row}
+use Rattle.gltf_textures.specs.TextureTable.{no_image}
 use Rattle.gltf_root.specs.Lists.{count_in, sampler_count}
 use Rattle.gltf_sinks.specs.Report.{From, report}
 use Rattle.gltf_faults.specs.Context.{Context}
-use Rattle.gltf_faults.specs.Faults.{report_if, number_faults, index_faults, source_faults, choice_faults, key_faults, entries_faults}
+use Rattle.gltf_faults.specs.Faults.{report_if, number_faults, index_faults, source_faults, choice_faults, key_faults, entries_faults, items_reports}
 use Rattle.gltf_faults.specs.Rules.{object_faults}
-use Rattle.gltf_faults.specs.Reports.{animation_below, items_reports, reports, member_reports}
+use Rattle.gltf_faults.specs.Reports.{animation_below, reports, member_reports}
 use Rattle.gltf_faults.specs.Closed.{NamesItem, NamesImage, IsListed, IsKnown, EntriesClosed, EachTree, IsClosed, MembersClosed}
 
 pub first_none : {A : Type 0} (xs ys : List A) → xs ++ ys ≡ [] → xs ≡ []
@@ -47,7 +48,7 @@ index_named count (tree.list ts) base h = tt
 index_named count (tree.attributes es) base h = tt
 index_named count (tree.object ts others) base h = tt
 
-source_at : (may_be_empty is_none : Bool) (count n : ℕ) (base : List Step) → nat_eq n 4294967295 ≡ is_none
+source_at : (may_be_empty is_none : Bool) (count n : ℕ) (base : List Step) → nat_eq n no_image ≡ is_none
     → cond is_none (report_if (not may_be_empty) Missing base) (number_faults count n base) ≡ [] → NamesImage may_be_empty count (tree.index n)
 source_at true true count n base is h = inl (refl, ap (λ m. tree.index m) (eqb-true _ _ is))
 source_at false true count n base is h = absurd cc

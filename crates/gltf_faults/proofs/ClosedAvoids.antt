@@ -9,7 +9,7 @@ use Rattle.gltf_schema.specs.Kind.{Kind, IndexInto, SourceImage, Attributes, Lis
 use Rattle.gltf_data.specs.AccessorTable.{sparse_indices_rows, sparse_values_rows, sparse_rows, accessor_rows}
 use Rattle.gltf_data.specs.BufferTable.{buffer_rows, view_rows}
 use Rattle.gltf_data.specs.ImageTable.{image_rows}
-use Rattle.gltf_textures.specs.TextureTable.{sampler_rows, texture_rows, texture_transform_rows, info_extension_rows, info_rows}
+use Rattle.gltf_textures.specs.TextureTable.{no_image, sampler_rows, texture_rows, texture_transform_rows, info_extension_rows, info_rows}
 use Rattle.gltf_shading.specs.MaterialExtensionTable.{pbr_specular_glossiness_rows, transmission_rows, volume_rows, specular_rows, ior_rows, emissive_strength_rows, material_extension_rows}
 use Rattle.gltf_materials.specs.MaterialTable.{pbr_metallic_roughness_rows, normal_texture_rows, occlusion_texture_rows, material_rows}
 use Rattle.gltf_meshes.specs.MeshTable.{variant_mapping_rows, variant_mappings_rows, primitive_extension_rows, morph_target_rows, primitive_rows, mesh_rows}
@@ -77,7 +77,7 @@ module _ (named : ListName) (context : Context) where
 
   source_apart : (may_be_empty : Bool) (t : Tree) → NamesImage may_be_empty (count_in ListName.images context.root) t → ListName.images ≡ named
       → SourceAvoids (count_in named context.root) t
-  source_apart may_be_empty (tree.index n) (inl h) is = λ image. absurd (image (same_number n 4294967295 h.1))
+  source_apart may_be_empty (tree.index n) (inl h) is = λ image. absurd (image (same_number n no_image h.1))
   source_apart may_be_empty (tree.index n) (inr h) is = λ image. number_apart ListName.images n h is
   source_apart may_be_empty t h is = tt
 

@@ -13,7 +13,7 @@ use Rattle.gltf_schema.specs.Tree.{Tree, absent, Trees, end, with_tree, tree_at,
 use Rattle.gltf_schema.specs.Fields.{closed_object}
 use Rattle.gltf_schema.specs.Kind.{required, Kind, ListOf, Rows, no_rows, row}
 use Rattle.gltf_nodes.specs.LightTable.{light_kind, variant_kind}
-use Rattle.gltf_root.specs.Lists.{list_at, list_in, count_in, row_of}
+use Rattle.gltf_root.specs.Lists.{lights_row, variants_row, listed_row, list_at, list_in, count_in, row_of}
 use Rattle.gltf_root.specs.Pushed.{list_steps, item_place, item_kind}
 use Rattle.gltf_root.specs.RootExtensionTable.{lights_rows, lights_kind, variants_rows, variants_kind, root_extension_rows, root_extensions_kind}
 use Rattle.gltf_root.specs.RootExtensionTrees.{root_extensions, root_extension_members, lights_members, variants_members}
@@ -25,7 +25,8 @@ use Rattle.gltf_root.specs.declared.extensions.root.KhrLightsPunctual.{KhrLights
 use Rattle.gltf_root.specs.declared.extensions.root.KhrMaterialsVariants.{KhrMaterialsVariants}
 use Rattle.gltf_sinks.specs.Report.{From, Report}
 use Rattle.gltf_faults.specs.Context.{Context}
-use Rattle.gltf_faults.specs.Reports.{items_reports, reports, member_reports}
+use Rattle.gltf_faults.specs.Faults.{items_reports}
+use Rattle.gltf_faults.specs.Reports.{reports, member_reports}
 use Rattle.gltf_faults.specs.RowNames.{name_at}
 use Rattle.gltf_faults.specs.Rules.{root_rule}
 use Rattle.gltf_faults.proofs.Inserting.{kind_at}
@@ -133,41 +134,41 @@ one_elsewhere name kind ts context base =
     both_elsewhere path (rs ++ []) [] (both_elsewhere path rs [] (list_elsewhere kind ts context absent at) (none_elsewhere path)) (none_elsewhere path)
 
 lights_inside : (context : Context) (found : Option KhrLightsPunctual)
-    → AllElsewhere (item_place ListName.lights (count_of (list_at 0 (tree_or_absent (λ v. closed_object (lights_members v)) found))))
+    → AllElsewhere (item_place ListName.lights (count_of (list_at listed_row (tree_or_absent (λ v. closed_object (lights_members v)) found))))
     (reports lights_kind (tree_or_absent (λ v. closed_object (lights_members v)) found) context absent in_lights)
 unfolding lights_members lights_rows
 lights_inside context None = none_elsewhere (item_place ListName.lights 0)
-lights_inside context (Some v) = one_elsewhere (codes "lights") light_kind (list_at 0 (closed_object (lights_members v))) context in_lights
+lights_inside context (Some v) = one_elsewhere (codes "lights") light_kind (list_at listed_row (closed_object (lights_members v))) context in_lights
 
 variants_inside : (context : Context) (found : Option KhrMaterialsVariants)
-    → AllElsewhere (item_place ListName.variants (count_of (list_at 0 (tree_or_absent (λ v. closed_object (variants_members v)) found))))
+    → AllElsewhere (item_place ListName.variants (count_of (list_at listed_row (tree_or_absent (λ v. closed_object (variants_members v)) found))))
     (reports variants_kind (tree_or_absent (λ v. closed_object (variants_members v)) found) context absent in_variants)
 unfolding variants_members variants_rows
 variants_inside context None = none_elsewhere (item_place ListName.variants 0)
-variants_inside context (Some v) = one_elsewhere (codes "variants") variant_kind (list_at 0 (closed_object (variants_members v))) context in_variants
+variants_inside context (Some v) = one_elsewhere (codes "variants") variant_kind (list_at listed_row (closed_object (variants_members v))) context in_variants
 
 lights_elsewhere : (context : Context) (found : Option RootExtensions)
-    → AllElsewhere (item_place ListName.lights (count_of (list_at 0 (tree_at 0 (members_in (tree_or_absent root_extensions found))))))
+    → AllElsewhere (item_place ListName.lights (count_of (list_at listed_row (tree_at lights_row (members_in (tree_or_absent root_extensions found))))))
     (reports root_extensions_kind (tree_or_absent root_extensions found) context absent in_extensions)
 unfolding root_extension_members root_extension_rows
 lights_elsewhere context None = none_elsewhere (item_place ListName.lights 0)
 lights_elsewhere context (Some e) =
-    let n = count_of (list_at 0 (tree_at 0 (root_extension_members e))) in
+    let n = count_of (list_at listed_row (tree_at lights_row (root_extension_members e))) in
     let path = item_place ListName.lights n in
     both_elsewhere path (member_reports (root_extension_members e) root_extension_rows context absent in_extensions) []
-    (members_elsewhere context absent in_extensions (codes "KHR_lights_punctual") (field (codes "lights") ∷ item n ∷ []) 0 (root_extension_members e) root_extension_rows refl (lights_inside context e.khr_lights_punctual))
+    (members_elsewhere context absent in_extensions (codes "KHR_lights_punctual") (field (codes "lights") ∷ item n ∷ []) lights_row (root_extension_members e) root_extension_rows refl (lights_inside context e.khr_lights_punctual))
     (none_elsewhere path)
 
 variants_elsewhere : (context : Context) (found : Option RootExtensions)
-    → AllElsewhere (item_place ListName.variants (count_of (list_at 0 (tree_at 1 (members_in (tree_or_absent root_extensions found))))))
+    → AllElsewhere (item_place ListName.variants (count_of (list_at listed_row (tree_at variants_row (members_in (tree_or_absent root_extensions found))))))
     (reports root_extensions_kind (tree_or_absent root_extensions found) context absent in_extensions)
 unfolding root_extension_members root_extension_rows
 variants_elsewhere context None = none_elsewhere (item_place ListName.variants 0)
 variants_elsewhere context (Some e) =
-    let n = count_of (list_at 0 (tree_at 1 (root_extension_members e))) in
+    let n = count_of (list_at listed_row (tree_at variants_row (root_extension_members e))) in
     let path = item_place ListName.variants n in
     both_elsewhere path (member_reports (root_extension_members e) root_extension_rows context absent in_extensions) []
-    (members_elsewhere context absent in_extensions (codes "KHR_materials_variants") (field (codes "variants") ∷ item n ∷ []) 1 (root_extension_members e) root_extension_rows refl (variants_inside context e.khr_materials_variants))
+    (members_elsewhere context absent in_extensions (codes "KHR_materials_variants") (field (codes "variants") ∷ item n ∷ []) variants_row (root_extension_members e) root_extension_rows refl (variants_inside context e.khr_materials_variants))
     (none_elsewhere path)
 
 -- ---- any list of a document

@@ -3,7 +3,7 @@ use Rattle.std.proofs.Common.{◌≡◌, ◌≢◌, ◌⊎◌, ℕ, zero, suc, i
 use Rattle.gltf_paths.specs.Lists.{ListName}
 use Rattle.gltf_schema.specs.Tree.{Tree, list, Trees, end, with_tree, tree_at, tree_or_absent, members_in}
 use Rattle.gltf_schema.specs.Fields.{closed_object}
-use Rattle.gltf_root.specs.Lists.{list_at, list_in, row_of}
+use Rattle.gltf_root.specs.Lists.{lights_row, variants_row, listed_row, list_at, list_in, row_of}
 use Rattle.gltf_root.specs.Pushed.{with_last, with_extension_list, with_extended_list, row_listed, pushed}
 use Rattle.gltf_root.specs.RootExtensionTrees.{root_extensions, root_extension_members, lights_members, variants_members}
 use Rattle.gltf_root.specs.RootTrees.{put_at, root_members, root_tree}
@@ -14,41 +14,41 @@ use Rattle.gltf_root.specs.declared.extensions.root.Root.{Root as RootExtensions
 
 -- an extension object with another item in its list, and extensions with the one at a number so
 abbrev pub with_extension_item : Tree → Tree → Tree
-with_extension_item x extension = with_extension_list (with_last x (list_at 0 extension)) extension
+with_extension_item x extension = with_extension_list (with_last x (list_at listed_row extension)) extension
 
 abbrev pub with_extended_item : ℕ → Tree → Tree → Tree
-with_extended_item n x extensions = with_extended_list n (with_last x (list_at 0 (tree_at n (members_in extensions)))) extensions
+with_extended_item n x extensions = with_extended_list n (with_last x (list_at listed_row (tree_at n (members_in extensions)))) extensions
 
 -- an extension object of one list, which may be missing
 one_longer : {V : Type 0} (x : Tree) (items : V → Trees) (found : Option V)
-    → list_at 0 (with_extension_item x (tree_or_absent (λ v. closed_object (with_tree (list (items v)) end)) found))
-    ≡ with_last x (list_at 0 (tree_or_absent (λ v. closed_object (with_tree (list (items v)) end)) found))
+    → list_at listed_row (with_extension_item x (tree_or_absent (λ v. closed_object (with_tree (list (items v)) end)) found))
+    ≡ with_last x (list_at listed_row (tree_or_absent (λ v. closed_object (with_tree (list (items v)) end)) found))
 one_longer x items None = refl
 one_longer x items (Some v) = refl
 
 lights_extended : (x : Tree) (found : Option RootExtensions)
-    → list_at 0 (tree_at 0 (members_in (with_extended_item 0 x (tree_or_absent root_extensions found))))
-    ≡ with_last x (list_at 0 (tree_at 0 (members_in (tree_or_absent root_extensions found))))
+    → list_at listed_row (tree_at lights_row (members_in (with_extended_item lights_row x (tree_or_absent root_extensions found))))
+    ≡ with_last x (list_at listed_row (tree_at lights_row (members_in (tree_or_absent root_extensions found))))
 unfolding root_extension_members lights_members
 lights_extended x None = refl
-lights_extended x (Some e) = one_longer x (λ v. list_at 0 (closed_object (lights_members v))) e.khr_lights_punctual
+lights_extended x (Some e) = one_longer x (λ v. list_at listed_row (closed_object (lights_members v))) e.khr_lights_punctual
 
 variants_extended : (x : Tree) (found : Option RootExtensions)
-    → list_at 0 (tree_at 1 (members_in (with_extended_item 1 x (tree_or_absent root_extensions found))))
-    ≡ with_last x (list_at 0 (tree_at 1 (members_in (tree_or_absent root_extensions found))))
+    → list_at listed_row (tree_at variants_row (members_in (with_extended_item variants_row x (tree_or_absent root_extensions found))))
+    ≡ with_last x (list_at listed_row (tree_at variants_row (members_in (tree_or_absent root_extensions found))))
 unfolding root_extension_members variants_members
 variants_extended x None = refl
-variants_extended x (Some e) = one_longer x (λ v. list_at 0 (closed_object (variants_members v))) e.khr_materials_variants
+variants_extended x (Some e) = one_longer x (λ v. list_at listed_row (closed_object (variants_members v))) e.khr_materials_variants
 
 -- each leaves the other as it was
 lights_kept : (x : Tree) (found : Option RootExtensions)
-    → list_at 0 (tree_at 0 (members_in (with_extended_item 1 x (tree_or_absent root_extensions found)))) ≡ list_at 0 (tree_at 0 (members_in (tree_or_absent root_extensions found)))
+    → list_at listed_row (tree_at lights_row (members_in (with_extended_item variants_row x (tree_or_absent root_extensions found)))) ≡ list_at listed_row (tree_at lights_row (members_in (tree_or_absent root_extensions found)))
 unfolding root_extension_members
 lights_kept x None = refl
 lights_kept x (Some e) = refl
 
 variants_kept : (x : Tree) (found : Option RootExtensions)
-    → list_at 0 (tree_at 1 (members_in (with_extended_item 0 x (tree_or_absent root_extensions found)))) ≡ list_at 0 (tree_at 1 (members_in (tree_or_absent root_extensions found)))
+    → list_at listed_row (tree_at variants_row (members_in (with_extended_item lights_row x (tree_or_absent root_extensions found)))) ≡ list_at listed_row (tree_at variants_row (members_in (tree_or_absent root_extensions found)))
 unfolding root_extension_members
 variants_kept x None = refl
 variants_kept x (Some e) = refl

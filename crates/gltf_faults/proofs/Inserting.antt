@@ -10,7 +10,8 @@ use Rattle.gltf_root.specs.RootTrees.{put_at}
 use Rattle.gltf_sinks.specs.Report.{From, Report}
 use Rattle.gltf_faults.specs.Context.{Context}
 use Rattle.gltf_faults.specs.Inserted.{IsInserted}
-use Rattle.gltf_faults.specs.Reports.{items_reports, reports, member_reports}
+use Rattle.gltf_faults.specs.Faults.{items_reports}
+use Rattle.gltf_faults.specs.Reports.{reports, member_reports}
 use Rattle.gltf_faults.specs.RowNames.{name_at}
 
 at_end : {A : Type 0} (old new : List A) → IsInserted old new (old ++ new)

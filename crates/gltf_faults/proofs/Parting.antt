@@ -17,7 +17,7 @@ use Rattle.gltf_sinks.specs.Report.{Report}
 use Rattle.gltf_faults.specs.Context.{Rules, under}
 use Rattle.gltf_faults.specs.Inserted.{IsInserted}
 use Rattle.gltf_faults.specs.Naming.{Avoids}
-use Rattle.gltf_faults.specs.Reports.{reports_by_rules}
+use Rattle.gltf_faults.specs.Reports.{document_reports, reports_by_rules}
 use Rattle.gltf_faults.specs.Standing.{same_step, begin_with, is_below}
 use Rattle.gltf_faults.proofs.CleanIsClosed.{first_none, second_none}
 use Rattle.gltf_faults.proofs.Elsewhere.{StandsElsewhere, root_elsewhere}
@@ -101,13 +101,13 @@ parts {A} p {old} {new} {whole} h own others =
 -- what stands at the item's place is the item's, and the rest is what there was
 pub parted_by_place : (rules : Rules) (named : ListName) (x : Tree) (r : Root) → Avoids named (count_in named (root_tree r)) root_kind (root_tree r)
     → let n = count_in named (root_tree r) in let new = pushed named x (root_tree r) in
-    (filter (is_below (item_place named n)) (reports_by_rules rules root_kind new new []) ≡ reports_by_rules rules (item_kind named) x new (item_place named n))
-    × (filter (λ q. not (is_below (item_place named n) q)) (reports_by_rules rules root_kind new new []) ≡ reports_by_rules rules root_kind (root_tree r) (root_tree r) [])
+    (filter (is_below (item_place named n)) (document_reports rules new) ≡ reports_by_rules rules (item_kind named) x new (item_place named n))
+    × (filter (λ q. not (is_below (item_place named n) q)) (document_reports rules new) ≡ document_reports rules (root_tree r))
 parted_by_place rules named x r off =
     let place = item_place named (count_in named (root_tree r)) in
     let new = pushed named x (root_tree r) in
     let own = reports_by_rules rules (item_kind named) x new place in
-    let others = reports_by_rules rules root_kind (root_tree r) (root_tree r) [] in
+    let others = document_reports rules (root_tree r) in
     parts (is_below place) (inserted rules named x r off)
     (All-weaker (StandsBelow place) (λ q. is_below place q ≡ true) (told_below place) own (reports_below (item_kind named) x (under rules new) absent place))
     (All-weaker (StandsElsewhere place) (λ q. is_below place q ≡ false) (told_elsewhere place) others (root_elsewhere named r (under rules (root_tree r))))

@@ -7,16 +7,17 @@ use Rattle.gltf_paths.specs.Lists.{ListName}
 use Rattle.gltf_paths.specs.Steps.{Step, field, item, key}
 use Rattle.gltf_paths.specs.declared.validation.Error.TheVariants.{Missing}
 use Rattle.gltf_schema.specs.Tree as tree
-use Rattle.gltf_schema.specs.Tree.{Tree, absent, Trees, end, with_tree, tree_at, count_of, items_in, members_in, entries_in}
+use Rattle.gltf_schema.specs.Tree.{Tree, Trees, end, with_tree, tree_at, count_of, items_in, members_in, entries_in}
 use Rattle.gltf_schema.specs.Kind.{Kind, IndexInto, SourceImage, Attributes, ListOf, Object, ObjectName, Rows, no_rows, row}
+use Rattle.gltf_textures.specs.TextureTable.{no_image}
 use Rattle.gltf_root.specs.Lists.{list_in, count_in}
 use Rattle.gltf_root.specs.Pushed.{with_last}
 use Rattle.gltf_sinks.specs.Report.{From, Report}
 use Rattle.gltf_faults.specs.Closed.{EachTree}
 use Rattle.gltf_faults.specs.Context.{Rules, under}
-use Rattle.gltf_faults.specs.Faults.{report_if, number_faults, index_faults, source_faults, key_faults, entries_faults}
+use Rattle.gltf_faults.specs.Faults.{report_if, number_faults, index_faults, source_faults, key_faults, entries_faults, items_reports}
 use Rattle.gltf_faults.specs.Naming.{IndexAvoids, SourceAvoids, EntriesAvoid, RuleAvoids, Avoids, MembersAvoid}
-use Rattle.gltf_faults.specs.Reports.{animation_below, items_reports, reports, member_reports}
+use Rattle.gltf_faults.specs.Reports.{animation_below, reports, member_reports}
 use Rattle.gltf_faults.specs.Rules.{is_positions, bounds_faults, positions_faults, primitive_attributes, rule, object_faults}
 use Rattle.gltf_faults.proofs.Growing.{GrowsAt, Grows}
 use Rattle.gltf_faults.proofs.Joining.{joined}
@@ -36,7 +37,7 @@ below_next : (n count : ℕ) → n ≢ count → (n < count) ⊎ (count ≤ n) �
 below_next n count off (inl l) = rw (lt-ltb n count l, lt-ltb n (suc count) (omega (arith, l))) refl
 below_next n count off (inr l) = rw (le-ltb n count l, le-ltb n (suc count) (omega (arith, l, off))) refl
 
-no_source : (is_none : Bool) (n : ℕ) (missing old new : List Report) → nat_eq n 4294967295 ≡ is_none → (n ≢ 4294967295 → new ≡ old)
+no_source : (is_none : Bool) (n : ℕ) (missing old new : List Report) → nat_eq n no_image ≡ is_none → (n ≢ no_image → new ≡ old)
     → cond is_none missing new ≡ cond is_none missing old
 no_source true n missing old new is off = refl
 no_source false n missing old new is off = off (eqb-false _ _ is)

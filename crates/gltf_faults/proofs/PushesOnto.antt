@@ -4,11 +4,11 @@ use Rattle.std.proofs.lemmas.List.{append-nil}
 use Rattle.gltf_paths.specs.Lists.{ListName}
 use Rattle.gltf_paths.specs.Steps.{Step, field, item}
 use Rattle.gltf_schema.specs.Tree as tree
-use Rattle.gltf_schema.specs.Tree.{Tree, absent, Trees, end, with_tree, trees, tree_at, tree_or_absent, count_of, items_in, members_in}
+use Rattle.gltf_schema.specs.Tree.{Tree, absent, Trees, end, with_tree, tree_at, tree_or_absent, count_of, members_in}
 use Rattle.gltf_schema.specs.Fields.{closed_object}
 use Rattle.gltf_schema.specs.Kind.{required, Kind, ListOf, no_rows, row}
 use Rattle.gltf_nodes.specs.LightTable.{light_kind, variant_kind}
-use Rattle.gltf_root.specs.Lists.{list_at, list_in, count_in, row_of}
+use Rattle.gltf_root.specs.Lists.{lights_row, variants_row, listed_row, list_at, list_in, count_in, row_of}
 use Rattle.gltf_root.specs.Pushed.{with_last, made_extensions, row_listed, pushed, list_steps, item_place, item_kind}
 use Rattle.gltf_root.specs.RootExtensionTable.{lights_rows, lights_kind, variants_rows, variants_kind, root_extension_rows, root_extensions_kind}
 use Rattle.gltf_root.specs.RootExtensionTrees.{root_extensions, root_extension_members, lights_members, variants_members}
@@ -21,7 +21,7 @@ use Rattle.gltf_root.specs.declared.extensions.root.KhrMaterialsVariants.{KhrMat
 use Rattle.gltf_faults.specs.Context.{Rules, Context, under}
 use Rattle.gltf_faults.specs.Inserted.{IsInserted}
 use Rattle.gltf_faults.specs.Naming.{Avoids}
-use Rattle.gltf_faults.specs.Reports.{reports, member_reports, reports_by_rules}
+use Rattle.gltf_faults.specs.Reports.{document_reports, reports, member_reports, reports_by_rules}
 use Rattle.gltf_faults.specs.RowNames.{name_at}
 use Rattle.gltf_faults.specs.Rules.{root_rule}
 use Rattle.gltf_faults.proofs.Growing.{with_extension_item, with_extended_item, grows}
@@ -41,42 +41,42 @@ one_inserted name kind ts x context base = ahead [] (ahead [] (list_inserted kin
 
 lights_inserted : (x : Tree) (context : Context) (base : List Step) (found : Option KhrLightsPunctual)
     → IsInserted (reports lights_kind (tree_or_absent (λ v. closed_object (lights_members v)) found) context absent base)
-    (reports light_kind x context absent ((base ++ field (codes "lights") ∷ []) ++ item (count_of (list_at 0 (tree_or_absent (λ v. closed_object (lights_members v)) found))) ∷ []))
+    (reports light_kind x context absent ((base ++ field (codes "lights") ∷ []) ++ item (count_of (list_at listed_row (tree_or_absent (λ v. closed_object (lights_members v)) found))) ∷ []))
     (reports lights_kind (with_extension_item x (tree_or_absent (λ v. closed_object (lights_members v)) found)) context absent base)
 unfolding lights_members lights_rows
 lights_inserted x context base None = one_inserted (codes "lights") light_kind end x context base
-lights_inserted x context base (Some v) = one_inserted (codes "lights") light_kind (list_at 0 (closed_object (lights_members v))) x context base
+lights_inserted x context base (Some v) = one_inserted (codes "lights") light_kind (list_at listed_row (closed_object (lights_members v))) x context base
 
 variants_inserted : (x : Tree) (context : Context) (base : List Step) (found : Option KhrMaterialsVariants)
     → IsInserted (reports variants_kind (tree_or_absent (λ v. closed_object (variants_members v)) found) context absent base)
-    (reports variant_kind x context absent ((base ++ field (codes "variants") ∷ []) ++ item (count_of (list_at 0 (tree_or_absent (λ v. closed_object (variants_members v)) found))) ∷ []))
+    (reports variant_kind x context absent ((base ++ field (codes "variants") ∷ []) ++ item (count_of (list_at listed_row (tree_or_absent (λ v. closed_object (variants_members v)) found))) ∷ []))
     (reports variants_kind (with_extension_item x (tree_or_absent (λ v. closed_object (variants_members v)) found)) context absent base)
 unfolding variants_members variants_rows
 variants_inserted x context base None = one_inserted (codes "variants") variant_kind end x context base
-variants_inserted x context base (Some v) = one_inserted (codes "variants") variant_kind (list_at 0 (closed_object (variants_members v))) x context base
+variants_inserted x context base (Some v) = one_inserted (codes "variants") variant_kind (list_at listed_row (closed_object (variants_members v))) x context base
 
 lights_pushed : (x : Tree) (context : Context) (found : Option RootExtensions)
     → IsInserted (reports root_extensions_kind (tree_or_absent root_extensions found) context absent (field (codes "extensions") ∷ []))
-    (reports light_kind x context absent (item_place ListName.lights (count_of (list_at 0 (tree_at 0 (members_in (tree_or_absent root_extensions found)))))))
-    (reports root_extensions_kind (with_extended_item 0 x (tree_or_absent root_extensions found)) context absent (field (codes "extensions") ∷ []))
+    (reports light_kind x context absent (item_place ListName.lights (count_of (list_at listed_row (tree_at lights_row (members_in (tree_or_absent root_extensions found)))))))
+    (reports root_extensions_kind (with_extended_item lights_row x (tree_or_absent root_extensions found)) context absent (field (codes "extensions") ∷ []))
 unfolding root_extension_members root_extension_rows
 lights_pushed x context None =
-    ahead [] (member_inserted 0 (members_in made_extensions) root_extension_rows (with_extension_item x absent) context absent (field (codes "extensions") ∷ []) _ refl
+    ahead [] (member_inserted lights_row (members_in made_extensions) root_extension_rows (with_extension_item x absent) context absent (field (codes "extensions") ∷ []) _ refl
     (lights_inserted x context (field (codes "extensions") ∷ field (codes "KHR_lights_punctual") ∷ []) None))
 lights_pushed x context (Some e) =
-    ahead [] (member_inserted 0 (root_extension_members e) root_extension_rows (with_extension_item x (tree_at 0 (root_extension_members e))) context absent (field (codes "extensions") ∷ []) _ refl
+    ahead [] (member_inserted lights_row (root_extension_members e) root_extension_rows (with_extension_item x (tree_at lights_row (root_extension_members e))) context absent (field (codes "extensions") ∷ []) _ refl
     (lights_inserted x context (field (codes "extensions") ∷ field (codes "KHR_lights_punctual") ∷ []) e.khr_lights_punctual))
 
 variants_pushed : (x : Tree) (context : Context) (found : Option RootExtensions)
     → IsInserted (reports root_extensions_kind (tree_or_absent root_extensions found) context absent (field (codes "extensions") ∷ []))
-    (reports variant_kind x context absent (item_place ListName.variants (count_of (list_at 0 (tree_at 1 (members_in (tree_or_absent root_extensions found)))))))
-    (reports root_extensions_kind (with_extended_item 1 x (tree_or_absent root_extensions found)) context absent (field (codes "extensions") ∷ []))
+    (reports variant_kind x context absent (item_place ListName.variants (count_of (list_at listed_row (tree_at variants_row (members_in (tree_or_absent root_extensions found)))))))
+    (reports root_extensions_kind (with_extended_item variants_row x (tree_or_absent root_extensions found)) context absent (field (codes "extensions") ∷ []))
 unfolding root_extension_members root_extension_rows
 variants_pushed x context None =
-    ahead [] (member_inserted 1 (members_in made_extensions) root_extension_rows (with_extension_item x absent) context absent (field (codes "extensions") ∷ []) _ refl
+    ahead [] (member_inserted variants_row (members_in made_extensions) root_extension_rows (with_extension_item x absent) context absent (field (codes "extensions") ∷ []) _ refl
     (variants_inserted x context (field (codes "extensions") ∷ field (codes "KHR_materials_variants") ∷ []) None))
 variants_pushed x context (Some e) =
-    ahead [] (member_inserted 1 (root_extension_members e) root_extension_rows (with_extension_item x (tree_at 1 (root_extension_members e))) context absent (field (codes "extensions") ∷ []) _ refl
+    ahead [] (member_inserted variants_row (root_extension_members e) root_extension_rows (with_extension_item x (tree_at variants_row (root_extension_members e))) context absent (field (codes "extensions") ∷ []) _ refl
     (variants_inserted x context (field (codes "extensions") ∷ field (codes "KHR_materials_variants") ∷ []) e.khr_materials_variants))
 
 -- ---- any list of a document
@@ -123,20 +123,20 @@ root_inserted named x r context =
 
 -- and against itself, where no index names the item before it is there
 pub inserted : (rules : Rules) (named : ListName) (x : Tree) (r : Root) → Avoids named (count_in named (root_tree r)) root_kind (root_tree r)
-    → IsInserted (reports_by_rules rules root_kind (root_tree r) (root_tree r) [])
+    → IsInserted (document_reports rules (root_tree r))
     (reports_by_rules rules (item_kind named) x (pushed named x (root_tree r)) (item_place named (count_in named (root_tree r))))
-    (reports_by_rules rules root_kind (pushed named x (root_tree r)) (pushed named x (root_tree r)) [])
+    (document_reports rules (pushed named x (root_tree r)))
 inserted rules named x r off =
     let old = root_tree r in
     let new = pushed named x old in
     let at = reports_by_rules rules (item_kind named) x new (item_place named (count_in named old)) in
-    subst (λ rs. IsInserted rs at (reports_by_rules rules root_kind new new [])) (reports_same rules named x old new (grows named x r) root_kind old absent [] off)
+    subst (λ rs. IsInserted rs at (document_reports rules new)) (reports_same rules named x old new (grows named x r) root_kind old absent [] off)
     (root_inserted named x r (under rules new))
 
 -- ---- onto a document without reports
 
 -- no index in it is the number that an item takes
-pub clean_avoids : (rules : Rules) (named : ListName) (r : Root) → reports_by_rules rules root_kind (root_tree r) (root_tree r) [] ≡ []
+pub clean_avoids : (rules : Rules) (named : ListName) (r : Root) → document_reports rules (root_tree r) ≡ []
     → Avoids named (count_in named (root_tree r)) root_kind (root_tree r)
 clean_avoids rules named r clean =
     let old = root_tree r in
@@ -148,7 +148,7 @@ alone {A} {old} {new} {whole} none h =
     let nothing = sym h.was ∙ none in
     h.now ∙ ap (λ zs. zs ++ (new ++ h.after)) (first_none h.before h.after nothing) ∙ ap (λ zs. new ++ zs) (second_none h.before h.after nothing) ∙ append-nil new
 
-pub onto_clean : (rules : Rules) (named : ListName) (x : Tree) (r : Root) → reports_by_rules rules root_kind (root_tree r) (root_tree r) [] ≡ []
-    → reports_by_rules rules root_kind (pushed named x (root_tree r)) (pushed named x (root_tree r)) []
+pub onto_clean : (rules : Rules) (named : ListName) (x : Tree) (r : Root) → document_reports rules (root_tree r) ≡ []
+    → document_reports rules (pushed named x (root_tree r))
     ≡ reports_by_rules rules (item_kind named) x (pushed named x (root_tree r)) (item_place named (count_in named (root_tree r)))
 onto_clean rules named x r clean = alone clean (inserted rules named x r (clean_avoids rules named r clean))

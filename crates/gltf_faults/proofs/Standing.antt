@@ -16,9 +16,9 @@ use Rattle.gltf_schema.specs.Kind.{Kind, IndexInto, SourceImage, ChannelSampler,
 use Rattle.gltf_root.specs.Lists.{count_in, sampler_count}
 use Rattle.gltf_sinks.specs.Report.{From, Report, report}
 use Rattle.gltf_faults.specs.Context.{Context}
-use Rattle.gltf_faults.specs.Faults.{report_if, number_faults, index_faults, source_faults, stride_faults, choice_faults, key_faults, entries_faults}
-use Rattle.gltf_faults.specs.Reports.{animation_below, items_reports, reports, member_reports}
-use Rattle.gltf_faults.specs.Rules.{is_positions, accessor_min, accessor_max, root_extensions_required, primitive_attributes, bound_faults, bounds_faults, positions_faults, extension_faults, extensions_faults, root_rule, rule, object_faults}
+use Rattle.gltf_faults.specs.Faults.{report_if, number_faults, index_faults, source_faults, stride_faults, choice_faults, key_faults, entries_faults, items_reports}
+use Rattle.gltf_faults.specs.Reports.{animation_below, reports, member_reports}
+use Rattle.gltf_faults.specs.Rules.{is_positions, accessor_min, accessor_max, root_extensions_required, primitive_attributes, bound_faults, bounds_faults, positions_faults, extension_faults, root_rule, rule, object_faults}
 
 -- at a place or below it
 abbrev pub StandsBelow : List Step → Report → Type 0
@@ -86,6 +86,11 @@ entries_below count (e ∷ es) base =
     (further_below base step _ (both_below at (key_faults e.0 at) (number_faults count e.1 at) (key_below e.0 at) (if_here _ _ at)))
     (entries_below count es base)
 
+items_below : (f : Tree → From) → ((t : Tree) (base : List Step) → AllBelow base (f t base)) → (i : ℕ) (ts : Trees) (base : List Step) → AllBelow base (items_reports f i ts base)
+items_below f each i end base = none_below base
+items_below f each i (with_tree t ts) base =
+    both_below base (f t (base ++ item i ∷ [])) (items_reports f (suc i) ts base) (further_below base (item i ∷ []) _ (each t (base ++ item i ∷ []))) (items_below f each (suc i) ts base)
+
 -- ---- the rules
 
 bound_below : (t : Tree) (base : List Step) → AllBelow base (bound_faults t base)
@@ -109,15 +114,9 @@ extension_below : (enabled : List (List ℕ)) (t : Tree) (base : List Step) → 
 extension_below enabled (tree.text s) base = if_below _ _ base (value s ∷ []) _ refl
 extension_below enabled t base = none_below base
 
-extensions_below : (enabled : List (List ℕ)) (i : ℕ) (ts : Trees) (base : List Step) → AllBelow base (extensions_faults enabled i ts base)
-extensions_below enabled i end base = none_below base
-extensions_below enabled i (with_tree t ts) base =
-    both_below base (extension_faults enabled t (base ++ item i ∷ [])) (extensions_faults enabled (suc i) ts base)
-    (further_below base (item i ∷ []) _ (extension_below enabled t (base ++ item i ∷ []))) (extensions_below enabled (suc i) ts base)
-
 -- what a document requires stands below its member of that
 pub required_below : (enabled : List (List ℕ)) (ts : Trees) (base : List Step) → AllBelow (base ++ field (codes "extensionsRequired") ∷ []) (root_rule enabled ts base)
-required_below enabled ts base = extensions_below enabled 0 (items_in (root_extensions_required ts)) (base ++ field (codes "extensionsRequired") ∷ [])
+required_below enabled ts base = items_below (extension_faults enabled) (extension_below enabled) 0 (items_in (root_extensions_required ts)) (base ++ field (codes "extensionsRequired") ∷ [])
 
 rule_below : (of : ObjectName) (ts : Trees) (context : Context) (base : List Step) → AllBelow base (rule of ts context base)
 rule_below ObjectName.accessor ts context base = if_below _ _ base (field (codes "bufferView") ∷ []) _ refl
@@ -135,11 +134,6 @@ object_below of (tree.object ts others) context base = rule_below of ts context 
 object_below of t context base = none_below base
 
 -- ---- a whole tree
-
-items_below : (f : Tree → From) → ((t : Tree) (base : List Step) → AllBelow base (f t base)) → (i : ℕ) (ts : Trees) (base : List Step) → AllBelow base (items_reports f i ts base)
-items_below f each i end base = none_below base
-items_below f each i (with_tree t ts) base =
-    both_below base (f t (base ++ item i ∷ [])) (items_reports f (suc i) ts base) (further_below base (item i ∷ []) _ (each t (base ++ item i ∷ []))) (items_below f each (suc i) ts base)
 
 mutual
   -- the law, at every kind and place

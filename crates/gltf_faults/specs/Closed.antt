@@ -4,6 +4,7 @@ use Rattle.gltf_checked.specs.Keys.{Key, unknown}
 use Rattle.gltf_paths.specs.Lists.{ListName}
 use Rattle.gltf_schema.specs.Tree.{Tree, index, invalid, Trees, end, with_tree, items_in, members_in, entries_in}
 use Rattle.gltf_schema.specs.Kind.{Kind, IndexInto, SourceImage, ChannelSampler, Choice, Attributes, ListOf, Object, Rows, no_rows, row}
+use Rattle.gltf_textures.specs.TextureTable.{no_image}
 use Rattle.gltf_root.specs.Lists.{count_in, sampler_count}
 use Rattle.gltf_faults.specs.Context.{Context}
 use Rattle.gltf_faults.specs.Reports.{animation_below}
@@ -15,7 +16,7 @@ NamesItem count _ = Unit {0}
 
 -- an index names an image, or it is the number 2^32 - 1, where textures may be empty
 abbrev pub NamesImage : Bool → ℕ → Tree → Type 0
-NamesImage may_be_empty count t = ((may_be_empty ≡ true) × (t ≡ index 4294967295)) ⊎ NamesItem count t
+NamesImage may_be_empty count t = ((may_be_empty ≡ true) × (t ≡ index no_image)) ⊎ NamesItem count t
 
 abbrev pub IsListed : Tree → Type 0
 IsListed invalid = ⊥

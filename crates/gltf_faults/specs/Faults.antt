@@ -1,10 +1,11 @@
 -- What is wrong with a value by itself.
-use Rattle.std.specs.Prelude.{ℕ, List, [], ◌∷◌, ◌++◌, Bool, not, cond, ◌&&◌, nat_lt, nat_le, nat_eq}
+use Rattle.std.specs.Prelude.{ℕ, suc, List, [], ◌∷◌, ◌++◌, Bool, not, cond, ◌&&◌, nat_lt, nat_le, nat_eq}
 use Rattle.gltf_checked.specs.Keys.{Key, unknown, key_text}
-use Rattle.gltf_paths.specs.Steps.{key}
+use Rattle.gltf_paths.specs.Steps.{item, key}
 use Rattle.gltf_paths.specs.declared.validation.Error.{Error}
 use Rattle.gltf_paths.specs.declared.validation.Error.TheVariants.{IndexOutOfBounds, Invalid, Missing}
-use Rattle.gltf_schema.specs.Tree.{Tree, index, whole, invalid}
+use Rattle.gltf_schema.specs.Tree.{Tree, index, whole, invalid, Trees, end, with_tree}
+use Rattle.gltf_textures.specs.TextureTable.{no_image}
 use Rattle.gltf_sinks.specs.Report.{report, From}
 
 -- a report where something is so
@@ -21,7 +22,7 @@ index_faults count _ base = []
 
 -- a texture without an image, for which the number 2^32 - 1 stands; where textures may be empty it is no fault
 abbrev pub source_faults : Bool → ℕ → Tree → From
-source_faults may_be_empty count (index n) base = cond (nat_eq n 4294967295) (report_if (not may_be_empty) Missing base) (number_faults count n base)
+source_faults may_be_empty count (index n) base = cond (nat_eq n no_image) (report_if (not may_be_empty) Missing base) (number_faults count n base)
 source_faults may_be_empty count _ base = []
 
 -- a stride below 4 or above 252 bytes
@@ -42,3 +43,8 @@ abbrev pub entries_faults : ℕ → List (Key × ℕ) → From
 entries_faults count [] base = []
 entries_faults count (e ∷ es) base =
     (key_faults e.0 (base ++ key (key_text e.0) ∷ []) ++ number_faults count e.1 (base ++ key (key_text e.0) ∷ [])) ++ entries_faults count es base
+
+-- what is wrong with each item of a list, at its number
+abbrev pub items_reports : (Tree → From) → ℕ → Trees → From
+items_reports f i end base = []
+items_reports f i (with_tree t ts) base = f t (base ++ item i ∷ []) ++ items_reports f (suc i) ts base

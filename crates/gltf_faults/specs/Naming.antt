@@ -4,6 +4,7 @@ use Rattle.gltf_checked.specs.Keys.{Key}
 use Rattle.gltf_paths.specs.Lists.{ListName}
 use Rattle.gltf_schema.specs.Tree.{Tree, index, Trees, end, with_tree, items_in, members_in, entries_in}
 use Rattle.gltf_schema.specs.Kind.{Kind, IndexInto, SourceImage, Attributes, ListOf, Object, ObjectName, Rows, no_rows, row}
+use Rattle.gltf_textures.specs.TextureTable.{no_image}
 use Rattle.gltf_faults.specs.Closed.{EachTree}
 use Rattle.gltf_faults.specs.Rules.{primitive_attributes}
 
@@ -14,7 +15,7 @@ IndexAvoids n _ = Unit {0}
 
 -- the same, where 2^32 - 1 stands for no image and is no index
 abbrev pub SourceAvoids : ℕ → Tree → Type 0
-SourceAvoids n (index m) = m ≢ 4294967295 → m ≢ n
+SourceAvoids n (index m) = m ≢ no_image → m ≢ n
 SourceAvoids n _ = Unit {0}
 
 -- the index of each attribute is another number

@@ -1,24 +1,20 @@
 -- Everything that is wrong in a tree, in order.
-use Rattle.std.specs.Prelude.{ℕ, suc, [], ◌∷◌, ◌++◌}
+use Rattle.std.specs.Prelude.{List, [], ◌∷◌, ◌++◌}
 use Rattle.gltf_paths.specs.Lists.{ListName}
-use Rattle.gltf_paths.specs.Steps.{field, item}
+use Rattle.gltf_paths.specs.Steps.{field}
 use Rattle.gltf_schema.specs.Tree.{Tree, absent, Trees, end, with_tree, items_in, members_in, entries_in}
 use Rattle.gltf_schema.specs.Kind.{Kind, IndexInto, SourceImage, ChannelSampler, Stride, Choice, Attributes, ListOf, Object, ObjectName, Rows, no_rows, row}
 use Rattle.gltf_root.specs.Lists.{count_in, sampler_count}
-use Rattle.gltf_sinks.specs.Report.{From}
-use Rattle.gltf_faults.specs.Context.{Rules, Context, standard_rules, under}
-use Rattle.gltf_faults.specs.Faults.{index_faults, source_faults, stride_faults, choice_faults, entries_faults}
+use Rattle.gltf_root.specs.RootTable.{root_kind}
+use Rattle.gltf_sinks.specs.Report.{Report, From}
+use Rattle.gltf_faults.specs.Context.{Rules, Context, under}
+use Rattle.gltf_faults.specs.Faults.{index_faults, source_faults, stride_faults, choice_faults, entries_faults, items_reports}
 use Rattle.gltf_faults.specs.Rules.{object_faults}
 
 -- the animation that the members of an object stand below: itself, or the one above
 abbrev pub animation_below : ObjectName → Tree → Tree → Tree
 animation_below ObjectName.animation t above = t
 animation_below _ t above = above
-
--- each item's, at its number
-abbrev pub items_reports : (Tree → From) → ℕ → Trees → From
-items_reports f i end base = []
-items_reports f i (with_tree t ts) base = f t (base ++ item i ∷ []) ++ items_reports f (suc i) ts base
 
 abbrev mutual
   -- what is wrong in a tree of a kind, against a document, by rules, below an animation or none, from a base: an object's
@@ -45,6 +41,6 @@ abbrev mutual
 abbrev pub reports_by_rules : Rules → Kind → Tree → Tree → From
 reports_by_rules rules kind t root base = reports kind t (under rules root) absent base
 
--- by the standard rules
-abbrev pub reports_of : Kind → Tree → Tree → From
-reports_of kind t root base = reports_by_rules standard_rules kind t root base
+-- what is wrong in a document, against itself, by rules
+abbrev pub document_reports : Rules → Tree → List Report
+document_reports rules t = reports_by_rules rules root_kind t t []

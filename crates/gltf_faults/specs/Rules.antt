@@ -1,20 +1,20 @@
 -- What is wrong with an object as a whole.
-use Rattle.std.specs.Prelude.{ℕ, suc, List, [], ◌∷◌, ◌++◌, Bool, true, false, not, ◌&&◌, Option, Some, None, codes}
+use Rattle.std.specs.Prelude.{ℕ, List, [], ◌∷◌, ◌++◌, Bool, true, false, not, ◌&&◌, Option, Some, None, codes}
 use Rattle.std.specs.List.{list_any}
 use Rattle.std.specs.Map.{lookup}
 use Rattle.std.specs.Str.{bytes_eq}
 use Rattle.serde_json.specs.Data.{Data, array, number, no_items, item as data_item}
 use Rattle.gltf_checked.specs.Keys.{Key, positions}
 use Rattle.gltf_checked.specs.Spelling.{by_name}
-use Rattle.gltf_paths.specs.Steps.{field, item, key, value}
+use Rattle.gltf_paths.specs.Steps.{field, key, value}
 use Rattle.gltf_paths.specs.Lists.{ListName}
 use Rattle.gltf_paths.specs.declared.validation.Error.TheVariants.{Invalid, Missing, Unsupported}
-use Rattle.gltf_schema.specs.Tree.{Tree, absent, any, text, chosen, object, Trees, end, with_tree, is_absent, tree_at, items_in, entries_in}
+use Rattle.gltf_schema.specs.Tree.{Tree, absent, any, text, chosen, object, Trees, is_absent, tree_at, items_in, entries_in}
 use Rattle.gltf_schema.specs.Kind.{ObjectName}
 use Rattle.gltf_root.specs.Lists.{list_in}
 use Rattle.gltf_sinks.specs.Report.{From, report}
 use Rattle.gltf_faults.specs.Context.{Context}
-use Rattle.gltf_faults.specs.Faults.{report_if}
+use Rattle.gltf_faults.specs.Faults.{report_if, items_reports}
 
 -- ---- the members that the rules speak of, by their rows in the table
 
@@ -101,13 +101,9 @@ abbrev pub extension_faults : List (List ℕ) → Tree → From
 extension_faults enabled (text s) base = report_if (not (list_any (λ e. bytes_eq e s) enabled)) Unsupported (base ++ value s ∷ [])
 extension_faults enabled _ base = []
 
-abbrev pub extensions_faults : List (List ℕ) → ℕ → Trees → From
-extensions_faults enabled i end base = []
-extensions_faults enabled i (with_tree t ts) base = extension_faults enabled t (base ++ item i ∷ []) ++ extensions_faults enabled (suc i) ts base
-
 -- a document requires only extensions that are enabled
 abbrev pub root_rule : List (List ℕ) → Trees → From
-root_rule enabled ts base = extensions_faults enabled 0 (items_in (root_extensions_required ts)) (base ++ field (codes "extensionsRequired") ∷ [])
+root_rule enabled ts base = items_reports (extension_faults enabled) 0 (items_in (root_extensions_required ts)) (base ++ field (codes "extensionsRequired") ∷ [])
 
 -- the rule of an object's members; most objects have none
 abbrev pub rule : ObjectName → Trees → Context → From

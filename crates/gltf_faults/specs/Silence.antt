@@ -9,7 +9,8 @@ use Rattle.gltf_schema.specs.Kind.{Kind, IndexInto, SourceImage, ChannelSampler,
 use Rattle.gltf_sinks.specs.Report.{From}
 use Rattle.gltf_faults.specs.Context.{Context}
 use Rattle.gltf_faults.specs.Rules.{object_faults, rule}
-use Rattle.gltf_faults.specs.Reports.{animation_below, items_reports, reports, member_reports}
+use Rattle.gltf_faults.specs.Faults.{items_reports}
+use Rattle.gltf_faults.specs.Reports.{animation_below, reports, member_reports}
 
 -- an object by itself cannot be wrong
 abbrev pub has_no_rule : ObjectName → Bool

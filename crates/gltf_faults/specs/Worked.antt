@@ -5,7 +5,8 @@ use Rattle.gltf_checked.specs.Spelling.{Spelling}
 use Rattle.gltf_paths.specs.Lists.{ListName}
 use Rattle.gltf_paths.specs.Steps.{Step, field, item, key}
 use Rattle.gltf_sinks.specs.Report.{Report}
-use Rattle.gltf_faults.specs.Reports.{reports_by_rules, reports_of}
+use Rattle.gltf_faults.specs.Context.{standard_rules}
+use Rattle.gltf_faults.specs.Reports.{document_reports}
 use Rattle.gltf_root.specs.Pushed.{item_kind, pushed, with_member}
 use Rattle.gltf_root.specs.RootTable.{root_kind}
 use Rattle.gltf_schema.specs.Read.{read}
@@ -16,14 +17,14 @@ use Rattle.gltf_schema.specs.Write.{write}
 
 -- what is wrong in the document that a JSON value is, if it is one
 abbrev pub reports_in : Data → Option (List Report)
-reports_in d = option_map (λ t. reports_of root_kind t t []) (read root_kind d)
+reports_in d = option_map (document_reports standard_rules) (read root_kind d)
 
 -- and what is wrong in it by rules: whether textures may be empty, and what may be required
 abbrev pub reports_ruled : Bool → List (List ℕ) → Data → Option (List Report)
 reports_ruled may_be_empty enabled d =
-    option_map (λ t. reports_by_rules (record { empty_texture = may_be_empty; enabled = enabled }) root_kind t t []) (read root_kind d)
+    option_map (document_reports (record { empty_texture = may_be_empty; enabled = enabled })) (read root_kind d)
 
--- what the document that a JSON value is is written as
+-- what the document read from a JSON value is written as
 abbrev pub written_of : Data → Option Data
 written_of d = option_and_then (write root_kind) (read root_kind d)
 
@@ -32,7 +33,7 @@ abbrev pub pushed_in : ListName → Data → Data → Option Tree
 pushed_in named x d = option_and_then (λ t. option_map (λ r. pushed named t r) (read root_kind d)) (read (item_kind named) x)
 
 abbrev pub reports_pushed : ListName → Data → Data → Option (List Report)
-reports_pushed named x d = option_map (λ t. reports_of root_kind t t []) (pushed_in named x d)
+reports_pushed named x d = option_map (document_reports standard_rules) (pushed_in named x d)
 
 abbrev pub whole : ℕ → Data
 whole n = number (unsigned n)
@@ -112,7 +113,7 @@ listed_variant = object (member (codes "variants") (one (object (member (codes "
 abbrev pub node_of : ℕ → Data
 node_of child = object (member (codes "children") (one (whole child)) no_members)
 
--- whether the document that a JSON value is is plain, and whether it is with other extras, which are its member at 7
+-- whether the document read from a JSON value is plain, and whether it is with other extras, which are its member at 7
 abbrev pub plain_in : Data → Option Bool
 plain_in d = option_map (is_plain root_kind) (read root_kind d)
 
@@ -126,3 +127,7 @@ indices_of component_type others = tree.object (trees (tree.index 0 ∷ tree.who
 -- the extensions of a document with neither lights nor variants, beside others
 abbrev pub extensions_beside : Members → Tree
 extensions_beside others = tree.object (trees (absent ∷ absent ∷ [])) others
+
+-- the extensions of a node with light 0, beside others
+abbrev pub node_extensions_beside : Members → Tree
+node_extensions_beside others = tree.object (trees (tree.object (trees (tree.index 0 ∷ [])) no_members ∷ [])) others

@@ -14,7 +14,7 @@ ghost use Rattle.gltf_schema.specs.Kind.{Kind};
 ghost use Rattle.gltf_faults.specs.Inserted.{IsInserted};
 ghost use Rattle.gltf_faults.specs.Naming.{Avoids};
 ghost use Rattle.gltf_faults.specs.Context.{Rules, under};
-ghost use Rattle.gltf_faults.specs.Reports.{reports, reports_by_rules};
+ghost use Rattle.gltf_faults.specs.Reports.{document_reports, reports, reports_by_rules};
 ghost use Rattle.gltf_faults.specs.Places.{reports_by_places};
 ghost use Rattle.gltf_faults.specs.Closed.{IsClosed};
 ghost use Rattle.gltf_faults.specs.Standing.{is_below};
@@ -27,7 +27,7 @@ ghost use Rattle.gltf_root.specs.RootExtensionTable.{lights_rows, root_extension
 ghost use Rattle.gltf_faults.specs.RowNames.{name_at, names_of};
 ghost use Rattle.gltf_faults.specs.Rules.{accessor_buffer_view, accessor_min, accessor_max, accessor_sparse, camera_orthographic, camera_perspective, light_spot, light_type, primitive_attributes, root_extensions_required};
 ghost use Rattle.gltf_paths.specs.Lists.{ListName};
-ghost use Rattle.gltf_root.specs.Lists.{count_in, list_in, row_of};
+ghost use Rattle.gltf_root.specs.Lists.{extensions_row, lights_row, variants_row, listed_row, samplers_row, count_in, list_in, row_of};
 ghost use Rattle.gltf_root.specs.Pushed.{item_kind, item_place, pushed, with_last};
 ghost use Rattle.gltf_root.specs.RootTable.{root_kind, root_rows};
 ghost use Rattle.gltf_root.specs.RootTrees.{root_tree};
@@ -46,11 +46,11 @@ pub fn reports_are_the_faults_of_places()
 /// A document without reports is closed: every index in it names an item, a channel's sampler one
 /// of its own animation, and every choice and every key is one that is known. So is a document of
 /// which validation against itself left a new count at zero. It is so by any rules; where they let
-/// textures be empty, the number that stands for no image needs to name none.
+/// textures be empty, the number that stands for no image may name nothing.
 pub fn clean_documents_are_closed()
-    ensures clean { (rules : Rules) (r : Document) → reports_by_rules rules root_kind (root_tree r) (root_tree r) [] ≡ []
+    ensures clean { (rules : Rules) (r : Document) → document_reports rules (root_tree r) ≡ []
         → IsClosed root_kind (root_tree r) (under rules (root_tree r)) absent }
-    ensures none_counted { (rules : Rules) (r : Document) → run one_more 0 (reports_by_rules rules root_kind (root_tree r) (root_tree r) []) ≡ 0
+    ensures none_counted { (rules : Rules) (r : Document) → run one_more 0 (document_reports rules (root_tree r)) ≡ 0
         → IsClosed root_kind (root_tree r) (under rules (root_tree r)) absent }
 {}
 
@@ -58,7 +58,7 @@ pub fn clean_documents_are_closed()
 /// one that the next item takes. It is so by any rules: where they let textures be empty, the number
 /// that stands for no image is no index.
 pub fn clean_documents_avoid_the_next_number()
-    ensures { (rules : Rules) (r : Document) (named : ListName) → reports_by_rules rules root_kind (root_tree r) (root_tree r) [] ≡ []
+    ensures { (rules : Rules) (r : Document) (named : ListName) → document_reports rules (root_tree r) ≡ []
         → Avoids named (count_in named (root_tree r)) root_kind (root_tree r) }
 {}
 
@@ -86,8 +86,8 @@ pub fn pushes_leave_other_reports()
 pub fn pushes_onto_clean_documents()
     ensures { (rules : Rules) (r : Document) (named : ListName) (x : Tree)
         → let new = pushed named x (root_tree r) in
-        reports_by_rules rules root_kind (root_tree r) (root_tree r) [] ≡ []
-        → reports_by_rules rules root_kind new new [] ≡ reports_by_rules rules (item_kind named) x new (item_place named (count_in named (root_tree r))) }
+        document_reports rules (root_tree r) ≡ []
+        → document_reports rules new ≡ reports_by_rules rules (item_kind named) x new (item_place named (count_in named (root_tree r))) }
 {}
 
 /// Where no index into the list is the number that the item takes, what is wrong in the longer
@@ -97,15 +97,15 @@ pub fn pushes_add_reports_of_the_item()
     ensures of_item { (rules : Rules) (r : Document) (named : ListName) (x : Tree)
         → let n = count_in named (root_tree r) in let new = pushed named x (root_tree r) in
         Avoids named n root_kind (root_tree r)
-        → filter (is_below (item_place named n)) (reports_by_rules rules root_kind new new []) ≡ reports_by_rules rules (item_kind named) x new (item_place named n) }
+        → filter (is_below (item_place named n)) (document_reports rules new) ≡ reports_by_rules rules (item_kind named) x new (item_place named n) }
     ensures of_others { (rules : Rules) (r : Document) (named : ListName) (x : Tree)
         → let n = count_in named (root_tree r) in let new = pushed named x (root_tree r) in
         Avoids named n root_kind (root_tree r)
-        → filter (λ q. not (is_below (item_place named n) q)) (reports_by_rules rules root_kind new new []) ≡ reports_by_rules rules root_kind (root_tree r) (root_tree r) [] }
+        → filter (λ q. not (is_below (item_place named n) q)) (document_reports rules new) ≡ document_reports rules (root_tree r) }
     ensures together { (rules : Rules) (r : Document) (named : ListName) (x : Tree)
         → let n = count_in named (root_tree r) in let new = pushed named x (root_tree r) in
         Avoids named n root_kind (root_tree r)
-        → IsInserted (reports_by_rules rules root_kind (root_tree r) (root_tree r) []) (reports_by_rules rules (item_kind named) x new (item_place named n)) (reports_by_rules rules root_kind new new []) }
+        → IsInserted (document_reports rules (root_tree r)) (reports_by_rules rules (item_kind named) x new (item_place named n)) (document_reports rules new) }
 {}
 
 /// A document that was read is refused for writing exactly where an item of a choice or the key of an
@@ -135,14 +135,14 @@ pub fn rows_stand_where_rules_look()
     ensures light_type { light_type (names_of light_rows) ≡ text (codes "type") }
     ensures attributes { primitive_attributes (names_of primitive_rows) ≡ text (codes "attributes") }
     ensures extensions_required { root_extensions_required (names_of root_rows) ≡ text (codes "extensionsRequired") }
-    ensures extensions { name_at 6 root_rows ≡ codes "extensions" }
+    ensures extensions { name_at extensions_row root_rows ≡ codes "extensions" }
     ensures row_of_lights { name_at (row_of ListName.lights) root_rows ≡ codes "extensions" }
     ensures row_of_variants { name_at (row_of ListName.variants) root_rows ≡ codes "extensions" }
-    ensures lights_in_extensions { name_at 0 root_extension_rows ≡ codes "KHR_lights_punctual" }
-    ensures variants_in_extensions { name_at 1 root_extension_rows ≡ codes "KHR_materials_variants" }
-    ensures list_of_lights { name_at 0 lights_rows ≡ codes "lights" }
-    ensures list_of_variants { name_at 0 variants_rows ≡ codes "variants" }
-    ensures samplers_of_an_animation { name_at 0 animation_rows ≡ codes "samplers" }
+    ensures lights_in_extensions { name_at lights_row root_extension_rows ≡ codes "KHR_lights_punctual" }
+    ensures variants_in_extensions { name_at variants_row root_extension_rows ≡ codes "KHR_materials_variants" }
+    ensures list_of_lights { name_at listed_row lights_rows ≡ codes "lights" }
+    ensures list_of_variants { name_at listed_row variants_rows ≡ codes "variants" }
+    ensures samplers_of_an_animation { name_at samplers_row animation_rows ≡ codes "samplers" }
     ensures list_of_accessors { name_at (row_of ListName.accessors) root_rows ≡ codes "accessors" }
     ensures list_of_animations { name_at (row_of ListName.animations) root_rows ≡ codes "animations" }
     ensures list_of_buffers { name_at (row_of ListName.buffers) root_rows ≡ codes "buffers" }

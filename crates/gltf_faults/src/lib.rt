@@ -21,4 +21,4 @@ pub use leaves::{choice_fault, stride_fault};
 pub use light::spot_fault;
 pub use primitive::{PositionFaults, position_faults, positions};
 pub use required::extension_fault;
-pub use rules::{ENABLED_WITH_EMPTY_TEXTURES, Rules, constants_are_listed};
+pub use rules::{ENABLED_WITH_EMPTY_TEXTURES, Rules, constant_is_listed};

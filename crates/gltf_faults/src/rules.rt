@@ -31,8 +31,8 @@ pub const ENABLED_WITH_EMPTY_TEXTURES: &[&str] = &[
     "MSFT_texture_dds",
 ];
 
-/// The constant of this module is the names in their order.
-pub fn constants_are_listed()
+/// `ENABLED_WITH_EMPTY_TEXTURES` holds these names, in this order.
+pub fn constant_is_listed()
     ensures { map (λ name. name.now) ENABLED_WITH_EMPTY_TEXTURES.now ≡ enabled_with_empty_textures }
 {}
 

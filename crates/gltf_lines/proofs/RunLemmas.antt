@@ -7,10 +7,11 @@ use Rattle.gltf_schema.specs.declared.error.Error.TheVariants.{Json, Schema, Inv
 use Rattle.gltf_root.specs.Answer.{Answer, no_json, no_document, document, answer, IsReadAnswer, IsReading}
 use Rattle.gltf_devices.specs.Device.{Seen, IsWithin, AppendsFront}
 use Rattle.gltf_faults.specs.Context.{Rules}
+use Rattle.gltf_faults.specs.Reports.{document_reports}
 use Rattle.gltf_sinks.specs.Report.{Report}
 use Rattle.gltf_root.specs.RootTrees.{root_tree}
 use Rattle.gltf_root.specs.declared.root.Root.{Root}
-use Rattle.gltf_lines.specs.Output.{Output, answer_output, reports_output, document_reports, output, refusal}
+use Rattle.gltf_lines.specs.Output.{Output, answer_output, reports_output, output, refusal}
 use Rattle.gltf_lines.specs.Run.{IsRun, IsWritten, reading_output}
 
 -- no output of an answer has the refusal's status

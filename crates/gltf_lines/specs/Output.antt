@@ -2,12 +2,10 @@
 use Rattle.std.specs.Prelude.{ℕ, List, [], ◌∷◌, ◌++◌, codes}
 use Rattle.gltf_paths.specs.Errors.{error_text}
 use Rattle.gltf_paths.specs.Text.{path_text}
-use Rattle.gltf_schema.specs.Tree.{Tree}
 use Rattle.gltf_root.specs.Answer.{Answer, no_json, no_document, document, answer}
 use Rattle.gltf_sinks.specs.Report.{Report}
 use Rattle.gltf_faults.specs.Context.{Rules}
-use Rattle.gltf_faults.specs.Reports.{reports_by_rules}
-use Rattle.gltf_root.specs.RootTable.{root_kind}
+use Rattle.gltf_faults.specs.Reports.{document_reports}
 
 -- a text, and an exit status
 pub record Output : Type 0 where
@@ -25,10 +23,6 @@ report_line r = line (path_text r.steps ++ codes ": " ++ error_text r.error)
 abbrev pub report_lines : List Report → List ℕ
 report_lines [] = []
 report_lines (r ∷ rs) = report_line r ++ report_lines rs
-
--- what is wrong in a document, its indexes resolved in itself
-abbrev pub document_reports : Rules → Tree → List Report
-document_reports rules t = reports_by_rules rules root_kind t t []
 
 abbrev pub reports_output : List Report → Output
 reports_output [] = record { text = line (codes "clean"); status = 0 }

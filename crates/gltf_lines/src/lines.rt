@@ -3,7 +3,8 @@
 ghost use Rattle.std.specs.Prelude.{◌≡◌, IfOk, string_bytes};
 ghost use Rattle.gltf_faults.specs.Context.{rules_of};
 ghost use Rattle.gltf_root.specs.RootTrees.{root_tree};
-ghost use Rattle.gltf_lines.specs.Output.{document_reports, report_lines};
+ghost use Rattle.gltf_faults.specs.Reports.{document_reports};
+ghost use Rattle.gltf_lines.specs.Output.{report_lines};
 
 use gltf_faults::Rules;
 use gltf_paths::Path;

@@ -1,10 +1,9 @@
 -- The items of a list, by their numbers.
 use Rattle.std.proofs.Common.{◌≡◌, ℕ, zero, suc, ◌+◌, ◌≤◌, ◌<◌, List, [], ◌∷◌, length, map, get_or, refl, subst, ap, arith}
-use Rattle.gltf_checked.specs.Keys.{Key}
 use Rattle.gltf_paths.specs.Steps.{item}
 use Rattle.gltf_schema.specs.Tree.{Tree, trees}
 use Rattle.gltf_plans.specs.Plan.{Plan, place, down, over, at, counts}
-use Rattle.gltf_plans.specs.Planned.{entry_plans, item_plans}
+use Rattle.gltf_plans.specs.Planned.{item_plans}
 use Rattle.gltf_plans.proofs.Past.{past}
 
 item_there : {X : Type 0} (f : Tree → Plan) (tree : X → Tree) (xs : List X) (i n : ℕ) (x : X) → n < length xs → x ≡ get_or xs n x
@@ -38,8 +37,3 @@ pub items_same : {X : Type 0} (f g : Tree → Plan) (tree : X → Tree) → ((x 
     → item_plans f i (trees (map tree xs)) ≡ item_plans g i (trees (map tree xs))
 items_same f g tree h [] i = refl
 items_same f g tree h (x ∷ xs) i = rw (h x, items_same f g tree h xs (suc i)) refl
-
--- an attribute is passed over
-pub entry_past : (count : ℕ) (e : Key × ℕ) (es : List (Key × ℕ)) (m n : ℕ) → m ≡ suc n
-    → at (place (entry_plans count (e ∷ es)) []) m ≡ at (place (entry_plans count es) []) n
-entry_past count e es m n h = rw h refl

@@ -3,7 +3,7 @@
 ghost use Rattle.std.specs.Prelude.{◌≡◌, ◌+◌, ◌<◌, ◌^◌};
 ghost use Rattle.gltf_data.specs.BufferTrees.{stride_tree};
 ghost use Rattle.gltf_schema.specs.Fields.{attributes_tree, index_tree};
-ghost use Rattle.gltf_schema.specs.Kind.{Kind, Attributes, Choice as ChoiceKind, IndexInto, Stride as stride_kind};
+ghost use Rattle.gltf_schema.specs.Kind.{Kind, Attributes, IndexInto, Stride as stride_kind};
 ghost use Rattle.gltf_schema.specs.Leaves.{checked_tree, choice_of};
 ghost use Rattle.gltf_schema.specs.Tree.{Tree, absent, tree_or_absent};
 ghost use Rattle.gltf_paths.specs.Lists.{ListName};

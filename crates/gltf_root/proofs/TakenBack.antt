@@ -4,7 +4,7 @@ use Rattle.gltf_paths.specs.Lists.{ListName}
 use Rattle.gltf_schema.specs.Tree.{Tree, tree_or_absent}
 use Rattle.gltf_schema.specs.Fields.{closed_object}
 use Rattle.gltf_root.proofs.Undoing.{without_last-with_last}
-use Rattle.gltf_root.specs.Lists.{list_in}
+use Rattle.gltf_root.specs.Lists.{extensions_row, list_in}
 use Rattle.gltf_root.specs.Pushed.{pushed, with_list}
 use Rattle.gltf_root.specs.RootExtensionTrees.{root_extensions, root_extension_members, lights_members, variants_members}
 use Rattle.gltf_root.specs.RootTrees.{root_members, root_tree, put_at}
@@ -20,7 +20,7 @@ IsTakenBack named x root = undone named (mark_in named root) (pushed named x roo
 
 -- a document with other extensions
 abbrev extended : Root → Tree → Tree
-extended r extensions = closed_object (put_at 6 extensions (root_members r))
+extended r extensions = closed_object (put_at extensions_row extensions (root_members r))
 
 in_lights : (r : Root) (x : Tree) (e : RootExtensions) (found : Option KhrLightsPunctual)
     → IsTakenBack ListName.lights x (extended r (root_extensions (record e { khr_lights_punctual = found })))

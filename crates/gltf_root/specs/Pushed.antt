@@ -15,7 +15,7 @@ use Rattle.gltf_nodes.specs.CameraTable.{camera_kind}
 use Rattle.gltf_nodes.specs.LightTable.{light_kind, variant_kind}
 use Rattle.gltf_nodes.specs.SceneTable.{node_kind, scene_kind, skin_kind}
 use Rattle.gltf_animations.specs.AnimationTable.{animation_kind}
-use Rattle.gltf_root.specs.Lists.{list_in, row_of}
+use Rattle.gltf_root.specs.Lists.{lights_row, variants_row, listed_row, list_in, row_of}
 use Rattle.gltf_root.specs.RootTrees.{put_at}
 
 -- an object with another member at a number
@@ -37,7 +37,7 @@ made_extensions = closed_object (trees (absent ∷ absent ∷ []))
 
 -- an extension object with another list, and extensions in which the one at a number has it
 abbrev pub with_extension_list : Trees → Tree → Tree
-with_extension_list items extension = with_member 0 (list items) (or_made made_extension extension)
+with_extension_list items extension = with_member listed_row (list items) (or_made made_extension extension)
 
 abbrev pub with_extended_list : ℕ → Trees → Tree → Tree
 with_extended_list n items extensions =
@@ -45,8 +45,8 @@ with_extended_list n items extensions =
 
 -- the member there with another list
 abbrev pub row_listed : ListName → Trees → Tree → Tree
-row_listed ListName.lights items extensions = with_extended_list 0 items extensions
-row_listed ListName.variants items extensions = with_extended_list 1 items extensions
+row_listed ListName.lights items extensions = with_extended_list lights_row items extensions
+row_listed ListName.variants items extensions = with_extended_list variants_row items extensions
 row_listed _ items old = list items
 
 -- a document with another list of a name; all else is as it was

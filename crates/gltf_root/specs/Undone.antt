@@ -1,16 +1,11 @@
--- Which of the objects that a list stands in a document has, and the document after the last push
--- onto that list is taken back.
+-- Which of the extension objects around a list a document has, and the document after the last push onto that list is taken back.
 use Rattle.std.specs.Prelude.{ℕ, if◌then◌else◌}
 use Rattle.gltf_paths.specs.Lists.{ListName}
-use Rattle.gltf_schema.specs.Tree.{Tree, Trees, absent, is_absent, end, with_tree, tree_at, members_in}
-use Rattle.gltf_root.specs.Lists.{extension_at, list_in}
+use Rattle.gltf_schema.specs.Tree.{Tree, Trees, absent, is_absent, end, with_tree}
+use Rattle.gltf_root.specs.Lists.{extensions_row, lights_row, variants_row, extensions_in, extension_at, list_in}
 use Rattle.gltf_root.specs.Pushed.{with_member, with_list}
 use Rattle.gltf_root.specs.declared.root.mark.Mark.{Mark}
 use Rattle.gltf_root.specs.declared.root.mark.Mark.TheVariants.{Listed, NoObject, NoExtensions}
-
--- the extensions of a document
-abbrev pub extensions_in : Tree → Tree
-extensions_in root = tree_at 6 (members_in root)
 
 -- what a document has of the extension object at a number
 abbrev pub extension_mark : ℕ → Tree → Mark
@@ -20,8 +15,8 @@ extension_mark n root =
 
 -- what a document has for a list: all that it takes, but where its extension object is missing
 abbrev pub mark_in : ListName → Tree → Mark
-mark_in ListName.lights root = extension_mark 0 root
-mark_in ListName.variants root = extension_mark 1 root
+mark_in ListName.lights root = extension_mark lights_row root
+mark_in ListName.variants root = extension_mark variants_row root
 mark_in named root = Listed
 
 -- trees but the last one
@@ -36,16 +31,16 @@ abbrev pub without_last_item : ListName → Tree → Tree
 without_last_item named root = with_list named (without_last (list_in named root)) root
 
 abbrev pub without_extension : ℕ → Tree → Tree
-without_extension n root = with_member 6 (with_member n absent (extensions_in root)) root
+without_extension n root = with_member extensions_row (with_member n absent (extensions_in root)) root
 
 abbrev pub without_extensions : Tree → Tree
-without_extensions root = with_member 6 absent root
+without_extensions root = with_member extensions_row absent root
 
 -- a document of which a push onto a list is taken back, where the mark is that of the document before
 -- the push: the last item is gone, and so is what was made to hold it
 abbrev pub undone : ListName → Mark → Tree → Tree
-undone ListName.lights NoObject root = without_extension 0 root
+undone ListName.lights NoObject root = without_extension lights_row root
 undone ListName.lights NoExtensions root = without_extensions root
-undone ListName.variants NoObject root = without_extension 1 root
+undone ListName.variants NoObject root = without_extension variants_row root
 undone ListName.variants NoExtensions root = without_extensions root
 undone named mark root = without_last_item named root

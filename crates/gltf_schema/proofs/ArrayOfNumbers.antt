@@ -4,7 +4,7 @@ use Rattle.std.proofs.lemmas.Bool.{eq-eqb, ne_eqb}
 use Rattle.std.proofs.lemmas.List.{length-map}
 use Rattle.std.specs.Option.{ok_or}
 use Rattle.std.specs.Result.{MatchResult, result_ok}
-use Rattle.serde_json.specs.Data.{Num, unsigned, Data, array, Items, no_items, item}
+use Rattle.serde_json.specs.Data.{Num, unsigned, array, Items, no_items, item}
 use Rattle.serde_json.specs.Data as json
 use Rattle.serde_json.specs.Find.{as_number}
 use Rattle.gltf_paths.specs.Reals.{real_number}

@@ -1,13 +1,11 @@
 //! Kinds without rows.
 
-ghost use Rattle.std.specs.Prelude.{◌≡◌, map, string_bytes, refl};
+ghost use Rattle.std.specs.Prelude.{◌≡◌, map, refl};
 ghost use Rattle.serde_json.specs.View.{view, items_view};
-ghost use Rattle.gltf_paths.specs.Indexes.{index_number};
-ghost use Rattle.gltf_paths.specs.Reals.{real_number};
-ghost use Rattle.gltf_schema.specs.Tree.{whole, number, text, truth, any, index, list, trees};
+ghost use Rattle.gltf_schema.specs.Tree.{whole, truth, trees};
 ghost use Rattle.gltf_schema.specs.Kind.{IndexInto, U32, U64, Number, Numbers, Text, Truth, Any, ListOf};
 ghost use Rattle.gltf_schema.specs.Read.{read, read_items, small_number as number_of_32_bits};
-ghost use Rattle.gltf_schema.specs.Fields.{reals_tree};
+ghost use Rattle.gltf_schema.specs.Fields.{any_tree, index_tree, list_tree, real_tree, reals_tree, size_tree, text_tree};
 ghost use Rattle.gltf_schema.specs.Write.{write, write_items};
 ghost use Rattle.gltf_schema.specs.Invalid.{any_holds_invalid};
 ghost use Rattle.gltf_schema.specs.Outcome.{Reads, Writes};
@@ -40,7 +38,7 @@ impl Schema for u32 {
 impl Schema for USize64 {
     ghost kind = { U64 };
 
-    ghost tree = { λ n. whole n.0 };
+    ghost tree = { size_tree };
 
     ghost present = { λ _. refl };
 
@@ -59,7 +57,7 @@ impl Schema for USize64 {
 impl<P: Names> Schema for IndexTo<P> {
     ghost kind = { IndexInto P.list };
 
-    ghost tree = { λ i. index (index_number i) };
+    ghost tree = { index_tree };
 
     ghost present = { λ _. refl };
 
@@ -78,7 +76,7 @@ impl<P: Names> Schema for IndexTo<P> {
 impl Schema for Real {
     ghost kind = { Number };
 
-    ghost tree = { λ x. number (real_number x) };
+    ghost tree = { real_tree };
 
     ghost present = { λ _. refl };
 
@@ -137,7 +135,7 @@ impl Schema for bool {
 impl Schema for String {
     ghost kind = { Text };
 
-    ghost tree = { λ s. text (string_bytes s) };
+    ghost tree = { text_tree };
 
     ghost present = { λ _. refl };
 
@@ -156,7 +154,7 @@ impl Schema for String {
 impl Schema for Value {
     ghost kind = { Any };
 
-    ghost tree = { λ v. any (view v) };
+    ghost tree = { any_tree };
 
     ghost present = { λ _. refl };
 
@@ -203,7 +201,7 @@ impl<T: Choice> Schema for Checked<T> {
 impl<T: Schema> Schema for Vec<T> {
     ghost kind = { ListOf T.kind };
 
-    ghost tree = { λ v. list (trees (map T.tree v.items)) };
+    ghost tree = { λ v. list_tree T.tree v.items };
 
     ghost present = { λ _. refl };
 

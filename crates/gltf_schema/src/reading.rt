@@ -2,7 +2,7 @@
 
 ghost use Rattle.std.specs.Prelude.{◌≡◌, Ok, map};
 ghost use Rattle.serde_json.specs.View.{members_view};
-ghost use Rattle.gltf_schema.specs.Tree.{Tree, tree_or_absent, trees, list as list_tree, end};
+ghost use Rattle.gltf_schema.specs.Tree.{tree_or_absent, trees, list as list_tree, end};
 ghost use Rattle.gltf_schema.specs.Kind.{required as is_required, optional as is_optional, always, unless, sometimes as is_sometimes, or_null, ListOf};
 ghost use Rattle.gltf_schema.specs.Readings.{reading_state, ReadsMember, TakesOthers, Finishes};
 

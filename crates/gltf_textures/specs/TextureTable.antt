@@ -1,6 +1,6 @@
 -- The rows of textures, their samplers and the references to them (glTF 2.0, sections 5.26, 5.29
 -- and 5.30), and of the extension KHR_texture_transform.
-use Rattle.std.specs.Prelude.{◌≡◌, true, false, codes, refl}
+use Rattle.std.specs.Prelude.{◌≡◌, ℕ, true, false, codes, refl}
 use Rattle.gltf_paths.specs.Lists.{samplers, textures}
 use Rattle.gltf_choices.specs.TextureChoices.{mag_filter_spelling, mag_filters, min_filter_spelling, min_filters, wrapping_mode_spelling, wrapping_modes}
 use Rattle.gltf_checked.specs.declared.choice.Form.TheVariants as form
@@ -36,13 +36,17 @@ sampler_rows =
 abbrev pub sampler_kind : Kind
 sampler_kind = Object ObjectName.sampler sampler_rows false
 
--- a texture without an image names the index past all others
+-- the index that stands for no image
+abbrev pub no_image : ℕ
+no_image = 4294967295
+
+-- a texture without an image names that index
 unfoldable pub texture_rows : Rows
 texture_rows =
     (codes "name", optional, Text)
     ◂ (codes "sampler", optional, IndexInto samplers)
     ◂ (codes "extensions", optional, kept_extensions ObjectName.texture)
-    ◂ (codes "source", unless (index 4294967295), SourceImage)
+    ◂ (codes "source", unless (index no_image), SourceImage)
     ◂ (codes "extras", optional, Any)
     ◂ no_rows
 

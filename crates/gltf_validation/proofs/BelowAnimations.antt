@@ -12,7 +12,8 @@ use Rattle.gltf_animations.specs.declared.animation.Sampler.{Sampler}
 use Rattle.gltf_animations.specs.declared.animation.Target.{Target}
 use Rattle.gltf_sinks.specs.Report.{From}
 use Rattle.gltf_faults.specs.Context.{Context}
-use Rattle.gltf_faults.specs.Reports.{items_reports, reports}
+use Rattle.gltf_faults.specs.Faults.{items_reports}
+use Rattle.gltf_faults.specs.Reports.{reports}
 use Rattle.gltf_faults.specs.Silence.{silent}
 use Rattle.gltf_faults.proofs.Joining.{joined}
 

@@ -9,8 +9,8 @@ use Rattle.gltf_schema.specs.Kind.{Kind}
 use Rattle.gltf_schema.specs.Leaves.{checked_tree}
 use Rattle.gltf_sinks.specs.Report.{From, each_at}
 use Rattle.gltf_faults.specs.Context.{Context}
-use Rattle.gltf_faults.specs.Faults.{choice_faults}
-use Rattle.gltf_faults.specs.Reports.{reports, items_reports}
+use Rattle.gltf_faults.specs.Faults.{choice_faults, items_reports}
+use Rattle.gltf_faults.specs.Reports.{reports}
 use Rattle.gltf_validation.specs.ByType.{reports_by, reports_in, checked_reports, option_reports, list_reports, list_kind}
 
 -- each item by itself

@@ -1,6 +1,6 @@
 -- The reports of values, by their types.
-use Rattle.std.specs.Prelude.{ℕ, ◌+◌, ◌-◌, List, [], ◌∷◌, ◌++◌, Option, Some, None}
-use Rattle.gltf_paths.specs.Steps.{item, key}
+use Rattle.std.specs.Prelude.{ℕ, List, [], ◌∷◌, ◌++◌, Option, Some, None}
+use Rattle.gltf_paths.specs.Steps.{key}
 use Rattle.gltf_paths.specs.declared.validation.Error.TheVariants as error
 use Rattle.gltf_checked.specs.declared.validation.Checked.{Checked}
 use Rattle.gltf_checked.specs.declared.validation.Checked.TheVariants as checked

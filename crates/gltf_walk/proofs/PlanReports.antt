@@ -11,12 +11,13 @@ use Rattle.gltf_paths.specs.declared.validation.Error.TheVariants.{Missing}
 use Rattle.gltf_schema.specs.Tree as tree
 use Rattle.gltf_schema.specs.Tree.{Tree, Trees, end, with_tree, tree_at, items_in, members_in, entries_in}
 use Rattle.gltf_schema.specs.Kind.{Kind, IndexInto, SourceImage, ChannelSampler, Stride, Choice, Attributes, ListOf, Object, ObjectName, Rows, no_rows, row}
+use Rattle.gltf_textures.specs.TextureTable.{no_image}
 use Rattle.gltf_root.specs.Lists.{list_in, count_in, sampler_count}
 use Rattle.gltf_sinks.specs.Report.{From, Report, report}
 use Rattle.gltf_faults.specs.Context.{Context}
-use Rattle.gltf_faults.specs.Faults.{report_if, number_faults, index_faults, source_faults, stride_faults, choice_faults, key_faults, entries_faults}
-use Rattle.gltf_faults.specs.Reports.{animation_below, items_reports, reports, member_reports}
-use Rattle.gltf_faults.specs.Rules.{is_positions, accessor_min, accessor_max, primitive_attributes, root_extensions_required, bound_faults, bounds_faults, positions_faults, extension_faults, extensions_faults, rule, object_faults}
+use Rattle.gltf_faults.specs.Faults.{report_if, number_faults, index_faults, source_faults, stride_faults, choice_faults, key_faults, entries_faults, items_reports}
+use Rattle.gltf_faults.specs.Reports.{animation_below, reports, member_reports}
+use Rattle.gltf_faults.specs.Rules.{is_positions, accessor_min, accessor_max, primitive_attributes, root_extensions_required, bound_faults, bounds_faults, positions_faults, extension_faults, rule, object_faults}
 use Rattle.gltf_faults.specs.Silence.{is_silent, silent}
 use Rattle.gltf_faults.proofs.Joining.{joined}
 use Rattle.gltf_plans.specs.Plan.{Plan, Plans, nothing, below, errors, leaf, also, told, told_below, told_here}
@@ -50,7 +51,7 @@ source_at may_be_empty true count n base = if_told _ _ base
 source_at may_be_empty false count n base = if_told _ _ base
 
 source_told : (may_be_empty : Bool) (count : ℕ) (t : Tree) (base : List Step) → told (leaf_of (source_faults may_be_empty count t)) base ≡ source_faults may_be_empty count t base
-source_told may_be_empty count (tree.index n) base = source_at may_be_empty (nat_eq n 4294967295) count n base
+source_told may_be_empty count (tree.index n) base = source_at may_be_empty (nat_eq n no_image) count n base
 source_told may_be_empty count t base = refl
 
 stride_told : (t : Tree) (base : List Step) → told (leaf_of (stride_faults t)) base ≡ stride_faults t base
@@ -125,11 +126,6 @@ name_told : (enabled : List (List ℕ)) (t : Tree) (base : List Step) → told (
 name_told enabled (tree.text s) base = append-nil _ ∙ if_told_below _ _ (value s) base
 name_told enabled t base = refl
 
--- the names stand as the items of a list do
-names_apart : (enabled : List (List ℕ)) (i : ℕ) (ts : Trees) (base : List Step) → items_reports (extension_faults enabled) i ts base ≡ extensions_faults enabled i ts base
-names_apart enabled i end base = refl
-names_apart enabled i (with_tree t ts) base = ap (λ rs. extension_faults enabled t (base ++ item i ∷ []) ++ rs) (names_apart enabled (suc i) ts base)
-
 -- nothing is wrong with an object without a rule
 unruled : (named : ObjectName) (t : Tree) (context : Context) (base : List Step)
     → ((ts : Trees) → rule named ts context base ≡ []) → [] ≡ object_faults t named context base
@@ -149,7 +145,7 @@ rule_told ObjectName.root (tree.object ts others) context base =
     let names = items_in (root_extensions_required ts) in
     let at = base ++ field (codes "extensionsRequired") ∷ [] in
     let enabled = context.rules.enabled in
-    append-nil _ ∙ append-nil _ ∙ append-nil _ ∙ items_told (name_plan enabled) (extension_faults enabled) (name_told enabled) 0 names at ∙ names_apart enabled 0 names at
+    append-nil _ ∙ append-nil _ ∙ append-nil _ ∙ items_told (name_plan enabled) (extension_faults enabled) (name_told enabled) 0 names at
 rule_told ObjectName.accessor t context base = refl
 rule_told ObjectName.light t context base = refl
 rule_told ObjectName.camera t context base = refl

@@ -4,8 +4,8 @@ ghost use Rattle.std.specs.Prelude.{◌≡◌, ◌<◌, ◌+◌, [], length, IfO
 ghost use Rattle.gltf_paths.specs.Steps.{steps_of};
 ghost use Rattle.gltf_root.specs.RootTable.{root_kind};
 ghost use Rattle.gltf_root.specs.RootTrees.{root_tree};
-ghost use Rattle.gltf_faults.specs.Context.{rules_of};
-ghost use Rattle.gltf_faults.specs.Reports.{reports_by_rules, reports_of};
+ghost use Rattle.gltf_faults.specs.Context.{rules_of, standard_rules};
+ghost use Rattle.gltf_faults.specs.Reports.{document_reports, reports_by_rules};
 ghost use Rattle.gltf_plans.specs.Parts.{plan_of};
 ghost use Rattle.gltf_plans.specs.Plan.{leaf};
 ghost use Rattle.gltf_walk.specs.ToCome.{base_count, left_of_descent, path_of_descent, to_come, path_of, IsNext, IsNextOf};
@@ -101,7 +101,7 @@ impl<'a> Descent<'a> {
 impl<'a> Walk<'a> {
     /// A walk over `root` that has not begun.
     pub fn new(root: &'a Root) -> Walk<'a>
-        ensures reports { to_come result ≡ reports_of root_kind (root_tree root.now) (root_tree root.now) [] }
+        ensures reports { to_come result ≡ document_reports standard_rules (root_tree root.now) }
         ensures path { path_of result ≡ [] }
     {
         Walk::with_rules(Rules::new(), root)
@@ -109,7 +109,7 @@ impl<'a> Walk<'a> {
 
     /// A walk over `root` by rules of the caller's that has not begun.
     pub fn with_rules(rules: Rules<'a>, root: &'a Root) -> Walk<'a>
-        ensures reports { to_come result ≡ reports_by_rules (rules_of rules.entry) root_kind (root_tree root.now) (root_tree root.now) [] }
+        ensures reports { to_come result ≡ document_reports (rules_of rules.entry) (root_tree root.now) }
         ensures path { path_of result ≡ [] }
     {
         Walk {

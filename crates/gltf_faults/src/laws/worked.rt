@@ -12,9 +12,10 @@ ghost use Rattle.gltf_schema.specs.Plain.{is_plain};
 ghost use Rattle.gltf_schema.specs.Tree.{any};
 ghost use Rattle.gltf_checked.specs.Spelling.{by_number, by_name};
 ghost use Rattle.gltf_data.specs.AccessorTable.{sparse_indices_kind};
+ghost use Rattle.gltf_nodes.specs.SceneTable.{node_extensions_kind};
 ghost use Rattle.gltf_root.specs.RootExtensionTable.{root_extensions_kind};
 ghost use Rattle.gltf_faults.specs.Context.{enabled_with_empty_textures};
-ghost use Rattle.gltf_faults.specs.Worked.{reports_in, reports_ruled, requiring, written_of, pushed_in, reports_pushed, whole, text, one, with_asset, with_accessor, with_view, accessor_of, in_accessor, in_view, with_one, in_one, odd_channel, in_channel, with_attributes, in_attributes, extended, in_extension, point_light, listed_variant, node_of, plain_in, plain_with_extras, indices_of, extensions_beside};
+ghost use Rattle.gltf_faults.specs.Worked.{reports_in, reports_ruled, requiring, written_of, pushed_in, reports_pushed, whole, text, one, with_asset, with_accessor, with_view, accessor_of, in_accessor, in_view, with_one, in_one, odd_channel, in_channel, with_attributes, in_attributes, extended, in_extension, point_light, listed_variant, node_of, plain_in, plain_with_extras, indices_of, extensions_beside, node_extensions_beside};
 
 /// Documents that are read, with their reports, and documents that are not.
 pub fn worked_documents()
@@ -131,7 +132,7 @@ pub fn worked_pushes()
 {}
 
 /// Which documents and objects are plain.
-#[tactic(auto, unfolding(gltf_root::specs::RootTable::root_rows, gltf_root::specs::RootExtensionTable::root_extension_rows, gltf_nodes::specs::AssetTable::asset_rows, gltf_data::specs::AccessorTable::accessor_rows, gltf_data::specs::AccessorTable::sparse_indices_rows))]
+#[tactic(auto, unfolding(gltf_root::specs::RootTable::root_rows, gltf_root::specs::RootExtensionTable::root_extension_rows, gltf_nodes::specs::AssetTable::asset_rows, gltf_data::specs::AccessorTable::accessor_rows, gltf_data::specs::AccessorTable::sparse_indices_rows, gltf_nodes::specs::SceneTable::node_extension_rows, gltf_nodes::specs::LightTable::light_of_node_rows))]
 pub fn worked_plainness()
     ensures what_is_read { plain_in (with_accessor (accessor_of (whole 1) (whole 5126) no_members)) ≡ Some true }
     // What is read is plain though a choice in it is invalid, or an extension unknown.
@@ -143,6 +144,8 @@ pub fn worked_plainness()
     ensures text_kept { plain_with_extras (any (text (codes "x"))) (with_asset no_members) ≡ Some true }
     ensures row_among_others { is_plain root_extensions_kind (extensions_beside (member (codes "KHR_lights_punctual") (whole 1) no_members)) ≡ false }
     ensures no_row_among_others { is_plain root_extensions_kind (extensions_beside (member (codes "EXT_x") (whole 1) no_members)) ≡ true }
+    ensures light_among_others { is_plain node_extensions_kind (node_extensions_beside (member (codes "KHR_lights_punctual") (whole 5) no_members)) ≡ false }
+    ensures no_light_among_others { is_plain node_extensions_kind (node_extensions_beside (member (codes "EXT_x") (whole 5) no_members)) ≡ true }
     // Where no others are kept, there may be none.
     ensures others_not_kept { is_plain sparse_indices_kind (indices_of (by_number 5123) (member (codes "zz") (whole 1) no_members)) ≡ false }
     ensures index_component_type { is_plain sparse_indices_kind (indices_of (by_number 5123) no_members) ≡ true }

@@ -1,7 +1,7 @@
 use Rattle.std.proofs.Common.{[]}
 use Rattle.gltf_schema.specs.Tree.{absent}
 use Rattle.gltf_faults.specs.Context.{under}
-use Rattle.gltf_faults.specs.Reports.{reports_by_rules}
+use Rattle.gltf_faults.specs.Reports.{document_reports}
 use Rattle.gltf_root.specs.RootTable.{root_kind}
 use Rattle.gltf_root.specs.RootTrees.{root_tree}
 use Rattle.gltf_faults.proofs.CleanIsClosed.{clean_is_closed}
@@ -13,4 +13,4 @@ returns-clause-clean c rules r clean = clean_is_closed root_kind (root_tree r) (
 
 pub returns-clause-none_counted : goal.returns-clause-none_counted
 returns-clause-none_counted c rules r none =
-    clean_is_closed root_kind (root_tree r) (under rules (root_tree r)) absent [] (none_counted (reports_by_rules rules root_kind (root_tree r) (root_tree r) []) none)
+    clean_is_closed root_kind (root_tree r) (under rules (root_tree r)) absent [] (none_counted (document_reports rules (root_tree r)) none)

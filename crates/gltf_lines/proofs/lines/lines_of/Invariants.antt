@@ -3,7 +3,8 @@ use Rattle.std.proofs.Common.{◌≡◌, ◌++◌, length, string_bytes}
 use Rattle.gltf_root.specs.RootTrees.{root_tree}
 use Rattle.gltf_faults.specs.Context.{rules_of}
 use Rattle.gltf_walk.specs.ToCome.{to_come}
-use Rattle.gltf_lines.specs.Output.{document_reports, report_lines}
+use Rattle.gltf_faults.specs.Reports.{document_reports}
+use Rattle.gltf_lines.specs.Output.{report_lines}
 use Rattle.gltf_lines.proofs.lines.lines_of.Given as goal
 
 abbrev pub decreases-loop-error : goal.decreases-loop-error

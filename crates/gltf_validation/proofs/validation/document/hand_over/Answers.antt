@@ -13,7 +13,7 @@ loop-error-preserved g c =
     let next = rw c.in-Ok-Some.field-0-is at c.in-Ok-Some.ensures.next in
     let due = subst (λ rs. Handing s.next old all rs now) next.0 c.loop-error.invariant.handing in
     record {
-      handing = handing-more s.next s.refuses old now _ all _ (path_of_descent c.next_report.new.self) c.in-Ok-Some.error due
+      handing = handing-more s.next old now _ all _ (path_of_descent c.next_report.new.self) c.in-Ok-Some.error due
           (c.in_default.ensures.taken ∙ ap (λ steps. s.next now steps c.in-Ok-Some.error) c.steps.ensures);
       base = omega (arith, next.1, c.loop-error.invariant.base);
     }

@@ -76,6 +76,11 @@ pub mod path {
     pub use gltf_paths::path::{KeyStep, Path, Step, Steps};
 }
 
+/// Indexes into the lists of a document, and why one more item is refused there.
+pub mod root {
+    pub use gltf_paths::{Index, PushError};
+}
+
 /// The choices of textures and their samplers.
 pub mod texture {
     pub use gltf_choices::texture::{

@@ -1,7 +1,7 @@
 //! Laws of the crate's types, and of every type that is ordered and hashed. Each function does
 //! nothing; its contract is the law.
 
-ghost use Rattle.std.specs.Prelude.{◌≡◌, false, true, [], ◌∷◌, codes, IsTrue};
+ghost use Rattle.std.specs.Prelude.{◌≡◌, false, true, [], codes, IsTrue};
 ghost use Rattle.std.specs.Cmp.{IsTotalOrder};
 ghost use Rattle.std.specs.Ordering.{is_eq};
 ghost use Rattle.std.specs.declared.cmp.Ordering.TheVariants.{Less, Equal, Greater};
@@ -16,7 +16,7 @@ use crate::mesh::Semantic;
 use crate::validation::Checked;
 use std::hash::Hash;
 
-/// An order is total, is zero just where values are equal, and equal values hash alike.
+/// An order is total, answers `Equal` just where values are equal, and equal values hash alike.
 pub fn orders_agree_with_equality<T: Ord + Hash>()
     ensures total { IsTotalOrder T.cmp }
     ensures equality { (x y : T) → T.eq x y ≡ is_eq (T.cmp x y) }

@@ -19,8 +19,8 @@ pub const ENABLED_EXTENSIONS: &[&str] = &[
     "KHR_materials_emissive_strength",
 ];
 
-/// The names of the extensions that can be enabled: the same ones, since no feature of this library
-/// leaves any out. The library never goes by this list, which is for callers that ask.
+/// The same names, as the ported crate calls those that its features can enable: no feature of this
+/// library leaves any out. It never goes by this list, which is for callers that ask.
 pub const SUPPORTED_EXTENSIONS: &[&str] = ENABLED_EXTENSIONS;
 
 /// The constants of this module are the names in their order.

@@ -95,13 +95,13 @@ impl Object for Camera {
 /// A projection without perspective.
 #[derive(Clone, Debug, Drop)]
 pub struct Orthographic {
-    /// Half of the width that is seen.
+    /// Half of the width that is seen, in meters.
     pub xmag: Real,
-    /// Half of the height that is seen.
+    /// Half of the height that is seen, in meters.
     pub ymag: Real,
-    /// How far away the last is that is seen.
+    /// How far away the last is that is seen, in meters.
     pub zfar: Real,
-    /// How far away the first is that is seen.
+    /// How far away the first is that is seen, in meters.
     pub znear: Real,
     pub extensions: Option<extensions::camera::Orthographic>,
     pub extras: Extras,
@@ -157,9 +157,9 @@ pub struct Perspective {
     pub aspect_ratio: Option<Real>,
     /// The angle that is seen from top to bottom, in radians.
     pub yfov: Real,
-    /// How far away the last is that is seen; without it there is no end.
+    /// How far away the last is that is seen, in meters; without it there is no end.
     pub zfar: Option<Real>,
-    /// How far away the first is that is seen.
+    /// How far away the first is that is seen, in meters.
     pub znear: Real,
     pub extensions: Option<extensions::camera::Perspective>,
     pub extras: Extras,

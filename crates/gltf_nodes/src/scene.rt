@@ -37,7 +37,7 @@ pub struct Node {
     pub rotation: Option<UnitQuaternion>,
     /// How the node is scaled in its parent, along the axes.
     pub scale: Option<[Real; 3]>,
-    /// How far the node is moved in its parent, along the axes.
+    /// How far the node is moved in its parent, along the axes, in meters.
     pub translation: Option<[Real; 3]>,
     pub extensions: Option<extensions::scene::Node>,
     pub extras: Extras,

@@ -81,7 +81,7 @@ impl<T> Index<T> {
 /// Why an item was not appended; each kind hands it back.
 #[derive(Debug, Drop)]
 pub enum PushError<T> {
-    /// The list has as many items as there are indexes.
+    /// The list has 4294967295 items or more.
     Full(T),
     /// There was no memory for one item more.
     Memory(T),

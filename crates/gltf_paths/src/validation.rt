@@ -16,7 +16,7 @@ pub enum Error {
     Missing,
     /// A size past what the machine can address. It is never reported, since `usize` has 64 bits.
     Oversize,
-    /// An extension that is required and not known.
+    /// An extension that a document requires and that the rules don't enable.
     Unsupported,
 }
 

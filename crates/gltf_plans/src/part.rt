@@ -28,12 +28,14 @@ use std::collections::BTreeMap;
 /// rule looks at, or a place with nothing below, at which something is wrong or not.
 #[derive(Clone, Copy, Drop)]
 pub enum Part<'a> {
+    /// A place with nothing below, and what is wrong there.
     Leaf(Option<Error>),
     Root(&'a Root),
     RootExtensions(&'a RootExtensions),
     Lights(&'a Lights),
     LightList(&'a Vec<Light>),
     Light(&'a Light),
+    /// The names of the extensions that a document requires, and one of them.
     RequiredExtensions(&'a Vec<String>),
     RequiredExtension(&'a String),
     Accessors(&'a Vec<Accessor>),
@@ -43,6 +45,7 @@ pub enum Part<'a> {
     SparseValues(&'a Values),
     Animations(&'a Vec<Animation>),
     Animation(&'a Animation),
+    /// The channels of an animation, and one of them with the animation whose samplers it names.
     Channels(&'a Animation),
     Channel(&'a Channel, &'a Animation),
     Target(&'a Target),
@@ -69,7 +72,9 @@ pub enum Part<'a> {
     Primitives(&'a Vec<Primitive>),
     Primitive(&'a Primitive),
     Attributes(&'a BTreeMap<Checked<Semantic>, Index<Accessor>>),
+    /// What is wrong with an attribute's key, and with its index.
     Attribute(Option<Error>, Option<Error>),
+    /// The attributes as their primitive's rule looks at them, and the positions in them.
     AtPositions(PositionFaults),
     Positions(PositionFaults),
     MorphTargets(&'a Vec<MorphTarget>),

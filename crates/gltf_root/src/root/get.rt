@@ -61,7 +61,7 @@ pub trait Get<T> {
         ensures handed_back { IfErr result (IsHandedBack item) }
         ensures unchanged { OnErr result (document self.new ≡ document self.old) };
 
-    /// Which of the objects that the list stands in the document has. Taken before a push, it tells
+    /// Which of the extension objects around the list the document has. Taken before a push, it tells
     /// `undo_push` what the push made.
     fn mark(&self) -> Mark
         ensures { result ≡ mark_in named (document self.now) };
@@ -110,7 +110,7 @@ pub trait RootItem: Listed + Drop {
         ensures handed_back { IfErr result (IsHandedBack item) }
         ensures unchanged { OnErr result (root_tree root.new ≡ root_tree root.old) };
 
-    /// Which of the objects that the list stands in a root has.
+    /// Which of the extension objects around the list a root has.
     fn mark_of(root: &Root) -> Mark
         ensures { result ≡ mark_in Self.list (root_tree root.now) };
 

@@ -1,6 +1,6 @@
-//! What stands of a list in a document before a push onto it.
+//! Which extension objects a document had before a push.
 
-/// Which of the objects that a list stands in a document has.
+/// Which of the extension objects around a list a document has.
 #[derive(Clone, Copy, Debug, Drop, PartialEq, Eq)]
 pub enum Mark {
     /// All of them, so the list is there.

@@ -58,7 +58,7 @@ pub struct Light {
     pub name: Option<String>,
     /// How bright it is, in candela or, where it is directional, in lux; `None` stands for 1.
     pub intensity: Option<Real>,
-    /// How far it reaches; without it there is no end.
+    /// How far it reaches, in meters; without it there is no end.
     pub range: Option<Real>,
     /// Its color: red, green, blue; `None` stands for ones.
     pub color: Option<[Real; 3]>,

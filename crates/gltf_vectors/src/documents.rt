@@ -23,8 +23,11 @@ use gltf_json::{Error, Root};
 use std::alloc::Global;
 use std::fmt::Write;
 
-/// What a new document is written as.
-const NEW: &str = r#"{"asset":{"version":"2.0"}}"#;
+/// A document that tells its version alone, of 27 bytes: what a new one is written as.
+pub(crate) const NEW: &str = r#"{"asset":{"version":"2.0"}}"#;
+
+/// The same document in lines.
+pub(crate) const NEW_IN_LINES: &str = "{\n  \"asset\": {\n    \"version\": \"2.0\"\n  }\n}";
 
 /// A document with a texture that names no image.
 const WITHOUT_SOURCE: &str = r#"{"asset":{"version":"2.0"},"textures":[{}]}"#;

@@ -12,9 +12,6 @@ use gltf_json::root::Watched;
 use gltf_lines::run;
 use std::alloc::Global;
 
-/// A document that tells its version alone, of 27 bytes.
-const DOCUMENT: &str = r#"{"asset":{"version":"2.0"}}"#;
-
 /// What a run over a document writes, and the status that it answers.
 fn run_over(alloc: Global, document: &str) -> (Vec<u8>, u8) {
     let mut reader = Watched::new(document.as_bytes());

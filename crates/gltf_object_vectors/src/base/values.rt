@@ -257,3 +257,16 @@ fn index_is_shown(rt: HostRuntime) -> Result<(), Fail> {
     );
     Ok(())
 }
+
+#[test]
+fn values_are_debugged(rt: HostRuntime) -> Result<(), Fail> {
+    let key = Checked::Valid(Semantic::Colors(1));
+    let size = USize64(3);
+    let step = Step::Field("a");
+    let error = Error::Missing;
+    assert_eq!(rt;
+        format!(in rt.alloc(); "{key:?} {size:?} {step:?} {error:?}")?.as_str(),
+        "Valid(Colors(1)) USize64(3) Field(\"a\") Missing"
+    );
+    Ok(())
+}

@@ -193,7 +193,7 @@ fn variants_stand_beside_other_extensions(rt: HostRuntime) -> Result<(), Fail> {
 }
 
 /// A view of the first buffer.
-const VIEW: &str = r#"{"buffer":0,"byteLength":4}"#;
+pub(super) const VIEW: &str = r#"{"buffer":0,"byteLength":4}"#;
 
 pub(super) const NO_BUFFER: &str = "bufferViews[0].buffer: Index out of bounds\n";
 

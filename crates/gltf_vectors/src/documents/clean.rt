@@ -1,6 +1,6 @@
 //! Roots that have no report, and pushes that leave them so.
 
-use super::built::POINT;
+use super::built::{POINT, VIEW};
 use super::{FAULTY, NEW};
 use crate::lines::hog::Hog;
 use crate::reading::object;
@@ -19,9 +19,6 @@ use std::fmt::Debug;
 use std::test::Fail;
 
 const BUFFER: &str = r#"{"byteLength":4}"#;
-
-/// A view of the first buffer.
-const VIEW: &str = r#"{"buffer":0,"byteLength":4}"#;
 
 /// A view of the second one.
 const NEXT_VIEW: &str = r#"{"buffer":1,"byteLength":4}"#;

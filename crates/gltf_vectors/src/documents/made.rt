@@ -1,12 +1,10 @@
 //! What documents that are made by hand are written as.
 
-use super::NEW;
+use super::{NEW, NEW_IN_LINES};
 use crate::writing::{Layout, by_value, is_line, is_text};
 use gltf_json::{Error, Material, Root, Value};
 use std::alloc::Global;
 use std::test::Fail;
-
-const NEW_IN_LINES: &str = "{\n  \"asset\": {\n    \"version\": \"2.0\"\n  }\n}";
 
 const ONE_MATERIAL: &str =
     r#"{"asset":{"version":"2.0"},"materials":[{"alphaMode":"OPAQUE","doubleSided":false,"pbrMetallicRoughness":{}}]}"#;

@@ -10,7 +10,7 @@ use std::test::Fail;
 /// A document, and the line that it is written as.
 type Case = (&'static str, &'static str);
 
-const CASES: [Case; 16] = [
+const CASES: [Case; 17] = [
     (NEW, NEW),
     (
         r#"{"textures":[],"extras":null,"zz":1,"asset":{"version":"2.0"}}"#,
@@ -59,6 +59,10 @@ const CASES: [Case; 16] = [
     (
         r#"{"asset":{"version":"2.0"},"scene":3,"extensionsUsed":["a"],"extensionsRequired":[],"extras":[false]}"#,
         r#"{"asset":{"version":"2.0"},"extensionsUsed":["a"],"extras":[false],"scene":3}"#,
+    ),
+    (
+        r#"{"asset":{"version":"2.0"},"extras":[0.5,-1.25]}"#,
+        r#"{"asset":{"version":"2.0"},"extras":[0.5,-1.25]}"#,
     ),
 ];
 

@@ -1,7 +1,7 @@
 //! Readers that are read within limits of the caller's.
 
-use super::DOCUMENT;
 use super::devices::{Blanks, Giver};
+use crate::documents::NEW;
 use gltf_json::root::{ByteIn, Watched};
 use gltf_json::{Error, Root};
 use std::alloc::Global;
@@ -14,14 +14,14 @@ fn is_too_long<R: ByteIn>(alloc: Global, reader: &mut R, bytes: u64, calls: u64)
 
 #[test]
 fn documents_within_limits(rt: HostRuntime) {
-    let mut reader = Watched::new(Giver::new(DOCUMENT, 0));
+    let mut reader = Watched::new(Giver::new(NEW, 0));
     assert!(rt; Root::from_reader_within(rt.alloc(), &mut reader, 27, 28).is_ok());
 }
 
 #[test]
 fn documents_past_a_limit(rt: HostRuntime) {
     for (bytes, calls) in [(26, 28), (27, 27), (27, 0)] {
-        let mut reader = Watched::new(Giver::new(DOCUMENT, 0));
+        let mut reader = Watched::new(Giver::new(NEW, 0));
         assert!(rt;
             is_too_long(rt.alloc(), &mut reader, bytes, calls),
             "{bytes} {calls}"

@@ -1,9 +1,8 @@
 //! Devices that fail, and memory that is refused.
 
-use super::DOCUMENT;
 use super::devices::{Giver, Taker, Wall};
 use super::hog::{End, Tried, refusal_count};
-use crate::documents::{FAULTY, SIX, SIX_LINES};
+use crate::documents::{FAULTY, NEW, SIX, SIX_LINES};
 use gltf_json::root::{ByteIn, Failed, Watched};
 use gltf_json::{Error, Root};
 use gltf_lines::run;
@@ -24,7 +23,7 @@ fn failed_is_printed(rt: HostRuntime) -> Result<(), Fail> {
 
 /// Whether a run over a reader that fails at a call says so, and tells nothing of the document.
 fn is_refused_at(alloc: Global, fails_at: usize) -> bool {
-    let mut reader = Watched::new(Giver::new(DOCUMENT, fails_at));
+    let mut reader = Watched::new(Giver::new(NEW, fails_at));
     let mut writer = Watched::new(Vec::new(alloc));
     run(alloc, &mut reader, &mut writer) == 4
         && reader.failed()
@@ -33,13 +32,13 @@ fn is_refused_at(alloc: Global, fails_at: usize) -> bool {
 
 /// Whether reading from a reader that fails at a call is a failed read.
 fn is_failed_at(alloc: Global, fails_at: usize) -> bool {
-    let mut reader = Watched::new(Giver::new(DOCUMENT, fails_at));
+    let mut reader = Watched::new(Giver::new(NEW, fails_at));
     matches!(Root::from_reader(alloc, &mut reader), Err(Error::Read))
 }
 
 #[test]
 fn readers_that_fail(rt: HostRuntime) {
-    for fails_at in 1..DOCUMENT.len() + 2 {
+    for fails_at in 1..NEW.len() + 2 {
         assert!(rt; is_refused_at(rt.alloc(), fails_at), "{fails_at}");
         assert!(rt; is_failed_at(rt.alloc(), fails_at), "{fails_at}");
     }
@@ -47,7 +46,7 @@ fn readers_that_fail(rt: HostRuntime) {
 
 #[test]
 fn readers_that_end(rt: HostRuntime) {
-    let mut reader = Watched::new(Giver::new(DOCUMENT, 0));
+    let mut reader = Watched::new(Giver::new(NEW, 0));
     assert!(rt; Root::from_reader(rt.alloc(), &mut reader).is_ok());
     assert!(rt; !reader.failed());
     assert!(rt; matches!(reader.read(&mut [0]), Ok(0)));
@@ -72,7 +71,7 @@ fn is_cut_off(alloc: Global, document: &'static str, due: &[u8], room: usize) ->
 fn writers_that_are_full(rt: HostRuntime) {
     let clean = b"clean\n";
     for room in 0..clean.len() {
-        assert!(rt; is_cut_off(rt.alloc(), DOCUMENT, clean, room), "{room}");
+        assert!(rt; is_cut_off(rt.alloc(), NEW, clean, room), "{room}");
     }
     let refused = b"refused: not a glTF document\n";
     for room in 0..refused.len() {
@@ -82,7 +81,7 @@ fn writers_that_are_full(rt: HostRuntime) {
 
 #[test]
 fn writers_that_take_nothing(rt: HostRuntime) {
-    let mut reader = Watched::new(Giver::new(DOCUMENT, 0));
+    let mut reader = Watched::new(Giver::new(NEW, 0));
     let mut writer = Watched::new(Wall);
     assert!(rt; run(rt.alloc(), &mut reader, &mut writer) == 4);
     assert!(rt; writer.failed());

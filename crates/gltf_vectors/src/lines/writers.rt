@@ -1,15 +1,12 @@
 //! Documents that are written into devices.
 
 use super::devices::{Counter, Interrupted, Taker, Wall};
+use crate::documents::{NEW, NEW_IN_LINES};
 use crate::writing::{LAYOUTS, Layout, write_into};
 use gltf_json::root::Watched;
 use gltf_json::{Error, Root};
 use std::alloc::Global;
 use std::test::Fail;
-
-const LINE: &str = r#"{"asset":{"version":"2.0"}}"#;
-
-const LINES: &str = "{\n  \"asset\": {\n    \"version\": \"2.0\"\n  }\n}";
 
 /// A document in which an item of a choice is none of those listed.
 const INVALID: &str =
@@ -18,8 +15,8 @@ const INVALID: &str =
 /// What a new document is written as.
 fn due(layout: Layout) -> &'static str {
     match layout {
-        Layout::InOneLine => LINE,
-        Layout::InLines => LINES,
+        Layout::InOneLine => NEW,
+        Layout::InLines => NEW_IN_LINES,
     }
 }
 
@@ -114,7 +111,7 @@ fn is_appended(alloc: Global) -> Result<bool, Error> {
     root.to_writer(alloc, &mut writer)?;
     root.to_writer_pretty(alloc, &mut writer)?;
     let taken = writer.into_inner();
-    Ok(taken.strip_prefix(LINE.as_bytes()) == Some(LINES.as_bytes()))
+    Ok(taken.strip_prefix(NEW.as_bytes()) == Some(NEW_IN_LINES.as_bytes()))
 }
 
 #[test]
@@ -136,7 +133,7 @@ fn calls_for(alloc: Global, document: &str, layout: Layout) -> Result<(u32, bool
 fn invalid_items_leave_writers_alone(rt: HostRuntime) -> Result<(), Fail> {
     for layout in LAYOUTS.iter() {
         assert_eq!(rt; calls_for(rt.alloc(), INVALID, *layout)?, (0, true));
-        assert!(rt; calls_for(rt.alloc(), LINE, *layout)?.0 > 0);
+        assert!(rt; calls_for(rt.alloc(), NEW, *layout)?.0 > 0);
     }
     Ok(())
 }

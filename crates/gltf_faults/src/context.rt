@@ -1,5 +1,8 @@
 //! What values are validated against.
 
+ghost use Rattle.std.specs.Prelude.{◌≡◌};
+ghost use Rattle.gltf_faults.specs.Context.{Context as Mathematical, context_of};
+
 use crate::rules::Rules;
 use gltf_root::root::Root;
 
@@ -10,4 +13,22 @@ pub struct Context<'a> {
     pub rules: &'a Rules<'a>,
     /// The document.
     pub root: &'a Root,
+}
+
+/// What has a context. Who only hands it on, as a walk over an object's members does, asks for this and
+/// so need not know that a whole document stands in it.
+pub trait Against {
+    ghost context: { Self → Mathematical };
+
+    /// The document and the rules.
+    fn context(&self) -> Context<'_>
+        ensures { context_of result ≡ context self.now };
+}
+
+impl Against for Context<'_> {
+    ghost context = { context_of };
+
+    fn context(&self) -> Context<'_> {
+        *self
+    }
 }

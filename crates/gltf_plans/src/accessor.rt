@@ -6,12 +6,12 @@ ghost use Rattle.gltf_data.specs.AccessorTrees.{accessor_members, sparse_members
 ghost use Rattle.gltf_schema.specs.Fields.{closed_object, list_tree};
 ghost use Rattle.gltf_schema.specs.Kind.{ListOf};
 
-use crate::next::{Next, found, member};
+use crate::next::Coming;
 use crate::part::Part;
 use crate::visited::{Object, Visited};
 use gltf_data::accessor::Accessor;
 use gltf_data::accessor::sparse::{Indices, Sparse, Values};
-use gltf_faults::{Context, data_fault};
+use gltf_faults::{Against, Context, data_fault};
 
 impl Visited for Accessor {
     ghost kind = { accessor_kind };
@@ -23,16 +23,16 @@ impl Visited for Accessor {
     }
 }
 
-impl Object for Accessor {
+impl<'a, N: Coming<'a>> Object<'a, N> for Accessor {
     #[tactic(auto, using(crate::proofs::Past::past), unfolding(gltf_data::specs::AccessorTable::accessor_rows, gltf_data::specs::AccessorTable::sparse_indices_rows, gltf_data::specs::AccessorTable::sparse_rows, gltf_data::specs::AccessorTrees::accessor_members))]
-    fn next<'a>(&'a self, number: usize, context: &Context<'_>) -> Next<'a> {
+    fn next<C: Against>(&'a self, number: usize, context: &C) -> N {
         match number {
-            0 => member("bufferView", &self.buffer_view, context),
-            1 => member("componentType", &self.component_type, context),
-            2 => member("type", &self.type_, context),
-            3 => member("sparse", &self.sparse, context),
-            4 => found("bufferView", data_fault(self)),
-            _ => Next::Done,
+            0 => N::member("bufferView", &self.buffer_view, context),
+            1 => N::member("componentType", &self.component_type, context),
+            2 => N::member("type", &self.type_, context),
+            3 => N::member("sparse", &self.sparse, context),
+            4 => N::found("bufferView", data_fault(self)),
+            _ => N::done(),
         }
     }
 }
@@ -57,13 +57,13 @@ impl Visited for Sparse {
     }
 }
 
-impl Object for Sparse {
+impl<'a, N: Coming<'a>> Object<'a, N> for Sparse {
     #[tactic(auto, using(crate::proofs::Past::past), unfolding(gltf_data::specs::AccessorTable::sparse_rows, gltf_data::specs::AccessorTable::sparse_indices_rows, gltf_data::specs::AccessorTable::sparse_values_rows, gltf_data::specs::AccessorTrees::sparse_members))]
-    fn next<'a>(&'a self, number: usize, context: &Context<'_>) -> Next<'a> {
+    fn next<C: Against>(&'a self, number: usize, context: &C) -> N {
         match number {
-            0 => member("indices", &self.indices, context),
-            1 => member("values", &self.values, context),
-            _ => Next::Done,
+            0 => N::member("indices", &self.indices, context),
+            1 => N::member("values", &self.values, context),
+            _ => N::done(),
         }
     }
 }
@@ -78,13 +78,13 @@ impl Visited for Indices {
     }
 }
 
-impl Object for Indices {
+impl<'a, N: Coming<'a>> Object<'a, N> for Indices {
     #[tactic(auto, using(crate::proofs::Past::past), unfolding(gltf_data::specs::AccessorTable::sparse_indices_rows, gltf_data::specs::AccessorTrees::sparse_indices_members))]
-    fn next<'a>(&'a self, number: usize, context: &Context<'_>) -> Next<'a> {
+    fn next<C: Against>(&'a self, number: usize, context: &C) -> N {
         match number {
-            0 => member("bufferView", &self.buffer_view, context),
-            1 => member("componentType", &self.component_type, context),
-            _ => Next::Done,
+            0 => N::member("bufferView", &self.buffer_view, context),
+            1 => N::member("componentType", &self.component_type, context),
+            _ => N::done(),
         }
     }
 }
@@ -99,12 +99,12 @@ impl Visited for Values {
     }
 }
 
-impl Object for Values {
+impl<'a, N: Coming<'a>> Object<'a, N> for Values {
     #[tactic(auto, using(crate::proofs::Past::past), unfolding(gltf_data::specs::AccessorTable::sparse_values_rows, gltf_data::specs::AccessorTrees::sparse_values_members))]
-    fn next<'a>(&'a self, number: usize, context: &Context<'_>) -> Next<'a> {
+    fn next<C: Against>(&'a self, number: usize, context: &C) -> N {
         match number {
-            0 => member("bufferView", &self.buffer_view, context),
-            _ => Next::Done,
+            0 => N::member("bufferView", &self.buffer_view, context),
+            _ => N::done(),
         }
     }
 }

@@ -6,12 +6,12 @@ ghost use Rattle.gltf_animations.specs.AnimationTrees.{animation_target_members,
 ghost use Rattle.gltf_schema.specs.Fields.{closed_object, list_tree};
 ghost use Rattle.gltf_schema.specs.Kind.{ListOf};
 
-use crate::next::{Next, member};
+use crate::next::Coming;
 use crate::part::Part;
 use crate::visited::{Object, Visited};
 use gltf_animations::animation::{Animation, Sampler, Target};
 use gltf_base::Step;
-use gltf_faults::Context;
+use gltf_faults::{Against, Context};
 
 impl Visited for Target {
     ghost kind = { animation_target_kind };
@@ -23,13 +23,13 @@ impl Visited for Target {
     }
 }
 
-impl Object for Target {
+impl<'a, N: Coming<'a>> Object<'a, N> for Target {
     #[tactic(auto, using(crate::proofs::Past::past), unfolding(gltf_animations::specs::AnimationTable::animation_target_rows, gltf_animations::specs::AnimationTrees::animation_target_members))]
-    fn next<'a>(&'a self, number: usize, context: &Context<'_>) -> Next<'a> {
+    fn next<C: Against>(&'a self, number: usize, context: &C) -> N {
         match number {
-            0 => member("node", &self.node, context),
-            1 => member("path", &self.path, context),
-            _ => Next::Done,
+            0 => N::member("node", &self.node, context),
+            1 => N::member("path", &self.path, context),
+            _ => N::done(),
         }
     }
 }
@@ -44,14 +44,14 @@ impl Visited for Sampler {
     }
 }
 
-impl Object for Sampler {
+impl<'a, N: Coming<'a>> Object<'a, N> for Sampler {
     #[tactic(auto, using(crate::proofs::Past::past), unfolding(gltf_animations::specs::AnimationTable::animation_sampler_rows, gltf_animations::specs::AnimationTrees::animation_sampler_members))]
-    fn next<'a>(&'a self, number: usize, context: &Context<'_>) -> Next<'a> {
+    fn next<C: Against>(&'a self, number: usize, context: &C) -> N {
         match number {
-            0 => member("input", &self.input, context),
-            1 => member("interpolation", &self.interpolation, context),
-            2 => member("output", &self.output, context),
-            _ => Next::Done,
+            0 => N::member("input", &self.input, context),
+            1 => N::member("interpolation", &self.interpolation, context),
+            2 => N::member("output", &self.output, context),
+            _ => N::done(),
         }
     }
 }
@@ -76,13 +76,13 @@ impl Visited for Animation {
     }
 }
 
-impl Object for Animation {
+impl<'a, N: Coming<'a>> Object<'a, N> for Animation {
     #[tactic(auto, using(crate::proofs::Past::past), unfolding(gltf_animations::specs::AnimationTable::animation_rows, gltf_animations::specs::AnimationTable::animation_channel_rows, gltf_animations::specs::AnimationTable::animation_sampler_rows, gltf_animations::specs::AnimationTrees::animation_members))]
-    fn next<'a>(&'a self, number: usize, context: &Context<'_>) -> Next<'a> {
+    fn next<C: Against>(&'a self, number: usize, context: &C) -> N {
         match number {
-            0 => member("samplers", &self.samplers, context),
-            1 => Next::Down(Step::Field("channels"), Part::Channels(self)),
-            _ => Next::Done,
+            0 => N::member("samplers", &self.samplers, context),
+            1 => N::down(Step::Field("channels"), Part::Channels(self)),
+            _ => N::done(),
         }
     }
 }

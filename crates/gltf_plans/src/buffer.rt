@@ -8,12 +8,12 @@ ghost use Rattle.gltf_data.specs.ImageTrees.{image_members};
 ghost use Rattle.gltf_schema.specs.Fields.{closed_object, list_tree};
 ghost use Rattle.gltf_schema.specs.Kind.{ListOf};
 
-use crate::next::{Next, member};
+use crate::next::Coming;
 use crate::part::Part;
 use crate::visited::{Object, Visited};
 use gltf_data::buffer::View;
 use gltf_data::image::Image;
-use gltf_faults::Context;
+use gltf_faults::{Against, Context};
 
 impl Visited for View {
     ghost kind = { view_kind };
@@ -25,14 +25,14 @@ impl Visited for View {
     }
 }
 
-impl Object for View {
+impl<'a, N: Coming<'a>> Object<'a, N> for View {
     #[tactic(auto, using(crate::proofs::Past::past), unfolding(gltf_data::specs::BufferTable::view_rows, gltf_data::specs::BufferTrees::view_members))]
-    fn next<'a>(&'a self, number: usize, context: &Context<'_>) -> Next<'a> {
+    fn next<C: Against>(&'a self, number: usize, context: &C) -> N {
         match number {
-            0 => member("buffer", &self.buffer, context),
-            1 => member("byteStride", &self.byte_stride, context),
-            2 => member("target", &self.target, context),
-            _ => Next::Done,
+            0 => N::member("buffer", &self.buffer, context),
+            1 => N::member("byteStride", &self.byte_stride, context),
+            2 => N::member("target", &self.target, context),
+            _ => N::done(),
         }
     }
 }
@@ -57,12 +57,12 @@ impl Visited for Image {
     }
 }
 
-impl Object for Image {
+impl<'a, N: Coming<'a>> Object<'a, N> for Image {
     #[tactic(auto, using(crate::proofs::Past::past), unfolding(gltf_data::specs::ImageTable::image_rows, gltf_data::specs::ImageTrees::image_members))]
-    fn next<'a>(&'a self, number: usize, context: &Context<'_>) -> Next<'a> {
+    fn next<C: Against>(&'a self, number: usize, context: &C) -> N {
         match number {
-            0 => member("bufferView", &self.buffer_view, context),
-            _ => Next::Done,
+            0 => N::member("bufferView", &self.buffer_view, context),
+            _ => N::done(),
         }
     }
 }

@@ -6,10 +6,10 @@ ghost use Rattle.gltf_nodes.specs.CameraTrees.{camera_members};
 ghost use Rattle.gltf_schema.specs.Fields.{closed_object, list_tree};
 ghost use Rattle.gltf_schema.specs.Kind.{ListOf};
 
-use crate::next::{Next, member, told};
+use crate::next::Coming;
 use crate::part::Part;
 use crate::visited::{Object, Visited};
-use gltf_faults::{Context, projection_fault};
+use gltf_faults::{Against, Context, projection_fault};
 use gltf_nodes::camera::Camera;
 
 impl Visited for Camera {
@@ -22,13 +22,13 @@ impl Visited for Camera {
     }
 }
 
-impl Object for Camera {
+impl<'a, N: Coming<'a>> Object<'a, N> for Camera {
     #[tactic(auto, using(crate::proofs::Past::past), unfolding(gltf_nodes::specs::CameraTable::camera_rows, gltf_nodes::specs::CameraTable::orthographic_rows, gltf_nodes::specs::CameraTable::perspective_rows, gltf_nodes::specs::CameraTrees::camera_members))]
-    fn next<'a>(&'a self, number: usize, context: &Context<'_>) -> Next<'a> {
+    fn next<C: Against>(&'a self, number: usize, context: &C) -> N {
         match number {
-            0 => member("type", &self.type_, context),
-            1 => told(projection_fault(self)),
-            _ => Next::Done,
+            0 => N::member("type", &self.type_, context),
+            1 => N::told(projection_fault(self)),
+            _ => N::done(),
         }
     }
 }

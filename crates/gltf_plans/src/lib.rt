@@ -17,6 +17,6 @@ mod shading;
 mod texture;
 mod visited;
 
-pub use next::{Next, found, member, told};
+pub use next::{Coming, Next};
 pub use part::Part;
 pub use visited::{Object, Visited};

@@ -6,10 +6,10 @@ ghost use Rattle.gltf_nodes.specs.LightTrees.{light_members, light_of_node_membe
 ghost use Rattle.gltf_schema.specs.Fields.{closed_object, list_tree};
 ghost use Rattle.gltf_schema.specs.Kind.{ListOf};
 
-use crate::next::{Next, found, member};
+use crate::next::Coming;
 use crate::part::Part;
 use crate::visited::{Object, Visited};
-use gltf_faults::{Context, spot_fault};
+use gltf_faults::{Against, Context, spot_fault};
 use gltf_nodes::extensions::scene::khr_lights_punctual::{KhrLightsPunctual, Light};
 
 impl Visited for Light {
@@ -22,13 +22,13 @@ impl Visited for Light {
     }
 }
 
-impl Object for Light {
+impl<'a, N: Coming<'a>> Object<'a, N> for Light {
     #[tactic(auto, using(crate::proofs::Past::past), unfolding(gltf_nodes::specs::LightTable::light_rows, gltf_nodes::specs::LightTable::spot_rows, gltf_nodes::specs::LightTrees::light_members))]
-    fn next<'a>(&'a self, number: usize, context: &Context<'_>) -> Next<'a> {
+    fn next<C: Against>(&'a self, number: usize, context: &C) -> N {
         match number {
-            0 => member("type", &self.type_, context),
-            1 => found("spot", spot_fault(self)),
-            _ => Next::Done,
+            0 => N::member("type", &self.type_, context),
+            1 => N::found("spot", spot_fault(self)),
+            _ => N::done(),
         }
     }
 }
@@ -53,12 +53,12 @@ impl Visited for KhrLightsPunctual {
     }
 }
 
-impl Object for KhrLightsPunctual {
+impl<'a, N: Coming<'a>> Object<'a, N> for KhrLightsPunctual {
     #[tactic(auto, using(crate::proofs::Past::past), unfolding(gltf_nodes::specs::LightTable::light_of_node_rows, gltf_nodes::specs::LightTrees::light_of_node_members))]
-    fn next<'a>(&'a self, number: usize, context: &Context<'_>) -> Next<'a> {
+    fn next<C: Against>(&'a self, number: usize, context: &C) -> N {
         match number {
-            0 => member("light", &self.light, context),
-            _ => Next::Done,
+            0 => N::member("light", &self.light, context),
+            _ => N::done(),
         }
     }
 }

@@ -6,10 +6,10 @@ ghost use Rattle.gltf_materials.specs.MaterialTrees.{material_members, pbr_metal
 ghost use Rattle.gltf_schema.specs.Fields.{closed_object, list_tree};
 ghost use Rattle.gltf_schema.specs.Kind.{ListOf};
 
-use crate::next::{Next, member};
+use crate::next::Coming;
 use crate::part::Part;
 use crate::visited::{Object, Visited};
-use gltf_faults::Context;
+use gltf_faults::{Against, Context};
 use gltf_materials::material::{Material, NormalTexture, OcclusionTexture, PbrMetallicRoughness};
 
 impl Visited for Material {
@@ -22,21 +22,21 @@ impl Visited for Material {
     }
 }
 
-impl Object for Material {
+impl<'a, N: Coming<'a>> Object<'a, N> for Material {
     #[tactic(auto, using(crate::proofs::Past::past), unfolding(gltf_materials::specs::MaterialTable::material_rows, gltf_textures::specs::TextureTable::info_rows, gltf_shading::specs::MaterialExtensionTable::material_extension_rows, gltf_materials::specs::MaterialTable::normal_texture_rows, gltf_materials::specs::MaterialTable::occlusion_texture_rows, gltf_materials::specs::MaterialTable::pbr_metallic_roughness_rows, gltf_shading::specs::MaterialExtensionTable::pbr_specular_glossiness_rows, gltf_materials::specs::MaterialTrees::material_members))]
-    fn next<'a>(&'a self, number: usize, context: &Context<'_>) -> Next<'a> {
+    fn next<C: Against>(&'a self, number: usize, context: &C) -> N {
         match number {
-            0 => member("alphaMode", &self.alpha_mode, context),
-            1 => member(
+            0 => N::member("alphaMode", &self.alpha_mode, context),
+            1 => N::member(
                 "pbrMetallicRoughness",
                 &self.pbr_metallic_roughness,
                 context,
             ),
-            2 => member("normalTexture", &self.normal_texture, context),
-            3 => member("occlusionTexture", &self.occlusion_texture, context),
-            4 => member("emissiveTexture", &self.emissive_texture, context),
-            5 => member("extensions", &self.extensions, context),
-            _ => Next::Done,
+            2 => N::member("normalTexture", &self.normal_texture, context),
+            3 => N::member("occlusionTexture", &self.occlusion_texture, context),
+            4 => N::member("emissiveTexture", &self.emissive_texture, context),
+            5 => N::member("extensions", &self.extensions, context),
+            _ => N::done(),
         }
     }
 }
@@ -61,17 +61,17 @@ impl Visited for PbrMetallicRoughness {
     }
 }
 
-impl Object for PbrMetallicRoughness {
+impl<'a, N: Coming<'a>> Object<'a, N> for PbrMetallicRoughness {
     #[tactic(auto, using(crate::proofs::Past::past), unfolding(gltf_materials::specs::MaterialTable::pbr_metallic_roughness_rows, gltf_textures::specs::TextureTable::info_rows, gltf_materials::specs::MaterialTrees::pbr_metallic_roughness_members))]
-    fn next<'a>(&'a self, number: usize, context: &Context<'_>) -> Next<'a> {
+    fn next<C: Against>(&'a self, number: usize, context: &C) -> N {
         match number {
-            0 => member("baseColorTexture", &self.base_color_texture, context),
-            1 => member(
+            0 => N::member("baseColorTexture", &self.base_color_texture, context),
+            1 => N::member(
                 "metallicRoughnessTexture",
                 &self.metallic_roughness_texture,
                 context,
             ),
-            _ => Next::Done,
+            _ => N::done(),
         }
     }
 }
@@ -86,12 +86,12 @@ impl Visited for NormalTexture {
     }
 }
 
-impl Object for NormalTexture {
+impl<'a, N: Coming<'a>> Object<'a, N> for NormalTexture {
     #[tactic(auto, using(crate::proofs::Past::past), unfolding(gltf_materials::specs::MaterialTable::normal_texture_rows, gltf_materials::specs::MaterialTrees::normal_texture_members))]
-    fn next<'a>(&'a self, number: usize, context: &Context<'_>) -> Next<'a> {
+    fn next<C: Against>(&'a self, number: usize, context: &C) -> N {
         match number {
-            0 => member("index", &self.index, context),
-            _ => Next::Done,
+            0 => N::member("index", &self.index, context),
+            _ => N::done(),
         }
     }
 }
@@ -106,12 +106,12 @@ impl Visited for OcclusionTexture {
     }
 }
 
-impl Object for OcclusionTexture {
+impl<'a, N: Coming<'a>> Object<'a, N> for OcclusionTexture {
     #[tactic(auto, using(crate::proofs::Past::past), unfolding(gltf_materials::specs::MaterialTable::occlusion_texture_rows, gltf_materials::specs::MaterialTrees::occlusion_texture_members))]
-    fn next<'a>(&'a self, number: usize, context: &Context<'_>) -> Next<'a> {
+    fn next<C: Against>(&'a self, number: usize, context: &C) -> N {
         match number {
-            0 => member("index", &self.index, context),
-            _ => Next::Done,
+            0 => N::member("index", &self.index, context),
+            _ => N::done(),
         }
     }
 }

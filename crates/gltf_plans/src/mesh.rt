@@ -6,11 +6,11 @@ ghost use Rattle.gltf_meshes.specs.MeshTrees.{mesh_members, primitive_members, m
 ghost use Rattle.gltf_schema.specs.Fields.{closed_object, list_tree};
 ghost use Rattle.gltf_schema.specs.Kind.{ListOf};
 
-use crate::next::{Next, member};
+use crate::next::Coming;
 use crate::part::Part;
 use crate::visited::{Object, Visited};
 use gltf_base::Step;
-use gltf_faults::{Context, position_faults};
+use gltf_faults::{Against, Context, position_faults};
 use gltf_meshes::mesh::{Mesh, MorphTarget, Primitive};
 
 impl Visited for Mesh {
@@ -23,12 +23,12 @@ impl Visited for Mesh {
     }
 }
 
-impl Object for Mesh {
+impl<'a, N: Coming<'a>> Object<'a, N> for Mesh {
     #[tactic(auto, using(crate::proofs::Past::past), unfolding(gltf_meshes::specs::MeshTable::mesh_rows, gltf_meshes::specs::MeshTrees::mesh_members))]
-    fn next<'a>(&'a self, number: usize, context: &Context<'_>) -> Next<'a> {
+    fn next<C: Against>(&'a self, number: usize, context: &C) -> N {
         match number {
-            0 => member("primitives", &self.primitives, context),
-            _ => Next::Done,
+            0 => N::member("primitives", &self.primitives, context),
+            _ => N::done(),
         }
     }
 }
@@ -53,20 +53,20 @@ impl Visited for Primitive {
     }
 }
 
-impl Object for Primitive {
+impl<'a, N: Coming<'a>> Object<'a, N> for Primitive {
     #[tactic(auto, using(crate::proofs::Past::past), unfolding(gltf_meshes::specs::MeshTable::primitive_rows, gltf_meshes::specs::MeshTable::morph_target_rows, gltf_meshes::specs::MeshTable::primitive_extension_rows, gltf_meshes::specs::MeshTable::variant_mapping_rows, gltf_meshes::specs::MeshTable::variant_mappings_rows, gltf_meshes::specs::MeshTrees::primitive_members))]
-    fn next<'a>(&'a self, number: usize, context: &Context<'_>) -> Next<'a> {
+    fn next<C: Against>(&'a self, number: usize, context: &C) -> N {
         match number {
-            0 => member("attributes", &self.attributes, context),
-            1 => member("indices", &self.indices, context),
-            2 => member("material", &self.material, context),
-            3 => member("mode", &self.mode, context),
-            4 => member("targets", &self.targets, context),
-            5 => Next::Down(
+            0 => N::member("attributes", &self.attributes, context),
+            1 => N::member("indices", &self.indices, context),
+            2 => N::member("material", &self.material, context),
+            3 => N::member("mode", &self.mode, context),
+            4 => N::member("targets", &self.targets, context),
+            5 => N::down(
                 Step::Field("attributes"),
-                Part::AtPositions(position_faults(self, context.root)),
+                Part::AtPositions(position_faults(self, context.context().root)),
             ),
-            _ => Next::Done,
+            _ => N::done(),
         }
     }
 }
@@ -91,14 +91,14 @@ impl Visited for MorphTarget {
     }
 }
 
-impl Object for MorphTarget {
+impl<'a, N: Coming<'a>> Object<'a, N> for MorphTarget {
     #[tactic(auto, using(crate::proofs::Past::past), unfolding(gltf_meshes::specs::MeshTable::morph_target_rows, gltf_meshes::specs::MeshTrees::morph_target_members))]
-    fn next<'a>(&'a self, number: usize, context: &Context<'_>) -> Next<'a> {
+    fn next<C: Against>(&'a self, number: usize, context: &C) -> N {
         match number {
-            0 => member("POSITION", &self.positions, context),
-            1 => member("NORMAL", &self.normals, context),
-            2 => member("TANGENT", &self.tangents, context),
-            _ => Next::Done,
+            0 => N::member("POSITION", &self.positions, context),
+            1 => N::member("NORMAL", &self.normals, context),
+            2 => N::member("TANGENT", &self.tangents, context),
+            _ => N::done(),
         }
     }
 }

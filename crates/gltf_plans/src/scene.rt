@@ -7,11 +7,11 @@ ghost use Rattle.gltf_schema.specs.Fields.{closed_object, list_tree, index_tree}
 ghost use Rattle.gltf_schema.specs.Kind.{ListOf, IndexInto};
 ghost use Rattle.gltf_paths.specs.Lists.{ListName};
 
-use crate::next::{Next, member};
+use crate::next::Coming;
 use crate::part::Part;
 use crate::visited::{Object, Visited};
 use gltf_base::Index;
-use gltf_faults::Context;
+use gltf_faults::{Against, Context};
 use gltf_nodes::extensions::scene as extensions;
 use gltf_nodes::scene::{Node, Scene};
 use gltf_nodes::skin::Skin;
@@ -26,16 +26,16 @@ impl Visited for Node {
     }
 }
 
-impl Object for Node {
+impl<'a, N: Coming<'a>> Object<'a, N> for Node {
     #[tactic(auto, using(crate::proofs::Past::past), unfolding(gltf_nodes::specs::SceneTable::node_rows, gltf_nodes::specs::LightTable::light_of_node_rows, gltf_nodes::specs::SceneTable::node_extension_rows, gltf_nodes::specs::SceneTrees::node_members))]
-    fn next<'a>(&'a self, number: usize, context: &Context<'_>) -> Next<'a> {
+    fn next<C: Against>(&'a self, number: usize, context: &C) -> N {
         match number {
-            0 => member("camera", &self.camera, context),
-            1 => member("children", &self.children, context),
-            2 => member("extensions", &self.extensions, context),
-            3 => member("mesh", &self.mesh, context),
-            4 => member("skin", &self.skin, context),
-            _ => Next::Done,
+            0 => N::member("camera", &self.camera, context),
+            1 => N::member("children", &self.children, context),
+            2 => N::member("extensions", &self.extensions, context),
+            3 => N::member("mesh", &self.mesh, context),
+            4 => N::member("skin", &self.skin, context),
+            _ => N::done(),
         }
     }
 }
@@ -60,12 +60,12 @@ impl Visited for extensions::Node {
     }
 }
 
-impl Object for extensions::Node {
+impl<'a, N: Coming<'a>> Object<'a, N> for extensions::Node {
     #[tactic(auto, using(crate::proofs::Past::past), unfolding(gltf_nodes::specs::SceneTable::node_extension_rows, gltf_nodes::specs::LightTable::light_of_node_rows, gltf_nodes::specs::SceneTrees::node_extension_members))]
-    fn next<'a>(&'a self, number: usize, context: &Context<'_>) -> Next<'a> {
+    fn next<C: Against>(&'a self, number: usize, context: &C) -> N {
         match number {
-            0 => member("KHR_lights_punctual", &self.khr_lights_punctual, context),
-            _ => Next::Done,
+            0 => N::member("KHR_lights_punctual", &self.khr_lights_punctual, context),
+            _ => N::done(),
         }
     }
 }
@@ -80,12 +80,12 @@ impl Visited for Scene {
     }
 }
 
-impl Object for Scene {
+impl<'a, N: Coming<'a>> Object<'a, N> for Scene {
     #[tactic(auto, using(crate::proofs::Past::past), unfolding(gltf_nodes::specs::SceneTable::scene_rows, gltf_nodes::specs::SceneTrees::scene_members))]
-    fn next<'a>(&'a self, number: usize, context: &Context<'_>) -> Next<'a> {
+    fn next<C: Against>(&'a self, number: usize, context: &C) -> N {
         match number {
-            0 => member("nodes", &self.nodes, context),
-            _ => Next::Done,
+            0 => N::member("nodes", &self.nodes, context),
+            _ => N::done(),
         }
     }
 }
@@ -110,14 +110,14 @@ impl Visited for Skin {
     }
 }
 
-impl Object for Skin {
+impl<'a, N: Coming<'a>> Object<'a, N> for Skin {
     #[tactic(auto, using(crate::proofs::Past::past), unfolding(gltf_nodes::specs::SceneTable::skin_rows, gltf_nodes::specs::SceneTrees::skin_members))]
-    fn next<'a>(&'a self, number: usize, context: &Context<'_>) -> Next<'a> {
+    fn next<C: Against>(&'a self, number: usize, context: &C) -> N {
         match number {
-            0 => member("inverseBindMatrices", &self.inverse_bind_matrices, context),
-            1 => member("joints", &self.joints, context),
-            2 => member("skeleton", &self.skeleton, context),
-            _ => Next::Done,
+            0 => N::member("inverseBindMatrices", &self.inverse_bind_matrices, context),
+            1 => N::member("joints", &self.joints, context),
+            2 => N::member("skeleton", &self.skeleton, context),
+            _ => N::done(),
         }
     }
 }

@@ -6,10 +6,10 @@ ghost use Rattle.gltf_materials.specs.MaterialTrees.{material_extensions};
 ghost use Rattle.gltf_shading.specs.MaterialExtensionTrees.{pbr_specular_glossiness_tree, transmission_members, volume_members, specular_members};
 ghost use Rattle.gltf_schema.specs.Fields.{closed_object};
 
-use crate::next::{Next, member};
+use crate::next::Coming;
 use crate::part::Part;
 use crate::visited::{Object, Visited};
-use gltf_faults::Context;
+use gltf_faults::{Against, Context};
 use gltf_shading::extensions::material as extensions;
 use gltf_shading::extensions::material::{PbrSpecularGlossiness, Specular, Transmission, Volume};
 
@@ -23,19 +23,19 @@ impl Visited for extensions::Material {
     }
 }
 
-impl Object for extensions::Material {
+impl<'a, N: Coming<'a>> Object<'a, N> for extensions::Material {
     #[tactic(auto, using(crate::proofs::Past::past), unfolding(gltf_shading::specs::MaterialExtensionTable::material_extension_rows, gltf_shading::specs::MaterialExtensionTable::emissive_strength_rows, gltf_textures::specs::TextureTable::info_rows, gltf_shading::specs::MaterialExtensionTable::ior_rows, gltf_shading::specs::MaterialExtensionTable::pbr_specular_glossiness_rows, gltf_shading::specs::MaterialExtensionTable::specular_rows, gltf_shading::specs::MaterialExtensionTable::transmission_rows, gltf_shading::specs::MaterialExtensionTable::volume_rows, gltf_shading::specs::MaterialExtensionTrees::material_extension_members))]
-    fn next<'a>(&'a self, number: usize, context: &Context<'_>) -> Next<'a> {
+    fn next<C: Against>(&'a self, number: usize, context: &C) -> N {
         match number {
-            0 => member(
+            0 => N::member(
                 "KHR_materials_pbrSpecularGlossiness",
                 &self.pbr_specular_glossiness,
                 context,
             ),
-            1 => member("KHR_materials_transmission", &self.transmission, context),
-            2 => member("KHR_materials_volume", &self.volume, context),
-            3 => member("KHR_materials_specular", &self.specular, context),
-            _ => Next::Done,
+            1 => N::member("KHR_materials_transmission", &self.transmission, context),
+            2 => N::member("KHR_materials_volume", &self.volume, context),
+            3 => N::member("KHR_materials_specular", &self.specular, context),
+            _ => N::done(),
         }
     }
 }
@@ -50,17 +50,17 @@ impl Visited for PbrSpecularGlossiness {
     }
 }
 
-impl Object for PbrSpecularGlossiness {
+impl<'a, N: Coming<'a>> Object<'a, N> for PbrSpecularGlossiness {
     #[tactic(auto, using(crate::proofs::Past::past), unfolding(gltf_shading::specs::MaterialExtensionTable::pbr_specular_glossiness_rows, gltf_textures::specs::TextureTable::info_rows, gltf_shading::specs::MaterialExtensionTrees::pbr_specular_glossiness_members))]
-    fn next<'a>(&'a self, number: usize, context: &Context<'_>) -> Next<'a> {
+    fn next<C: Against>(&'a self, number: usize, context: &C) -> N {
         match number {
-            0 => member("diffuseTexture", &self.diffuse_texture, context),
-            1 => member(
+            0 => N::member("diffuseTexture", &self.diffuse_texture, context),
+            1 => N::member(
                 "specularGlossinessTexture",
                 &self.specular_glossiness_texture,
                 context,
             ),
-            _ => Next::Done,
+            _ => N::done(),
         }
     }
 }
@@ -75,12 +75,12 @@ impl Visited for Transmission {
     }
 }
 
-impl Object for Transmission {
+impl<'a, N: Coming<'a>> Object<'a, N> for Transmission {
     #[tactic(auto, using(crate::proofs::Past::past), unfolding(gltf_shading::specs::MaterialExtensionTable::transmission_rows, gltf_textures::specs::TextureTable::info_rows, gltf_shading::specs::MaterialExtensionTrees::transmission_members))]
-    fn next<'a>(&'a self, number: usize, context: &Context<'_>) -> Next<'a> {
+    fn next<C: Against>(&'a self, number: usize, context: &C) -> N {
         match number {
-            0 => member("transmissionTexture", &self.transmission_texture, context),
-            _ => Next::Done,
+            0 => N::member("transmissionTexture", &self.transmission_texture, context),
+            _ => N::done(),
         }
     }
 }
@@ -95,12 +95,12 @@ impl Visited for Volume {
     }
 }
 
-impl Object for Volume {
+impl<'a, N: Coming<'a>> Object<'a, N> for Volume {
     #[tactic(auto, using(crate::proofs::Past::past), unfolding(gltf_shading::specs::MaterialExtensionTable::volume_rows, gltf_textures::specs::TextureTable::info_rows, gltf_shading::specs::MaterialExtensionTrees::volume_members))]
-    fn next<'a>(&'a self, number: usize, context: &Context<'_>) -> Next<'a> {
+    fn next<C: Against>(&'a self, number: usize, context: &C) -> N {
         match number {
-            0 => member("thicknessTexture", &self.thickness_texture, context),
-            _ => Next::Done,
+            0 => N::member("thicknessTexture", &self.thickness_texture, context),
+            _ => N::done(),
         }
     }
 }
@@ -115,17 +115,17 @@ impl Visited for Specular {
     }
 }
 
-impl Object for Specular {
+impl<'a, N: Coming<'a>> Object<'a, N> for Specular {
     #[tactic(auto, using(crate::proofs::Past::past), unfolding(gltf_shading::specs::MaterialExtensionTable::specular_rows, gltf_textures::specs::TextureTable::info_rows, gltf_shading::specs::MaterialExtensionTrees::specular_members))]
-    fn next<'a>(&'a self, number: usize, context: &Context<'_>) -> Next<'a> {
+    fn next<C: Against>(&'a self, number: usize, context: &C) -> N {
         match number {
-            0 => member("specularTexture", &self.specular_texture, context),
-            1 => member(
+            0 => N::member("specularTexture", &self.specular_texture, context),
+            1 => N::member(
                 "specularColorTexture",
                 &self.specular_color_texture,
                 context,
             ),
-            _ => Next::Done,
+            _ => N::done(),
         }
     }
 }

@@ -6,10 +6,10 @@ ghost use Rattle.gltf_textures.specs.TextureTrees.{sampler_members, texture_memb
 ghost use Rattle.gltf_schema.specs.Fields.{closed_object, list_tree};
 ghost use Rattle.gltf_schema.specs.Kind.{ListOf};
 
-use crate::next::{Next, found, member};
+use crate::next::Coming;
 use crate::part::Part;
 use crate::visited::{Object, Visited};
-use gltf_faults::{Context, source_fault};
+use gltf_faults::{Against, Context, source_fault};
 use gltf_textures::texture::{Info, Sampler, Texture};
 
 impl Visited for Sampler {
@@ -22,15 +22,15 @@ impl Visited for Sampler {
     }
 }
 
-impl Object for Sampler {
+impl<'a, N: Coming<'a>> Object<'a, N> for Sampler {
     #[tactic(auto, using(crate::proofs::Past::past), unfolding(gltf_textures::specs::TextureTable::sampler_rows, gltf_textures::specs::TextureTrees::sampler_members))]
-    fn next<'a>(&'a self, number: usize, context: &Context<'_>) -> Next<'a> {
+    fn next<C: Against>(&'a self, number: usize, context: &C) -> N {
         match number {
-            0 => member("magFilter", &self.mag_filter, context),
-            1 => member("minFilter", &self.min_filter, context),
-            2 => member("wrapS", &self.wrap_s, context),
-            3 => member("wrapT", &self.wrap_t, context),
-            _ => Next::Done,
+            0 => N::member("magFilter", &self.mag_filter, context),
+            1 => N::member("minFilter", &self.min_filter, context),
+            2 => N::member("wrapS", &self.wrap_s, context),
+            3 => N::member("wrapT", &self.wrap_t, context),
+            _ => N::done(),
         }
     }
 }
@@ -55,13 +55,13 @@ impl Visited for Texture {
     }
 }
 
-impl Object for Texture {
+impl<'a, N: Coming<'a>> Object<'a, N> for Texture {
     #[tactic(auto, using(crate::proofs::Past::past), unfolding(gltf_textures::specs::TextureTable::texture_rows, gltf_textures::specs::TextureTrees::texture_members))]
-    fn next<'a>(&'a self, number: usize, context: &Context<'_>) -> Next<'a> {
+    fn next<C: Against>(&'a self, number: usize, context: &C) -> N {
         match number {
-            0 => member("sampler", &self.sampler, context),
-            1 => found("source", source_fault(self, context)),
-            _ => Next::Done,
+            0 => N::member("sampler", &self.sampler, context),
+            1 => N::found("source", source_fault(self, &context.context())),
+            _ => N::done(),
         }
     }
 }
@@ -86,12 +86,12 @@ impl Visited for Info {
     }
 }
 
-impl Object for Info {
+impl<'a, N: Coming<'a>> Object<'a, N> for Info {
     #[tactic(auto, using(crate::proofs::Past::past), unfolding(gltf_textures::specs::TextureTable::info_rows, gltf_textures::specs::TextureTable::info_extension_rows, gltf_textures::specs::TextureTable::texture_transform_rows, gltf_textures::specs::TextureTrees::info_members))]
-    fn next<'a>(&'a self, number: usize, context: &Context<'_>) -> Next<'a> {
+    fn next<C: Against>(&'a self, number: usize, context: &C) -> N {
         match number {
-            0 => member("index", &self.index, context),
-            _ => Next::Done,
+            0 => N::member("index", &self.index, context),
+            _ => N::done(),
         }
     }
 }

@@ -8,11 +8,11 @@ ghost use Rattle.gltf_schema.specs.Leaves.{checked_tree, choice_of};
 ghost use Rattle.gltf_schema.specs.Tree.{Tree, absent, tree_or_absent};
 ghost use Rattle.gltf_paths.specs.Lists.{ListName};
 ghost use Rattle.gltf_faults.specs.Context.{context_of};
-ghost use Rattle.gltf_plans.specs.Parts.{move_of, plan_of, IsMore};
+ghost use Rattle.gltf_plans.specs.Parts.{plan_of};
 ghost use Rattle.gltf_plans.specs.Plan.{at};
 ghost use Rattle.gltf_plans.specs.Planned.{planned};
 
-use crate::next::Next;
+use crate::next::Coming;
 use crate::part::Part;
 use gltf_base::mesh::Semantic;
 use gltf_base::validation::Checked;
@@ -20,7 +20,7 @@ use gltf_base::{Index, IndexTo, Names};
 use gltf_checked::choice::Choice;
 use gltf_data::accessor::Accessor;
 use gltf_data::buffer::Stride;
-use gltf_faults::{Context, choice_fault, index_fault, stride_fault};
+use gltf_faults::{Against, Context, choice_fault, index_fault, stride_fault};
 use gltf_root::root::RootItem;
 use std::collections::BTreeMap;
 
@@ -39,12 +39,12 @@ pub trait Visited {
 }
 
 /// An object in whose members something can be wrong.
-pub trait Object: Visited {
+pub trait Object<'a, N: Coming<'a>>: Visited {
     /// What comes at a number: the members in which something can be wrong, in the rows' order, and
     /// then what the object's rule speaks of.
-    fn next<'a>(&'a self, number: usize, context: &Context<'_>) -> Next<'a>
-        ensures comes { move_of (context_of context.now) result ≡ at (planned Self.kind (Self.tree self.now) (context_of context.now) absent) number }
-        ensures small { IsMore result → number + 1 < 2 ^ 64 };
+    fn next<C: Against>(&'a self, number: usize, context: &C) -> N
+        ensures comes { N.moved (C.context context.now) result ≡ at (planned Self.kind (Self.tree self.now) (C.context context.now) absent) number }
+        ensures small { N.is_more result → number + 1 < 2 ^ 64 };
 }
 
 impl<T: Visited> Visited for Option<T> {

@@ -11,8 +11,8 @@ use crate::lists::{
     at_attributes, channel_at, extension_at, in_attribute, in_channel, in_extension, in_positions,
     item_at, leaf_at, next_attribute,
 };
-use gltf_faults::Context;
-use gltf_plans::{Next, Object, Part};
+use gltf_faults::{Against, Context};
+use gltf_plans::{Coming, Next, Object, Part};
 
 /// What comes next in a frame, which stands behind it then.
 pub(crate) fn next_in<'a>(frame: &mut Frame<'a>, context: &Context<'_>) -> Next<'a>
@@ -32,10 +32,10 @@ pub(crate) fn next_in<'a>(frame: &mut Frame<'a>, context: &Context<'_>) -> Next<
 }
 
 /// What comes at a number in a part that is gone through by numbers.
-fn next_at<'a>(part: Part<'a>, number: usize, context: &Context<'_>) -> Next<'a>
+fn next_at<'a, N: Coming<'a>, C: Against>(part: Part<'a>, number: usize, context: &C) -> N
     requires { IsNumbered part }
-    ensures comes { move_of (context_of context.now) result ≡ at (plan_of (context_of context.now) part.entry) number }
-    ensures small { IsMore result → number + 1 < 2 ^ 64 }
+    ensures comes { N.moved (C.context context.now) result ≡ at (plan_of (C.context context.now) part.entry) number }
+    ensures small { N.is_more result → number + 1 < 2 ^ 64 }
 {
     match part {
         Part::Leaf(fault) => leaf_at(fault, number),

@@ -19,35 +19,35 @@ use gltf_base::validation::{Checked, Error};
 use gltf_base::{Index, KeyStep, Step};
 use gltf_data::accessor::Accessor;
 use gltf_faults::{
-    Context, PositionFaults, choice_fault, extension_fault, index_fault, sampler_fault,
+    Against, Context, PositionFaults, choice_fault, extension_fault, index_fault, sampler_fault,
 };
-use gltf_plans::{Next, Part, Visited, found, member, told};
+use gltf_plans::{Coming, Next, Part, Visited};
 use std::collections::BTreeMap;
 use std::ops::Bound;
 
 /// A place with nothing below, at which something is wrong or not.
-pub(crate) fn leaf_at<'a>(fault: Option<Error>, number: usize) -> Next<'a>
-    ensures comes { (context : _) → move_of context result ≡ at (leaf fault) number }
-    ensures small { IsMore result → number + 1 < 2 ^ 64 }
+pub(crate) fn leaf_at<'a, N: Coming<'a>>(fault: Option<Error>, number: usize) -> N
+    ensures comes { (context : _) → N.moved context result ≡ at (leaf fault) number }
+    ensures small { N.is_more result → number + 1 < 2 ^ 64 }
 {
     match number {
-        0 => told(fault),
-        _ => Next::Done,
+        0 => N::told(fault),
+        _ => N::done(),
     }
 }
 
 /// The item of a list at a number.
-pub(crate) fn item_at<'a, T: Visited>(
+pub(crate) fn item_at<'a, T: Visited, N: Coming<'a>, C: Against>(
     items: &'a Vec<T>,
     number: usize,
-    context: &Context<'_>,
-) -> Next<'a>
-    ensures comes { move_of (context_of context.now) result ≡ at (planned (ListOf T.kind) (list_tree T.tree items.now.items) (context_of context.now) absent) number }
-    ensures small { IsMore result → number + 1 < 2 ^ 64 }
+    context: &C,
+) -> N
+    ensures comes { N.moved (C.context context.now) result ≡ at (planned (ListOf T.kind) (list_tree T.tree items.now.items) (C.context context.now) absent) number }
+    ensures small { N.is_more result → number + 1 < 2 ^ 64 }
 {
     match items.get(number) {
-        Some(item) => Next::Down(Step::Index(number), item.part(context)),
-        None => Next::Done,
+        Some(item) => N::item(number, item, context),
+        None => N::done(),
     }
 }
 
@@ -86,15 +86,19 @@ fn entry_behind<'a>(
 }
 
 /// What comes at a number in an attribute: what is wrong with its key, and with its index.
-pub(crate) fn in_attribute<'a>(key: Option<Error>, index: Option<Error>, number: usize) -> Next<'a>
-    ensures comes { (context : _) → move_of context result ≡ at (entry_plan key index) number }
-    ensures small { IsMore result → number + 1 < 2 ^ 64 }
+pub(crate) fn in_attribute<'a, N: Coming<'a>>(
+    key: Option<Error>,
+    index: Option<Error>,
+    number: usize,
+) -> N
+    ensures comes { (context : _) → N.moved context result ≡ at (entry_plan key index) number }
+    ensures small { N.is_more result → number + 1 < 2 ^ 64 }
 {
     match (key, index) {
-        (Some(wrong_key), Some(wrong_index)) => match number {
-            0 => Next::Fault(wrong_key),
-            1 => Next::Fault(wrong_index),
-            _ => Next::Done,
+        (Some(_), Some(_)) => match number {
+            0 => N::told(key),
+            1 => N::told(index),
+            _ => N::done(),
         },
         (Some(_), None) => leaf_at(key, number),
         (None, _) => leaf_at(index, number),
@@ -102,82 +106,86 @@ pub(crate) fn in_attribute<'a>(key: Option<Error>, index: Option<Error>, number:
 }
 
 /// The channel of an animation at a number.
-pub(crate) fn channel_at<'a>(animation: &'a Animation, number: usize) -> Next<'a>
-    ensures comes { (context : _) → move_of context result ≡ at (planned (ListOf animation_channel_kind)
+pub(crate) fn channel_at<'a, N: Coming<'a>>(animation: &'a Animation, number: usize) -> N
+    ensures comes { (context : _) → N.moved context result ≡ at (planned (ListOf animation_channel_kind)
         (list_tree (λ x. closed_object (animation_channel_members x)) animation.now.channels.items) context (closed_object (animation_members animation.now))) number }
-    ensures small { IsMore result → number + 1 < 2 ^ 64 }
+    ensures small { N.is_more result → number + 1 < 2 ^ 64 }
 {
     match animation.channels.get(number) {
-        Some(channel) => Next::Down(Step::Index(number), Part::Channel(channel, animation)),
-        None => Next::Done,
+        Some(channel) => N::down(Step::Index(number), Part::Channel(channel, animation)),
+        None => N::done(),
     }
 }
 
 /// What comes at a number in a channel: its sampler, one of the animation's, and its target.
 #[tactic(auto, using(gltf_plans::proofs::Past::past), unfolding(gltf_animations::specs::AnimationTable::animation_channel_rows, gltf_animations::specs::AnimationTable::animation_target_rows, gltf_animations::specs::AnimationTrees::animation_channel_members, gltf_animations::specs::AnimationTrees::animation_target_members))]
-pub(crate) fn in_channel<'a>(
+pub(crate) fn in_channel<'a, N: Coming<'a>, C: Against>(
     channel: &'a Channel,
     animation: &Animation,
     number: usize,
-    context: &Context<'_>,
-) -> Next<'a>
-    ensures comes { move_of (context_of context.now) result ≡ at (planned animation_channel_kind (closed_object (animation_channel_members channel.now))
-        (context_of context.now) (closed_object (animation_members animation.now))) number }
-    ensures small { IsMore result → number + 1 < 2 ^ 64 }
+    context: &C,
+) -> N
+    ensures comes { N.moved (C.context context.now) result ≡ at (planned animation_channel_kind (closed_object (animation_channel_members channel.now))
+        (C.context context.now) (closed_object (animation_members animation.now))) number }
+    ensures small { N.is_more result → number + 1 < 2 ^ 64 }
 {
     match number {
-        0 => found("sampler", sampler_fault(channel, animation)),
-        1 => member("target", &channel.target, context),
-        _ => Next::Done,
+        0 => N::found("sampler", sampler_fault(channel, animation)),
+        1 => N::member("target", &channel.target, context),
+        _ => N::done(),
     }
 }
 
 /// What comes at a number in the attributes of a primitive, as its rule looks at them.
-pub(crate) fn at_attributes<'a>(faults: PositionFaults, number: usize) -> Next<'a>
-    ensures comes { (context : _) → move_of context result ≡ at (at_positions (found_plan faults)) number }
-    ensures small { IsMore result → number + 1 < 2 ^ 64 }
+pub(crate) fn at_attributes<'a, N: Coming<'a>>(faults: PositionFaults, number: usize) -> N
+    ensures comes { (context : _) → N.moved context result ≡ at (at_positions (found_plan faults)) number }
+    ensures small { N.is_more result → number + 1 < 2 ^ 64 }
 {
     match number {
-        0 => Next::Down(Step::Key("POSITION"), Part::Positions(faults)),
-        _ => Next::Done,
+        0 => N::down(Step::Key("POSITION"), Part::Positions(faults)),
+        _ => N::done(),
     }
 }
 
 /// What comes at a number in the positions of a primitive: the bounds of their accessor, and that
 /// there are none.
-pub(crate) fn in_positions<'a>(faults: PositionFaults, number: usize) -> Next<'a>
-    ensures comes { (context : _) → move_of context result ≡ at (found_plan faults) number }
-    ensures small { IsMore result → number + 1 < 2 ^ 64 }
+pub(crate) fn in_positions<'a, N: Coming<'a>>(faults: PositionFaults, number: usize) -> N
+    ensures comes { (context : _) → N.moved context result ≡ at (found_plan faults) number }
+    ensures small { N.is_more result → number + 1 < 2 ^ 64 }
 {
     match number {
-        0 => found("min", faults.min),
-        1 => found("max", faults.max),
-        2 => told(faults.positions),
-        _ => Next::Done,
+        0 => N::found("min", faults.min),
+        1 => N::found("max", faults.max),
+        2 => N::told(faults.positions),
+        _ => N::done(),
     }
 }
 
 /// The required extension at a number.
-pub(crate) fn extension_at<'a>(names: &'a Vec<String>, number: usize) -> Next<'a>
-    ensures comes { (context : _) → move_of context result ≡ at (place (item_plans (name_plan context.rules.enabled) 0 (items_in (list_tree text_tree names.now.items))) []) number }
-    ensures small { IsMore result → number + 1 < 2 ^ 64 }
+pub(crate) fn extension_at<'a, N: Coming<'a>>(names: &'a Vec<String>, number: usize) -> N
+    ensures comes { (context : _) → N.moved context result ≡ at (place (item_plans (name_plan context.rules.enabled) 0 (items_in (list_tree text_tree names.now.items))) []) number }
+    ensures small { N.is_more result → number + 1 < 2 ^ 64 }
 {
     match names.get(number) {
-        Some(name) => Next::Down(Step::Index(number), Part::RequiredExtension(name)),
-        None => Next::Done,
+        Some(name) => N::down(Step::Index(number), Part::RequiredExtension(name)),
+        None => N::done(),
     }
 }
 
 /// What comes at a number in the name of a required extension: the name, as a step.
-pub(crate) fn in_extension<'a>(name: &'a String, number: usize, context: &Context<'_>) -> Next<'a>
-    ensures comes { move_of (context_of context.now) result ≡ at (name_plan (context_of context.now).rules.enabled (text_tree name.now)) number }
-    ensures small { IsMore result → number + 1 < 2 ^ 64 }
+pub(crate) fn in_extension<'a, N: Coming<'a>, C: Against>(
+    name: &'a String,
+    number: usize,
+    context: &C,
+) -> N
+    ensures comes { N.moved (C.context context.now) result ≡ at (name_plan (C.context context.now).rules.enabled (text_tree name.now)) number }
+    ensures small { N.is_more result → number + 1 < 2 ^ 64 }
 {
     match number {
-        0 => Next::Down(
+        0 => N::down(
             Step::Value(name),
-            Part::Leaf(extension_fault(context.rules, name)),
+            Part::Leaf(extension_fault(context.context().rules, name)),
         ),
-        _ => Next::Done,
+        _ => N::done(),
     }
 }

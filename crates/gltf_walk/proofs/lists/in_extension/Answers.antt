@@ -1,17 +1,21 @@
 -- What was found is a leaf behind the name.
-use Rattle.std.proofs.Common.{◌≡◌, ap, rules, string_bytes}
+use Rattle.std.proofs.Common.{◌≡◌, ◌∙◌, ap, rules, string_bytes}
 use Rattle.gltf_paths.specs.Steps.{value}
 use Rattle.gltf_schema.specs.Tree.{text}
+use Rattle.gltf_faults.specs.Context.{Context, context_of}
 use Rattle.gltf_faults.specs.Rules.{extension_faults}
-use Rattle.gltf_faults.specs.Context.{context_of}
-use Rattle.gltf_plans.specs.Plan.{down}
+use Rattle.gltf_plans.specs.Plan.{Plan, down}
+use Rattle.gltf_plans.specs.Planned.{leaf_of}
 use Rattle.gltf_plans.proofs.Leaves.{found_leaf}
 use Rattle.gltf_walk.proofs.lists.in_extension.Goals as goal
 
 pub returns-in-0-clause-comes : goal.returns-in-0-clause-comes
-returns-in-0-clause-comes c =
+returns-in-0-clause-comes g c =
     let s = string_bytes c.args.name.now in
     let here : c.deref.result.now ≡ s = search rules in
     let e : c.deref-in-0.result.now ≡ s = search rules in
-    let enabled = (context_of c.args.context.now).rules.enabled in
-    rw (c.in-0.is, here) (ap (down (value s)) (found_leaf (extension_faults enabled (text s)) _ (value s) (rw e at c.extension_fault.ensures)))
+    let went = c.down.ensures (g.C.Against.context c.args.context.now) in
+    let enabled = (context_of c.context.result).rules.enabled in
+    let plan : Context → Plan = λ context. leaf_of (extension_faults context.rules.enabled (text s)) in
+    let found = found_leaf (extension_faults enabled (text s)) _ (value s) (rw e at c.extension_fault.ensures) in
+    rw c.in-0.is ((rw here at went) ∙ ap (down (value s)) (found ∙ ap plan c.context.ensures))

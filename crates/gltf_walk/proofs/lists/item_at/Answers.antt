@@ -1,9 +1,6 @@
 -- The item at the number, or none past the last.
-use Rattle.std.proofs.Common.{rules, ap, ◌∙◌}
-use Rattle.gltf_paths.specs.Steps.{item}
+use Rattle.std.proofs.Common.{rules, ◌∙◌}
 use Rattle.gltf_schema.specs.Tree.{absent}
-use Rattle.gltf_faults.specs.Context.{context_of}
-use Rattle.gltf_plans.specs.Plan.{down}
 use Rattle.gltf_plans.specs.Planned.{planned}
 use Rattle.gltf_plans.proofs.Items.{item_comes, items_end}
 use Rattle.gltf_walk.proofs.lists.item_at.Goals as goal
@@ -11,11 +8,12 @@ use Rattle.gltf_walk.proofs.lists.item_at.Goals as goal
 pub returns-in-Some-clause-comes : goal.returns-in-Some-clause-comes
 returns-in-Some-clause-comes g c =
     let v = g.T.Visited in
-    ap (down (item c.args.number)) c.part.ensures
-    ∙ item_comes (λ t. planned v.kind t (context_of c.args.context.now) absent) v.tree c.args.items.now.items _ c.args.number c.in-Some.item.now (search rules)
+    c.item.ensures
+    ∙ item_comes (λ t. planned v.kind t (g.C.Against.context c.args.context.now) absent) v.tree c.args.items.now.items _ c.args.number c.in-Some.item.now (search rules)
     c.in-Some.ensures.lookup.3.0 c.in-Some.ensures.lookup.1
 
 pub returns-in-None-clause-comes : goal.returns-in-None-clause-comes
 returns-in-None-clause-comes g c =
     let v = g.T.Visited in
-    items_end (λ t. planned v.kind t (context_of c.args.context.now) absent) v.tree c.args.items.now.items c.args.number (search rules)
+    let context = g.C.Against.context c.args.context.now in
+    c.done.ensures.comes context ∙ items_end (λ t. planned v.kind t context absent) v.tree c.args.items.now.items c.args.number (search rules)

@@ -5,7 +5,6 @@ use Rattle.gltf_animations.specs.AnimationTrees.{animation_members, animation_sa
 use Rattle.gltf_paths.specs.Steps.{field}
 use Rattle.gltf_schema.specs.Fields.{closed_object}
 use Rattle.gltf_schema.specs.Tree.{absent}
-use Rattle.gltf_faults.specs.Context.{context_of}
 use Rattle.gltf_plans.specs.Plan.{place, down}
 use Rattle.gltf_plans.specs.Planned.{planned}
 use Rattle.gltf_plans.proofs.Items.{items_same}
@@ -13,8 +12,8 @@ use Rattle.gltf_plans.proofs.animation.AnimationObject.next.Goals as goal
 
 pub returns-in-0-clause-comes : goal.returns-in-0-clause-comes
 unfolding animation_rows animation_sampler_rows animation_members animation_sampler_members
-returns-in-0-clause-comes c =
-    let context = context_of c.args.context.now in
+returns-in-0-clause-comes g c =
+    let context = g.C.Against.context c.args.context.now in
     let above = closed_object (animation_members c.args.self.now) in
     rw c.in-0.is (c.member.ensures ∙ ap (λ ps. down (field (codes "samplers")) (place ps []))
     (items_same (λ t. planned animation_sampler_kind t context absent) (λ t. planned animation_sampler_kind t context above) (λ x. closed_object (animation_sampler_members x))

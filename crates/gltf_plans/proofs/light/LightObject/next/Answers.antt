@@ -4,13 +4,12 @@ use Rattle.gltf_nodes.specs.LightTable.{light_rows, spot_rows}
 use Rattle.gltf_nodes.specs.LightTrees.{light_members}
 use Rattle.gltf_paths.specs.Steps.{field}
 use Rattle.gltf_faults.specs.Rules.{light_rule}
-use Rattle.gltf_faults.specs.Context.{context_of}
 use Rattle.gltf_plans.specs.Plan.{down}
 use Rattle.gltf_plans.proofs.Leaves.{found_leaf}
 use Rattle.gltf_plans.proofs.light.LightObject.next.Goals as goal
 
 pub returns-in-1-clause-comes : goal.returns-in-1-clause-comes
 unfolding light_rows spot_rows light_members
-returns-in-1-clause-comes c =
+returns-in-1-clause-comes g c =
     let at = field (codes "spot") in
-    rw c.in-1.is (c.found.ensures (context_of c.args.context.now) ∙ ap (down at) (found_leaf (light_rule (light_members c.args.self.now)) _ at c.spot_fault.ensures))
+    rw c.in-1.is (c.found.ensures (g.C.Against.context c.args.context.now) ∙ ap (down at) (found_leaf (light_rule (light_members c.args.self.now)) _ at c.spot_fault.ensures))

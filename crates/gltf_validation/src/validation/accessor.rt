@@ -13,7 +13,7 @@ use super::within::member;
 use gltf_base::{Step, Steps};
 use gltf_data::accessor::Accessor;
 use gltf_data::extensions::accessor as extensions;
-use gltf_faults::{Context, data_fault};
+use gltf_faults::{Against, data_fault};
 use gltf_sinks::{Sink, Stop, told};
 
 impl Members for Accessor {
@@ -25,9 +25,9 @@ impl Members for Accessor {
 
     /// Reports what is wrong in its members, and then `Missing` at `bufferView` where there is no data
     /// at all.
-    fn tell_members<'a, S: Sink>(
+    fn tell_members<'a, C: Against, S: Sink>(
         &'a self,
-        by: &Context<'_>,
+        by: &C,
         path: &mut Steps<'a>,
         sink: &mut S,
     ) -> Result<(), Stop<S::Refusal>> {

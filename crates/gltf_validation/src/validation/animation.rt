@@ -14,7 +14,7 @@ use super::within::member;
 use gltf_animations::animation::{Animation, Sampler, Target};
 use gltf_animations::extensions::animation as extensions;
 use gltf_base::Steps;
-use gltf_faults::Context;
+use gltf_faults::Against;
 use gltf_sinks::{Sink, Stop};
 
 impl Members for Animation {
@@ -26,9 +26,9 @@ impl Members for Animation {
 
     /// Reports what is wrong in its channels and samplers; at the `sampler` of a channel that names none
     /// of the animation's own `IndexOutOfBounds`.
-    fn tell_members<'a, S: Sink>(
+    fn tell_members<'a, C: Against, S: Sink>(
         &'a self,
-        by: &Context<'_>,
+        by: &C,
         path: &mut Steps<'a>,
         sink: &mut S,
     ) -> Result<(), Stop<S::Refusal>> {
@@ -44,9 +44,9 @@ impl Members for Target {
 
     ghost depth = { 1 };
 
-    fn tell_members<'a, S: Sink>(
+    fn tell_members<'a, C: Against, S: Sink>(
         &'a self,
-        by: &Context<'_>,
+        by: &C,
         path: &mut Steps<'a>,
         sink: &mut S,
     ) -> Result<(), Stop<S::Refusal>> {
@@ -62,9 +62,9 @@ impl Members for Sampler {
 
     ghost depth = { 1 };
 
-    fn tell_members<'a, S: Sink>(
+    fn tell_members<'a, C: Against, S: Sink>(
         &'a self,
-        by: &Context<'_>,
+        by: &C,
         path: &mut Steps<'a>,
         sink: &mut S,
     ) -> Result<(), Stop<S::Refusal>> {

@@ -15,7 +15,7 @@ use super::within::member;
 use gltf_base::Steps;
 use gltf_data::buffer::{Buffer, View};
 use gltf_data::extensions::buffer as extensions;
-use gltf_faults::Context;
+use gltf_faults::Against;
 use gltf_sinks::{Sink, Stop};
 
 impl Silent for Buffer {
@@ -33,9 +33,9 @@ impl Members for View {
 
     ghost depth = { 1 };
 
-    fn tell_members<'a, S: Sink>(
+    fn tell_members<'a, C: Against, S: Sink>(
         &'a self,
-        by: &Context<'_>,
+        by: &C,
         path: &mut Steps<'a>,
         sink: &mut S,
     ) -> Result<(), Stop<S::Refusal>> {

@@ -13,7 +13,7 @@ use super::members::Members;
 use super::silent::Silent;
 use super::within::member;
 use gltf_base::Steps;
-use gltf_faults::{Context, projection_fault};
+use gltf_faults::{Against, projection_fault};
 use gltf_nodes::camera::{Camera, Orthographic, Perspective};
 use gltf_nodes::extensions::camera as extensions;
 use gltf_sinks::{Sink, Stop, also_told};
@@ -27,9 +27,9 @@ impl Members for Camera {
 
     /// Reports `Invalid` at a type that is none, and then `Missing` at the camera itself where it has
     /// neither projection, whatever its type.
-    fn tell_members<'a, S: Sink>(
+    fn tell_members<'a, C: Against, S: Sink>(
         &'a self,
-        by: &Context<'_>,
+        by: &C,
         path: &mut Steps<'a>,
         sink: &mut S,
     ) -> Result<(), Stop<S::Refusal>> {

@@ -6,27 +6,26 @@ ghost use Rattle.gltf_schema.specs.Fields.{closed_object, list_tree};
 ghost use Rattle.gltf_schema.specs.Kind.{ListOf};
 ghost use Rattle.gltf_animations.specs.AnimationTable.{animation_channel_kind};
 ghost use Rattle.gltf_animations.specs.AnimationTrees.{animation_members, animation_channel_members};
-ghost use Rattle.gltf_faults.specs.Context.{context_of};
 ghost use Rattle.gltf_faults.specs.Reports.{reports};
 ghost use Rattle.gltf_sinks.specs.Handed.{Walked, WentOn};
 
 use super::within::member;
 use gltf_animations::animation::{Animation, Channel};
 use gltf_base::{Step, Steps};
-use gltf_faults::{Context, sampler_fault};
+use gltf_faults::{Against, sampler_fault};
 use gltf_sinks::{Sink, Stop, told};
 
 /// Goes on with the channels of an animation, where nothing stopped the walk before.
-pub(crate) fn channels<'a, S: Sink>(
+pub(crate) fn channels<'a, C: Against, S: Sink>(
     before: Result<(), Stop<S::Refusal>>,
     animation: &'a Animation,
-    context: &Context<'_>,
+    context: &C,
     path: &mut Steps<'a>,
     sink: &mut S,
 ) -> Result<(), Stop<S::Refusal>>
     ensures { WentOn S.next S.refuses before path.old (S.state sink.old)
         (λ base. reports (ListOf animation_channel_kind) (list_tree (λ x. closed_object (animation_channel_members x)) animation.now.channels.items)
-        (context_of context.now) (closed_object (animation_members animation.now)) (base ++ field (codes "channels") ∷ []))
+        (C.context context.now) (closed_object (animation_members animation.now)) (base ++ field (codes "channels") ∷ []))
         4 result path.new (S.state sink.new) }
 {
     match before {
@@ -36,15 +35,15 @@ pub(crate) fn channels<'a, S: Sink>(
 }
 
 /// Validates the list of the channels, at the list.
-fn within_list<'a, S: Sink>(
+fn within_list<'a, C: Against, S: Sink>(
     animation: &'a Animation,
-    context: &Context<'_>,
+    context: &C,
     path: &mut Steps<'a>,
     sink: &mut S,
 ) -> Result<(), Stop<S::Refusal>>
     ensures { Walked S.next S.refuses path.old (S.state sink.old)
         (λ base. reports (ListOf animation_channel_kind) (list_tree (λ x. closed_object (animation_channel_members x)) animation.now.channels.items)
-        (context_of context.now) (closed_object (animation_members animation.now)) (base ++ field (codes "channels") ∷ []))
+        (C.context context.now) (closed_object (animation_members animation.now)) (base ++ field (codes "channels") ∷ []))
         4 result path.new (S.state sink.new) }
 {
     if path.is_full() {
@@ -56,15 +55,15 @@ fn within_list<'a, S: Sink>(
     walked
 }
 
-fn each_channel<'a, S: Sink>(
+fn each_channel<'a, C: Against, S: Sink>(
     animation: &'a Animation,
-    context: &Context<'_>,
+    context: &C,
     path: &mut Steps<'a>,
     sink: &mut S,
 ) -> Result<(), Stop<S::Refusal>>
     ensures { Walked S.next S.refuses path.old (S.state sink.old)
         (reports (ListOf animation_channel_kind) (list_tree (λ x. closed_object (animation_channel_members x)) animation.now.channels.items)
-        (context_of context.now) (closed_object (animation_members animation.now)))
+        (C.context context.now) (closed_object (animation_members animation.now)))
         3 result path.new (S.state sink.new) }
 {
     for (i, channel) in animation.channels.iter().enumerate() {
@@ -74,17 +73,17 @@ fn each_channel<'a, S: Sink>(
 }
 
 /// Validates a channel, at its number in the list.
-fn channel_at<'a, S: Sink>(
+fn channel_at<'a, C: Against, S: Sink>(
     number: usize,
     channel: &'a Channel,
     animation: &Animation,
-    context: &Context<'_>,
+    context: &C,
     path: &mut Steps<'a>,
     sink: &mut S,
 ) -> Result<(), Stop<S::Refusal>>
     ensures { Walked S.next S.refuses path.old (S.state sink.old)
         (λ base. reports animation_channel_kind (closed_object (animation_channel_members channel.now))
-        (context_of context.now) (closed_object (animation_members animation.now)) (base ++ item number ∷ []))
+        (C.context context.now) (closed_object (animation_members animation.now)) (base ++ item number ∷ []))
         3 result path.new (S.state sink.new) }
 {
     if path.is_full() {
@@ -97,16 +96,16 @@ fn channel_at<'a, S: Sink>(
 }
 
 /// Validates the members of a channel.
-fn members_of<'a, S: Sink>(
+fn members_of<'a, C: Against, S: Sink>(
     channel: &'a Channel,
     animation: &Animation,
-    context: &Context<'_>,
+    context: &C,
     path: &mut Steps<'a>,
     sink: &mut S,
 ) -> Result<(), Stop<S::Refusal>>
     ensures { Walked S.next S.refuses path.old (S.state sink.old)
         (reports animation_channel_kind (closed_object (animation_channel_members channel.now))
-        (context_of context.now) (closed_object (animation_members animation.now)))
+        (C.context context.now) (closed_object (animation_members animation.now)))
         2 result path.new (S.state sink.new) }
 {
     let fault = sampler_fault(channel, animation);

@@ -3,7 +3,6 @@
 ghost use Rattle.std.specs.Prelude.{◌≡◌, ◌+◌};
 ghost use Rattle.gltf_schema.specs.Tree.{tree_or_absent};
 ghost use Rattle.gltf_schema.specs.Fields.{list_tree};
-ghost use Rattle.gltf_faults.specs.Context.{context_of};
 ghost use Rattle.gltf_sinks.specs.Handed.{Walked};
 ghost use Rattle.gltf_sinks.specs.Report.{each_at};
 ghost use Rattle.gltf_validation.specs.ByType.{option_reports, list_reports, list_kind, reports_in};
@@ -11,7 +10,7 @@ ghost use Rattle.gltf_validation.specs.ByType.{option_reports, list_reports, lis
 use super::Validate;
 use super::within::within;
 use gltf_base::{Step, Steps};
-use gltf_faults::{Context, Rules};
+use gltf_faults::{Against, Context, Rules};
 use gltf_root::root::Root;
 use gltf_sinks::{Sink, Stop};
 
@@ -61,14 +60,14 @@ impl<T: Validate> Validate for Vec<T> {
 }
 
 /// Validates each item of a list, at its number.
-fn each_item<'a, T: Validate, S: Sink>(
+fn each_item<'a, T: Validate, C: Against, S: Sink>(
     items: &'a Vec<T>,
-    context: &Context<'_>,
+    context: &C,
     path: &mut Steps<'a>,
     sink: &mut S,
 ) -> Result<(), Stop<S::Refusal>>
     ensures { Walked S.next S.refuses path.old (S.state sink.old)
-        (each_at (reports_in T.kind T.tree T.own (context_of context.now)) 0 items.now.items)
+        (each_at (reports_in T.kind T.tree T.own (C.context context.now)) 0 items.now.items)
         (T.depth + 1) result path.new (S.state sink.new) }
 {
     for (i, item) in items.iter().enumerate() {

@@ -20,7 +20,7 @@ use super::members::Members;
 use super::silent::Silent;
 use super::within::member;
 use gltf_base::Steps;
-use gltf_faults::Context;
+use gltf_faults::Against;
 use gltf_nodes::asset::Asset;
 use gltf_nodes::extensions::asset::Asset as AssetExtensions;
 use gltf_root::extensions::root as extensions;
@@ -39,12 +39,13 @@ impl Members for Root {
     /// Reports everything that is wrong in the document, and last `Unsupported` at each extension that it
     /// requires and that the rules don't enable. Its indexes are looked up in `root`, which is the document
     /// itself or another.
-    fn tell_members<'a, S: Sink>(
+    fn tell_members<'a, C: Against, S: Sink>(
         &'a self,
-        by: &Context<'_>,
+        by: &C,
         path: &mut Steps<'a>,
         sink: &mut S,
     ) -> Result<(), Stop<S::Refusal>> {
+        let by = by.context();
         hand_over(&mut Descent::new(*by.rules, self, by.root, path), sink)
     }
 }
@@ -74,9 +75,9 @@ impl Members for extensions::Root {
 
     ghost depth = { 4 };
 
-    fn tell_members<'a, S: Sink>(
+    fn tell_members<'a, C: Against, S: Sink>(
         &'a self,
-        by: &Context<'_>,
+        by: &C,
         path: &mut Steps<'a>,
         sink: &mut S,
     ) -> Result<(), Stop<S::Refusal>> {
@@ -98,9 +99,9 @@ impl Members for KhrLightsPunctual {
 
     ghost depth = { 3 };
 
-    fn tell_members<'a, S: Sink>(
+    fn tell_members<'a, C: Against, S: Sink>(
         &'a self,
-        by: &Context<'_>,
+        by: &C,
         path: &mut Steps<'a>,
         sink: &mut S,
     ) -> Result<(), Stop<S::Refusal>> {

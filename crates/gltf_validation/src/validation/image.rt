@@ -13,7 +13,7 @@ use super::within::member;
 use gltf_base::Steps;
 use gltf_data::extensions::image as extensions;
 use gltf_data::image::{Image, MimeType};
-use gltf_faults::Context;
+use gltf_faults::Against;
 use gltf_sinks::{Sink, Stop};
 
 impl Members for Image {
@@ -23,9 +23,9 @@ impl Members for Image {
 
     ghost depth = { 1 };
 
-    fn tell_members<'a, S: Sink>(
+    fn tell_members<'a, C: Against, S: Sink>(
         &'a self,
-        by: &Context<'_>,
+        by: &C,
         path: &mut Steps<'a>,
         sink: &mut S,
     ) -> Result<(), Stop<S::Refusal>> {

@@ -12,7 +12,7 @@ use super::members::Members;
 use gltf_base::validation::Checked;
 use gltf_base::{IndexTo, Names, Steps};
 use gltf_data::buffer::Stride;
-use gltf_faults::{Context, Rules, choice_fault, index_fault, stride_fault};
+use gltf_faults::{Against, Rules, choice_fault, index_fault, stride_fault};
 use gltf_root::root::{Root, RootItem};
 use gltf_sinks::{Sink, Stop, tell};
 
@@ -27,13 +27,13 @@ where
     ghost depth = { 0 };
 
     /// Reports `IndexOutOfBounds` where the index is past the end of its list in `root`.
-    fn tell_members<'a, S: Sink>(
+    fn tell_members<'a, C: Against, S: Sink>(
         &'a self,
-        by: &Context<'_>,
+        by: &C,
         path: &mut Steps<'a>,
         sink: &mut S,
     ) -> Result<(), Stop<S::Refusal>> {
-        tell(path, index_fault(self, by.root), sink)
+        tell(path, index_fault(self, by.context().root), sink)
     }
 }
 
@@ -66,9 +66,9 @@ impl Members for Stride {
     ghost depth = { 0 };
 
     /// Reports `Invalid` where the stride is below 4 or above 252 bytes (glTF 2.0, section 5.11.4).
-    fn tell_members<'a, S: Sink>(
+    fn tell_members<'a, C: Against, S: Sink>(
         &'a self,
-        _by: &Context<'_>,
+        _by: &C,
         path: &mut Steps<'a>,
         sink: &mut S,
     ) -> Result<(), Stop<S::Refusal>> {

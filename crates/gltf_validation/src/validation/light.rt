@@ -11,7 +11,7 @@ use super::members::Members;
 use super::silent::Silent;
 use super::within::member;
 use gltf_base::{Step, Steps};
-use gltf_faults::{Context, spot_fault};
+use gltf_faults::{Against, spot_fault};
 use gltf_nodes::extensions::scene::khr_lights_punctual::{KhrLightsPunctual, Light, Spot};
 use gltf_nodes::extensions::scene::khr_materials_variants::Variant;
 use gltf_sinks::{Sink, Stop, told};
@@ -24,9 +24,9 @@ impl Members for Light {
     ghost depth = { 1 };
 
     /// Reports `Invalid` at a type that is none, or `Missing` at `spot` where a spot light has no cone.
-    fn tell_members<'a, S: Sink>(
+    fn tell_members<'a, C: Against, S: Sink>(
         &'a self,
-        by: &Context<'_>,
+        by: &C,
         path: &mut Steps<'a>,
         sink: &mut S,
     ) -> Result<(), Stop<S::Refusal>> {
@@ -42,9 +42,9 @@ impl Members for KhrLightsPunctual {
 
     ghost depth = { 1 };
 
-    fn tell_members<'a, S: Sink>(
+    fn tell_members<'a, C: Against, S: Sink>(
         &'a self,
-        by: &Context<'_>,
+        by: &C,
         path: &mut Steps<'a>,
         sink: &mut S,
     ) -> Result<(), Stop<S::Refusal>> {

@@ -3,14 +3,13 @@
 ghost use Rattle.std.specs.Prelude.{◌≡◌, ◌+◌, ◌++◌, ◌∷◌, [], None, max};
 ghost use Rattle.gltf_paths.specs.Steps.{key};
 ghost use Rattle.gltf_schema.specs.Tree.{absent};
-ghost use Rattle.gltf_faults.specs.Context.{context_of};
 ghost use Rattle.gltf_sinks.specs.Handed.{Walked};
 ghost use Rattle.gltf_validation.specs.ByType.{reports_in, each_entry};
 
 use super::Validate;
 use super::within::{also_within, within};
 use gltf_base::{KeyStep, Steps};
-use gltf_faults::{Context, Rules};
+use gltf_faults::{Against, Context, Rules};
 use gltf_root::root::Root;
 use gltf_sinks::{Sink, Stop};
 use std::collections::BTreeMap;
@@ -38,14 +37,14 @@ impl<K: KeyStep + Validate + Ord, V: Validate> Validate for BTreeMap<K, V> {
 }
 
 /// Validates the entries of a map in the order of the keys.
-fn entries_of<'a, K: KeyStep + Validate + Ord, V: Validate, S: Sink>(
+fn entries_of<'a, K: KeyStep + Validate + Ord, V: Validate, C: Against, S: Sink>(
     map: &'a BTreeMap<K, V>,
-    context: &Context<'_>,
+    context: &C,
     path: &mut Steps<'a>,
     sink: &mut S,
 ) -> Result<(), Stop<S::Refusal>>
     ensures { Walked S.next S.refuses path.old (S.state sink.old)
-        (each_entry K.key_text (reports_in K.kind K.tree K.own (context_of context.now)) (reports_in V.kind V.tree V.own (context_of context.now)) map.now.entries)
+        (each_entry K.key_text (reports_in K.kind K.tree K.own (C.context context.now)) (reports_in V.kind V.tree V.own (C.context context.now)) map.now.entries)
         (max K.depth V.depth + 1) result path.new (S.state sink.new) }
 {
     for (key, value) in map {
@@ -55,16 +54,16 @@ fn entries_of<'a, K: KeyStep + Validate + Ord, V: Validate, S: Sink>(
 }
 
 /// Validates the key and the value of one entry.
-fn entry<'a, K: KeyStep + Validate, V: Validate, S: Sink>(
+fn entry<'a, K: KeyStep + Validate, V: Validate, C: Against, S: Sink>(
     named: &'a K,
     value: &'a V,
-    context: &Context<'_>,
+    context: &C,
     path: &mut Steps<'a>,
     sink: &mut S,
 ) -> Result<(), Stop<S::Refusal>>
     ensures { Walked S.next S.refuses path.old (S.state sink.old)
-        (λ base. reports_in K.kind K.tree K.own (context_of context.now) named.now (base ++ key (K.key_text named.now) ∷ [])
-        ++ reports_in V.kind V.tree V.own (context_of context.now) value.now (base ++ key (K.key_text named.now) ∷ []))
+        (λ base. reports_in K.kind K.tree K.own (C.context context.now) named.now (base ++ key (K.key_text named.now) ∷ [])
+        ++ reports_in V.kind V.tree V.own (C.context context.now) value.now (base ++ key (K.key_text named.now) ∷ []))
         (max K.depth V.depth + 1) result path.new (S.state sink.new) }
 {
     let walked = within(named, named.key_step(), context, path, sink);

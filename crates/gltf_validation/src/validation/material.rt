@@ -11,7 +11,7 @@ use super::members::Members;
 use super::silent::Silent;
 use super::within::member;
 use gltf_base::Steps;
-use gltf_faults::Context;
+use gltf_faults::Against;
 use gltf_materials::material::{
     AlphaCutoff, EmissiveFactor, Material, PbrBaseColorFactor, PbrMetallicRoughness,
 };
@@ -26,9 +26,9 @@ impl Members for Material {
 
     ghost depth = { 4 };
 
-    fn tell_members<'a, S: Sink>(
+    fn tell_members<'a, C: Against, S: Sink>(
         &'a self,
-        by: &Context<'_>,
+        by: &C,
         path: &mut Steps<'a>,
         sink: &mut S,
     ) -> Result<(), Stop<S::Refusal>> {
@@ -83,9 +83,9 @@ impl Members for PbrMetallicRoughness {
 
     ghost depth = { 2 };
 
-    fn tell_members<'a, S: Sink>(
+    fn tell_members<'a, C: Against, S: Sink>(
         &'a self,
-        by: &Context<'_>,
+        by: &C,
         path: &mut Steps<'a>,
         sink: &mut S,
     ) -> Result<(), Stop<S::Refusal>> {

@@ -3,14 +3,13 @@
 ghost use Rattle.std.specs.Prelude.{◌≡◌, ℕ, Option, None};
 ghost use Rattle.gltf_schema.specs.Tree.{Tree, absent};
 ghost use Rattle.gltf_schema.specs.Kind.{Kind};
-ghost use Rattle.gltf_faults.specs.Context.{context_of};
 ghost use Rattle.gltf_sinks.specs.Handed.{Walked};
 ghost use Rattle.gltf_validation.specs.ByType.{reports_by, no_reports};
 
 use super::Validate;
 use super::silent::Silent;
 use gltf_base::Steps;
-use gltf_faults::{Context, Rules};
+use gltf_faults::{Against, Context, Rules};
 use gltf_root::root::Root;
 use gltf_sinks::{Sink, Stop};
 
@@ -26,14 +25,14 @@ pub trait Members {
     ghost depth: { ℕ } = { 0 };
 
     /// Hands the sink what is wrong in the value, member by member, and then what its rule says.
-    fn tell_members<'a, S: Sink>(
+    fn tell_members<'a, C: Against, S: Sink>(
         &'a self,
-        by: &Context<'_>,
+        by: &C,
         path: &mut Steps<'a>,
         sink: &mut S,
     ) -> Result<(), Stop<S::Refusal>>
         ensures { Walked S.next S.refuses path.old (S.state sink.old)
-            (reports_by kind (tree self.now) (no_reports self.now) (context_of by.now)) depth result path.new (S.state sink.new) };
+            (reports_by kind (tree self.now) (no_reports self.now) (C.context by.now)) depth result path.new (S.state sink.new) };
 }
 
 impl<T: Members> Validate for T {
@@ -63,9 +62,9 @@ impl<T: Silent> Members for T {
 
     ghost depth = { 0 };
 
-    fn tell_members<'a, S: Sink>(
+    fn tell_members<'a, C: Against, S: Sink>(
         &'a self,
-        _by: &Context<'_>,
+        _by: &C,
         _path: &mut Steps<'a>,
         _sink: &mut S,
     ) -> Result<(), Stop<S::Refusal>> {

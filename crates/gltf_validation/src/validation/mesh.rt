@@ -13,7 +13,7 @@ use super::members::Members;
 use super::silent::Silent;
 use super::within::member;
 use gltf_base::Steps;
-use gltf_faults::{Context, positions};
+use gltf_faults::{Against, positions};
 use gltf_meshes::extensions::mesh as extensions;
 use gltf_meshes::extensions::mesh::{KhrMaterialsVariants, Mapping};
 use gltf_meshes::mesh::{Mesh, MorphTarget, Primitive};
@@ -26,9 +26,9 @@ impl Members for Mesh {
 
     ghost depth = { 5 };
 
-    fn tell_members<'a, S: Sink>(
+    fn tell_members<'a, C: Against, S: Sink>(
         &'a self,
-        by: &Context<'_>,
+        by: &C,
         path: &mut Steps<'a>,
         sink: &mut S,
     ) -> Result<(), Stop<S::Refusal>> {
@@ -45,9 +45,9 @@ impl Members for Primitive {
 
     /// Reports, behind its members, `Missing` at `attributes["POSITION"]` where there are no positions, and
     /// what is wrong with the bounds of their accessor, where it is there.
-    fn tell_members<'a, S: Sink>(
+    fn tell_members<'a, C: Against, S: Sink>(
         &'a self,
-        by: &Context<'_>,
+        by: &C,
         path: &mut Steps<'a>,
         sink: &mut S,
     ) -> Result<(), Stop<S::Refusal>> {
@@ -56,7 +56,7 @@ impl Members for Primitive {
         let material = member(indices, &self.material, "material", by, path, sink);
         let mode = member(material, &self.mode, "mode", by, path, sink);
         let targets = member(mode, &self.targets, "targets", by, path, sink);
-        positions(targets, self, by.root, path, sink)
+        positions(targets, self, by.context().root, path, sink)
     }
 }
 
@@ -67,9 +67,9 @@ impl Members for MorphTarget {
 
     ghost depth = { 1 };
 
-    fn tell_members<'a, S: Sink>(
+    fn tell_members<'a, C: Against, S: Sink>(
         &'a self,
-        by: &Context<'_>,
+        by: &C,
         path: &mut Steps<'a>,
         sink: &mut S,
     ) -> Result<(), Stop<S::Refusal>> {

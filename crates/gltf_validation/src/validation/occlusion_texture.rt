@@ -11,7 +11,7 @@ use super::members::Members;
 use super::silent::Silent;
 use super::within::member;
 use gltf_base::Steps;
-use gltf_faults::Context;
+use gltf_faults::Against;
 use gltf_materials::material::OcclusionTexture;
 use gltf_shading::extensions::material as extensions;
 use gltf_sinks::{Sink, Stop};
@@ -23,9 +23,9 @@ impl Members for OcclusionTexture {
 
     ghost depth = { 1 };
 
-    fn tell_members<'a, S: Sink>(
+    fn tell_members<'a, C: Against, S: Sink>(
         &'a self,
-        by: &Context<'_>,
+        by: &C,
         path: &mut Steps<'a>,
         sink: &mut S,
     ) -> Result<(), Stop<S::Refusal>> {

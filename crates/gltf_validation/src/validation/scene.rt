@@ -11,7 +11,7 @@ use super::members::Members;
 use super::silent::Silent;
 use super::within::member;
 use gltf_base::Steps;
-use gltf_faults::Context;
+use gltf_faults::Against;
 use gltf_nodes::extensions::{scene as extensions, skin as skin_extensions};
 use gltf_nodes::scene::{Node, Scene, UnitQuaternion};
 use gltf_nodes::skin::Skin;
@@ -24,9 +24,9 @@ impl Members for Node {
 
     ghost depth = { 3 };
 
-    fn tell_members<'a, S: Sink>(
+    fn tell_members<'a, C: Against, S: Sink>(
         &'a self,
-        by: &Context<'_>,
+        by: &C,
         path: &mut Steps<'a>,
         sink: &mut S,
     ) -> Result<(), Stop<S::Refusal>> {
@@ -45,9 +45,9 @@ impl Members for Scene {
 
     ghost depth = { 2 };
 
-    fn tell_members<'a, S: Sink>(
+    fn tell_members<'a, C: Against, S: Sink>(
         &'a self,
-        by: &Context<'_>,
+        by: &C,
         path: &mut Steps<'a>,
         sink: &mut S,
     ) -> Result<(), Stop<S::Refusal>> {
@@ -62,9 +62,9 @@ impl Members for Skin {
 
     ghost depth = { 2 };
 
-    fn tell_members<'a, S: Sink>(
+    fn tell_members<'a, C: Against, S: Sink>(
         &'a self,
-        by: &Context<'_>,
+        by: &C,
         path: &mut Steps<'a>,
         sink: &mut S,
     ) -> Result<(), Stop<S::Refusal>> {
@@ -95,9 +95,9 @@ impl Members for extensions::Node {
 
     ghost depth = { 2 };
 
-    fn tell_members<'a, S: Sink>(
+    fn tell_members<'a, C: Against, S: Sink>(
         &'a self,
-        by: &Context<'_>,
+        by: &C,
         path: &mut Steps<'a>,
         sink: &mut S,
     ) -> Result<(), Stop<S::Refusal>> {

@@ -13,7 +13,7 @@ use super::within::member;
 use gltf_base::Steps;
 use gltf_data::accessor::sparse::{Indices, Sparse, Values};
 use gltf_data::extensions::accessor::sparse as extensions;
-use gltf_faults::Context;
+use gltf_faults::Against;
 use gltf_sinks::{Sink, Stop};
 
 impl Members for Sparse {
@@ -23,9 +23,9 @@ impl Members for Sparse {
 
     ghost depth = { 2 };
 
-    fn tell_members<'a, S: Sink>(
+    fn tell_members<'a, C: Against, S: Sink>(
         &'a self,
-        by: &Context<'_>,
+        by: &C,
         path: &mut Steps<'a>,
         sink: &mut S,
     ) -> Result<(), Stop<S::Refusal>> {
@@ -41,9 +41,9 @@ impl Members for Indices {
 
     ghost depth = { 1 };
 
-    fn tell_members<'a, S: Sink>(
+    fn tell_members<'a, C: Against, S: Sink>(
         &'a self,
-        by: &Context<'_>,
+        by: &C,
         path: &mut Steps<'a>,
         sink: &mut S,
     ) -> Result<(), Stop<S::Refusal>> {
@@ -66,9 +66,9 @@ impl Members for Values {
 
     ghost depth = { 1 };
 
-    fn tell_members<'a, S: Sink>(
+    fn tell_members<'a, C: Against, S: Sink>(
         &'a self,
-        by: &Context<'_>,
+        by: &C,
         path: &mut Steps<'a>,
         sink: &mut S,
     ) -> Result<(), Stop<S::Refusal>> {

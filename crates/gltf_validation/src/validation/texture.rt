@@ -13,7 +13,7 @@ use super::members::Members;
 use super::silent::Silent;
 use super::within::member;
 use gltf_base::{Step, Steps};
-use gltf_faults::{Context, source_fault};
+use gltf_faults::{Against, source_fault};
 use gltf_sinks::{Sink, Stop, told};
 use gltf_textures::extensions::texture as extensions;
 use gltf_textures::extensions::texture::{
@@ -28,9 +28,9 @@ impl Members for Sampler {
 
     ghost depth = { 1 };
 
-    fn tell_members<'a, S: Sink>(
+    fn tell_members<'a, C: Against, S: Sink>(
         &'a self,
-        by: &Context<'_>,
+        by: &C,
         path: &mut Steps<'a>,
         sink: &mut S,
     ) -> Result<(), Stop<S::Refusal>> {
@@ -50,16 +50,16 @@ impl Members for Texture {
 
     /// Reports `IndexOutOfBounds` at a `sampler` or a `source` that names none. Where `source` is
     /// 4294967295, which stands for no image, that is `Missing`, and nothing where the rules allow it.
-    fn tell_members<'a, S: Sink>(
+    fn tell_members<'a, C: Against, S: Sink>(
         &'a self,
-        by: &Context<'_>,
+        by: &C,
         path: &mut Steps<'a>,
         sink: &mut S,
     ) -> Result<(), Stop<S::Refusal>> {
         let sampler = member(Ok(()), &self.sampler, "sampler", by, path, sink);
         told(
             sampler,
-            source_fault(self, by),
+            source_fault(self, &by.context()),
             Step::Field("source"),
             path,
             sink,
@@ -74,9 +74,9 @@ impl Members for Info {
 
     ghost depth = { 1 };
 
-    fn tell_members<'a, S: Sink>(
+    fn tell_members<'a, C: Against, S: Sink>(
         &'a self,
-        by: &Context<'_>,
+        by: &C,
         path: &mut Steps<'a>,
         sink: &mut S,
     ) -> Result<(), Stop<S::Refusal>> {

@@ -2,47 +2,47 @@
 
 ghost use Rattle.std.specs.Prelude.{◌≡◌, ◌+◌, ◌++◌, ◌∷◌, []};
 ghost use Rattle.gltf_paths.specs.Steps.{step_of, field};
-ghost use Rattle.gltf_faults.specs.Context.{context_of};
 ghost use Rattle.gltf_sinks.specs.Handed.{Walked, WentOn};
 ghost use Rattle.gltf_validation.specs.ByType.{reports_by};
 
 use super::Validate;
 use gltf_base::{Step, Steps};
-use gltf_faults::Context;
+use gltf_faults::Against;
 use gltf_sinks::{Sink, Stop};
 
 /// Validates what stands one step further.
-pub(crate) fn within<'a, T: Validate, S: Sink>(
+pub(crate) fn within<'a, T: Validate, C: Against, S: Sink>(
     value: &'a T,
     step: Step<'a>,
-    context: &Context<'_>,
+    context: &C,
     path: &mut Steps<'a>,
     sink: &mut S,
 ) -> Result<(), Stop<S::Refusal>>
     ensures { Walked S.next S.refuses path.old (S.state sink.old)
-        (λ base. reports_by T.kind (T.tree value.now) (T.own value.now) (context_of context.now) (base ++ step_of step.entry ∷ []))
+        (λ base. reports_by T.kind (T.tree value.now) (T.own value.now) (C.context context.now) (base ++ step_of step.entry ∷ []))
         (T.depth + 1) result path.new (S.state sink.new) }
 {
     if path.is_full() {
         return Err(Stop::StepsFull);
     }
     path.push(step);
-    let walked = value.validate_with(context.rules, context.root, path, sink);
+    let by = context.context();
+    let walked = value.validate_with(by.rules, by.root, path, sink);
     path.pop();
     walked
 }
 
 /// Goes on with what stands one step further, where nothing stopped the walk before.
-pub(crate) fn also_within<'a, T: Validate, S: Sink>(
+pub(crate) fn also_within<'a, T: Validate, C: Against, S: Sink>(
     before: Result<(), Stop<S::Refusal>>,
     value: &'a T,
     step: Step<'a>,
-    context: &Context<'_>,
+    context: &C,
     path: &mut Steps<'a>,
     sink: &mut S,
 ) -> Result<(), Stop<S::Refusal>>
     ensures { WentOn S.next S.refuses before path.old (S.state sink.old)
-        (λ base. reports_by T.kind (T.tree value.now) (T.own value.now) (context_of context.now) (base ++ step_of step.entry ∷ []))
+        (λ base. reports_by T.kind (T.tree value.now) (T.own value.now) (C.context context.now) (base ++ step_of step.entry ∷ []))
         (T.depth + 1) result path.new (S.state sink.new) }
 {
     match before {
@@ -52,16 +52,16 @@ pub(crate) fn also_within<'a, T: Validate, S: Sink>(
 }
 
 /// Goes on with a member, where nothing stopped the walk before.
-pub(crate) fn member<'a, T: Validate, S: Sink>(
+pub(crate) fn member<'a, T: Validate, C: Against, S: Sink>(
     before: Result<(), Stop<S::Refusal>>,
     value: &'a T,
     name: &'static str,
-    context: &Context<'_>,
+    context: &C,
     path: &mut Steps<'a>,
     sink: &mut S,
 ) -> Result<(), Stop<S::Refusal>>
     ensures { WentOn S.next S.refuses before path.old (S.state sink.old)
-        (λ base. reports_by T.kind (T.tree value.now) (T.own value.now) (context_of context.now) (base ++ field name.now ∷ []))
+        (λ base. reports_by T.kind (T.tree value.now) (T.own value.now) (C.context context.now) (base ++ field name.now ∷ []))
         (T.depth + 1) result path.new (S.state sink.new) }
 {
     also_within(before, value, Step::Field(name), context, path, sink)

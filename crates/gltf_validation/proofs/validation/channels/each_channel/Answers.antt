@@ -4,7 +4,6 @@ use Rattle.gltf_paths.specs.Steps.{item}
 use Rattle.gltf_schema.specs.Fields.{closed_object}
 use Rattle.gltf_animations.specs.AnimationTable.{animation_channel_kind}
 use Rattle.gltf_animations.specs.AnimationTrees.{animation_members, animation_channel_members}
-use Rattle.gltf_faults.specs.Context.{context_of}
 use Rattle.gltf_sinks.specs.Report.{each_at}
 use Rattle.gltf_validation.proofs.BelowAnimations.{channel_reports}
 use Rattle.gltf_validation.proofs.ByTable.{items-each}
@@ -14,19 +13,19 @@ use Rattle.gltf_validation.proofs.validation.channels.each_channel.Goals as goal
 
 pub loop-i-init : goal.loop-i-init
 loop-i-init g c =
-    let each = channel_reports (context_of c.args.context.now) (closed_object (animation_members c.args.animation.now)) in
+    let each = channel_reports (g.C.Against.context c.args.context.now) (closed_object (animation_members c.args.animation.now)) in
     underway-begin g.S.Sink.next _ _ (each_at each 0 c.args.animation.now.channels.items)
 
 pub loop-i-preserved : goal.loop-i-preserved
 loop-i-preserved g c =
-    let each = channel_reports (context_of c.args.context.now) (closed_object (animation_members c.args.animation.now)) in
+    let each = channel_reports (g.C.Against.context c.args.context.now) (closed_object (animation_members c.args.animation.now)) in
     let xs = c.args.animation.now.channels.items in
     underway-more (λ base. each c.channel-item.result (base ++ item c.loop-i.i ∷ [])) (each_at each (c.loop-i.i + 1) (drop (c.loop-i.i + 1) xs))
     (underway-same {all = each_at each 0 xs} (each_at-next each _ xs c.channel-item.result (omega arith) (search rules)) c.loop-i.invariant) c.in_ok-channel_at.ensures
 
 pub returns-in_err-channel_at : goal.returns-in_err-channel_at
 returns-in_err-channel_at g c =
-    let context = context_of c.args.context.now in
+    let context = g.C.Against.context c.args.context.now in
     let above = closed_object (animation_members c.args.animation.now) in
     let each = channel_reports context above in
     let xs = c.args.animation.now.channels.items in
@@ -36,7 +35,7 @@ returns-in_err-channel_at g c =
 
 pub returns : goal.returns
 returns g c =
-    let context = context_of c.args.context.now in
+    let context = g.C.Against.context c.args.context.now in
     let above = closed_object (animation_members c.args.animation.now) in
     let each = channel_reports context above in
     let xs = c.args.animation.now.channels.items in

@@ -7,7 +7,6 @@ use Rattle.gltf_schema.specs.Extensions.{dropped_extensions}
 use Rattle.gltf_schema.specs.Fields.{closed_object}
 use Rattle.gltf_schema.specs.Kind.{ObjectName}
 use Rattle.gltf_schema.specs.Tree.{tree_or_absent}
-use Rattle.gltf_faults.specs.Context.{context_of}
 use Rattle.gltf_validation.proofs.BelowAnimations.{target_same}
 use Rattle.gltf_validation.proofs.Silences.{went_silent}
 use Rattle.gltf_sinks.proofs.Walks.{went_nowhere, went_same, went_then}
@@ -17,7 +16,7 @@ pub returns : goal.returns
 unfolding table.animation_channel_rows made.animation_channel_members
 returns g c =
     let v = c.args.channel.now in
-    let context = context_of c.args.context.now in
+    let context = g.C.Against.context c.args.context.now in
     let above = closed_object (made.animation_members c.args.animation.now) in
     went_then
     (went_then (went_same (λ base. sym (c.sampler_fault-fault.ensures (base ++ field (codes "sampler") ∷ []))) c.told-sampler.ensures) (lit≤ tt)

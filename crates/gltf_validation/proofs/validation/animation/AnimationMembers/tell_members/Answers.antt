@@ -6,7 +6,6 @@ use Rattle.gltf_animations.specs.AnimationTrees as made
 use Rattle.gltf_schema.specs.Extensions.{kept_extensions}
 use Rattle.gltf_schema.specs.Kind.{ObjectName}
 use Rattle.gltf_schema.specs.Fields.{closed_object}
-use Rattle.gltf_faults.specs.Context.{context_of}
 use Rattle.gltf_validation.proofs.BelowAnimations.{samplers_same}
 use Rattle.gltf_schema.specs.Tree.{tree_or_absent}
 use Rattle.gltf_validation.proofs.Silences.{went_silent}
@@ -17,7 +16,7 @@ pub returns : goal.returns
 unfolding table.animation_rows made.animation_members
 returns g c =
     let v = c.args.self.now in
-    let context = context_of c.args.by.now in
+    let context = g.C.Against.context c.args.by.now in
     went_then
     (went_then (went_same (λ base. samplers_same v.samplers.items context (closed_object (made.animation_members v)) (base ++ field (codes "samplers") ∷ [])) c.member-samplers.ensures) (lit≤ tt)
     (went_then c.channels.ensures (lit≤ tt)

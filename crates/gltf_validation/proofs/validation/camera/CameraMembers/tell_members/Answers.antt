@@ -8,7 +8,6 @@ use Rattle.gltf_schema.specs.Fields.{closed_object}
 use Rattle.gltf_schema.specs.Extensions.{kept_extensions}
 use Rattle.gltf_schema.specs.Kind.{ObjectName}
 use Rattle.gltf_schema.specs.Tree.{tree_or_absent, absent}
-use Rattle.gltf_faults.specs.Context.{context_of}
 use Rattle.gltf_validation.proofs.ByTable.{choice-checked}
 use Rattle.gltf_validation.proofs.Silences.{went_silent}
 use Rattle.gltf_sinks.proofs.Walks.{went_nowhere, went_same, went_then, went_wider}
@@ -18,7 +17,7 @@ pub returns : goal.returns
 unfolding table.camera_rows made.camera_members table.orthographic_rows table.perspective_rows
 returns g c =
     let v = c.args.self.now in
-    let context = context_of c.args.by.now in
+    let context = g.C.Against.context c.args.by.now in
     went_then
     (went_silent table.orthographic_kind refl (codes "orthographic") (tree_or_absent (λ x. closed_object (made.orthographic_members x)) v.orthographic) context absent
     (went_silent table.perspective_kind refl (codes "perspective") (tree_or_absent (λ x. closed_object (made.perspective_members x)) v.perspective) context absent

@@ -5,7 +5,6 @@ use Rattle.gltf_schema.specs.Kind.{ListOf, Number}
 use Rattle.gltf_nodes.specs.SceneTable as table
 use Rattle.gltf_nodes.specs.SceneTrees as made
 use Rattle.gltf_schema.specs.Tree.{tree_or_absent, absent}
-use Rattle.gltf_faults.specs.Context.{context_of}
 use Rattle.gltf_validation.proofs.Silences.{went_silent}
 use Rattle.gltf_sinks.proofs.Walks.{went_nowhere, went_then}
 use Rattle.gltf_validation.proofs.validation.scene.NodeMembers.tell_members.Goals as goal
@@ -14,7 +13,7 @@ pub returns : goal.returns
 unfolding table.node_rows made.node_members
 returns g c =
     let v = c.args.self.now in
-    let context = context_of c.args.by.now in
+    let context = g.C.Against.context c.args.by.now in
     went_then
     (went_then c.member-camera.ensures (lit≤ tt)
     (went_then c.member-children.ensures (lit≤ tt)

@@ -5,7 +5,6 @@ use Rattle.gltf_nodes.specs.SceneTrees as made
 use Rattle.gltf_schema.specs.Extensions.{kept_extensions}
 use Rattle.gltf_schema.specs.Kind.{ObjectName}
 use Rattle.gltf_schema.specs.Tree.{tree_or_absent, absent}
-use Rattle.gltf_faults.specs.Context.{context_of}
 use Rattle.gltf_validation.proofs.Silences.{went_silent}
 use Rattle.gltf_sinks.proofs.Walks.{went_nowhere, went_then}
 use Rattle.gltf_validation.proofs.validation.scene.SceneMembers.tell_members.Goals as goal
@@ -14,7 +13,7 @@ pub returns : goal.returns
 unfolding table.scene_rows made.scene_members
 returns g c =
     let v = c.args.self.now in
-    let context = context_of c.args.by.now in
+    let context = g.C.Against.context c.args.by.now in
     went_then
     (went_silent (kept_extensions ObjectName.scene) refl (codes "extensions") (tree_or_absent made.scene_extensions v.extensions) context absent
     (went_then c.member.ensures (lit≤ tt)

@@ -7,7 +7,6 @@ use Rattle.gltf_data.specs.AccessorTrees as made
 use Rattle.gltf_schema.specs.Extensions.{dropped_extensions}
 use Rattle.gltf_schema.specs.Kind.{ObjectName}
 use Rattle.gltf_schema.specs.Tree.{tree_or_absent, absent}
-use Rattle.gltf_faults.specs.Context.{context_of}
 use Rattle.gltf_validation.proofs.ByTable.{choice-checked}
 use Rattle.gltf_validation.proofs.Silences.{went_silent}
 use Rattle.gltf_sinks.proofs.Walks.{went_nowhere, went_same, went_then}
@@ -17,7 +16,7 @@ pub returns : goal.returns
 unfolding table.sparse_indices_rows made.sparse_indices_members
 returns g c =
     let v = c.args.self.now in
-    let context = context_of c.args.by.now in
+    let context = g.C.Against.context c.args.by.now in
     went_then
     (went_then c.member-buffer_view.ensures (lit≤ tt)
     (went_then (went_same (λ base. choice-checked index_component_type_spelling context v.component_type (base ++ field (codes "componentType") ∷ [])) c.member.ensures) (lit≤ tt)

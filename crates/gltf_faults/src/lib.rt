@@ -19,6 +19,6 @@ pub use context::{Against, Context};
 pub use indexes::{index_fault, sampler_fault, source_fault};
 pub use leaves::{choice_fault, stride_fault};
 pub use light::spot_fault;
-pub use primitive::{PositionFaults, position_faults, positions};
+pub use primitive::{PositionFaults, position_faults};
 pub use required::extension_fault;
 pub use rules::{ENABLED_WITH_EMPTY_TEXTURES, Rules, constant_is_listed};

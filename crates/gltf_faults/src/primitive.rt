@@ -1,28 +1,26 @@
 //! The positions of a primitive (glTF 2.0, section 3.7.2.1).
 
-ghost use Rattle.std.specs.Prelude.{◌≡◌, List, ◌∷◌, [], ◌++◌, Some, option_map, codes};
+ghost use Rattle.std.specs.Prelude.{◌≡◌, List, Some, option_map};
 ghost use Rattle.std.specs.Map.{lookup};
 ghost use Rattle.serde_json.specs.View.{view};
 ghost use Rattle.gltf_checked.specs.Semantics.{checked_key};
 ghost use Rattle.gltf_paths.specs.Indexes.{index_number};
-ghost use Rattle.gltf_paths.specs.Steps.{Step as Mathematical, field, key};
+ghost use Rattle.gltf_paths.specs.Steps.{Step as Mathematical};
 ghost use Rattle.gltf_data.specs.AccessorTrees.{accessor_members};
 ghost use Rattle.gltf_meshes.specs.MeshTrees.{primitive_members};
 ghost use Rattle.gltf_schema.specs.Fields.{any_tree, attributes_tree, closed_object};
 ghost use Rattle.gltf_schema.specs.Tree.{entries_in, tree_or_absent};
 ghost use Rattle.gltf_root.specs.RootTrees.{root_tree};
 ghost use Rattle.gltf_sinks.specs.Report.{found_at};
-ghost use Rattle.gltf_faults.specs.Rules.{bound_faults, bounds_faults, is_positions, is_triple, positions_faults, primitive_attributes, primitive_rule};
+ghost use Rattle.gltf_faults.specs.Rules.{bound_faults, bounds_faults, is_positions, is_triple, positions_faults, primitive_attributes};
 ghost use Rattle.gltf_faults.specs.Positions.{found_in_positions};
-ghost use Rattle.gltf_sinks.specs.Handed.{Walked, WentOn};
 
+use gltf_base::Index;
 use gltf_base::mesh::Semantic;
 use gltf_base::validation::{Checked, Error};
-use gltf_base::{Index, Step, Steps};
 use gltf_data::accessor::Accessor;
 use gltf_meshes::mesh::Primitive;
 use gltf_root::root::Root;
-use gltf_sinks::{Sink, Stop, tell, told};
 use serde_json::Value;
 use std::collections::BTreeMap;
 
@@ -36,76 +34,6 @@ pub struct PositionFaults {
     pub min: Option<Error>,
     /// For the greatest values of its accessor.
     pub max: Option<Error>,
-}
-
-/// Goes on with what is wrong with the positions of a primitive, where nothing stopped the walk
-/// before: `Missing` at `attributes["POSITION"]` where there are none; at `min` and at `max` of their
-/// accessor, where it is there, `Missing` or, for what isn't three numbers, `Invalid`. It stops with
-/// `StepsFull` where the path has no room for the three steps, and with `Sink` where the sink refuses.
-pub fn positions<'a, S: Sink>(
-    before: Result<(), Stop<S::Refusal>>,
-    primitive: &Primitive,
-    root: &Root,
-    path: &mut Steps<'a>,
-    sink: &mut S,
-) -> Result<(), Stop<S::Refusal>>
-    ensures { WentOn S.next S.refuses before path.old (S.state sink.old)
-        (primitive_rule (primitive_members primitive.now) (root_tree root.now)) 3 result path.new (S.state sink.new) }
-{
-    match before {
-        Ok(()) => told_in_attributes(position_faults(primitive, root), path, sink),
-        Err(stop) => Err(stop),
-    }
-}
-
-/// Tells what was found, seen from the primitive.
-fn told_in_attributes<'a, S: Sink>(
-    found: PositionFaults,
-    path: &mut Steps<'a>,
-    sink: &mut S,
-) -> Result<(), Stop<S::Refusal>>
-    ensures { Walked S.next S.refuses path.old (S.state sink.old)
-        (λ base. found_in_positions found ((base ++ field (codes "attributes") ∷ []) ++ key (codes "POSITION") ∷ [])) 3 result path.new (S.state sink.new) }
-{
-    if path.is_full() {
-        return Err(Stop::StepsFull);
-    }
-    path.push(Step::Field("attributes"));
-    let handed = told_at_key(found, path, sink);
-    path.pop();
-    handed
-}
-
-/// Tells what was found, seen from the attributes.
-fn told_at_key<'a, S: Sink>(
-    found: PositionFaults,
-    path: &mut Steps<'a>,
-    sink: &mut S,
-) -> Result<(), Stop<S::Refusal>>
-    ensures { Walked S.next S.refuses path.old (S.state sink.old)
-        (λ base. found_in_positions found (base ++ key (codes "POSITION") ∷ [])) 2 result path.new (S.state sink.new) }
-{
-    if path.is_full() {
-        return Err(Stop::StepsFull);
-    }
-    path.push(Step::Key("POSITION"));
-    let handed = told_here(found, path, sink);
-    path.pop();
-    handed
-}
-
-/// Tells what was found, seen from the positions.
-fn told_here<'a, S: Sink>(
-    found: PositionFaults,
-    path: &mut Steps<'a>,
-    sink: &mut S,
-) -> Result<(), Stop<S::Refusal>>
-    ensures { Walked S.next S.refuses path.old (S.state sink.old)
-        (found_in_positions found) 1 result path.new (S.state sink.new) }
-{
-    let positions = tell(path, found.positions, sink);
-    let min = told(positions, found.min, Step::Field("min"), path, sink);
-    told(min, found.max, Step::Field("max"), path, sink)
 }
 
 /// What is wrong with the positions of a primitive: `Missing` where there are none; for each bound of

@@ -2,8 +2,8 @@
 use Rattle.std.proofs.Common.{◌≡◌, ℕ, zero, suc, ◌+◌, ◌≤◌, ◌<◌, List, [], ◌∷◌, length, map, get_or, refl, subst, ap, arith}
 use Rattle.gltf_paths.specs.Steps.{item}
 use Rattle.gltf_schema.specs.Tree.{Tree, trees}
-use Rattle.gltf_plans.specs.Plan.{Plan, place, down, over, at, counts}
-use Rattle.gltf_plans.specs.Planned.{item_plans}
+use Rattle.gltf_visits.specs.Plan.{Plan, place, down, over, at, counts}
+use Rattle.gltf_visits.specs.Planned.{item_plans}
 use Rattle.gltf_plans.proofs.Past.{past}
 
 item_there : {X : Type 0} (f : Tree → Plan) (tree : X → Tree) (xs : List X) (i n : ℕ) (x : X) → n < length xs → x ≡ get_or xs n x

@@ -11,8 +11,8 @@ use Rattle.gltf_checked.specs.declared.validation.Checked.{Checked}
 use Rattle.gltf_checked.specs.declared.validation.Checked.TheVariants.{Valid, Invalid}
 use Rattle.gltf_schema.specs.Leaves.{checked_tree}
 use Rattle.gltf_faults.specs.Faults.{choice_faults, key_faults}
-use Rattle.gltf_plans.specs.Plan.{leaf}
-use Rattle.gltf_plans.specs.Planned.{leaf_of, error_of}
+use Rattle.gltf_visits.specs.Plan.{leaf}
+use Rattle.gltf_visits.specs.Planned.{leaf_of, error_of}
 
 pub found_leaf : (f : From) (e : Option Error) (s : Step) → ((base : List Step) → found_at e (base ++ s ∷ []) ≡ f base) → leaf e ≡ leaf_of f
 found_leaf f None s h = rw (sym (h [])) refl

@@ -1,30 +1,13 @@
 //! Whole documents.
 
-ghost use Rattle.std.specs.Prelude.{◌≡◌};
-ghost use Rattle.gltf_root.specs.RootTable.{root_kind};
-ghost use Rattle.gltf_root.specs.RootTrees.{root_tree};
-ghost use Rattle.gltf_root.specs.RootExtensionTable.{root_extensions_kind, lights_kind};
-ghost use Rattle.gltf_root.specs.RootExtensionTrees.{root_extensions, lights_members};
-ghost use Rattle.gltf_schema.specs.Fields.{closed_object};
-
 use crate::next::Coming;
-use crate::part::Part;
-use crate::visited::{Object, Visited};
+use crate::object::Object;
 use gltf_base::Step;
-use gltf_faults::{Against, Context};
+use gltf_faults::Against;
 use gltf_root::extensions::root as extensions;
 use gltf_root::extensions::root::KhrLightsPunctual;
 use gltf_root::root::Root;
-
-impl Visited for Root {
-    ghost kind = { root_kind };
-
-    ghost tree = { root_tree };
-
-    fn part<'a>(&'a self, _context: &Context<'_>) -> Part<'a> {
-        Part::Root(self)
-    }
-}
+use gltf_visits::Part;
 
 impl<'a, N: Coming<'a>> Object<'a, N> for Root {
     #[tactic(auto, using(crate::proofs::Past::past), unfolding(gltf_root::specs::RootTable::root_rows, gltf_animations::specs::AnimationTable::animation_rows, gltf_animations::specs::AnimationTable::animation_sampler_rows, gltf_nodes::specs::AssetTable::asset_rows, gltf_data::specs::BufferTable::buffer_rows, gltf_data::specs::ImageTable::image_rows, gltf_root::specs::RootExtensionTable::lights_rows, gltf_materials::specs::MaterialTable::material_rows, gltf_meshes::specs::MeshTable::mesh_rows, gltf_nodes::specs::SceneTable::node_rows, gltf_root::specs::RootExtensionTable::root_extension_rows, gltf_textures::specs::TextureTable::sampler_rows, gltf_nodes::specs::SceneTable::scene_rows, gltf_nodes::specs::SceneTable::skin_rows, gltf_textures::specs::TextureTable::texture_rows, gltf_data::specs::BufferTable::view_rows, gltf_root::specs::RootTrees::root_members))]
@@ -53,16 +36,6 @@ impl<'a, N: Coming<'a>> Object<'a, N> for Root {
     }
 }
 
-impl Visited for extensions::Root {
-    ghost kind = { root_extensions_kind };
-
-    ghost tree = { root_extensions };
-
-    fn part<'a>(&'a self, _context: &Context<'_>) -> Part<'a> {
-        Part::RootExtensions(self)
-    }
-}
-
 impl<'a, N: Coming<'a>> Object<'a, N> for extensions::Root {
     #[tactic(auto, using(crate::proofs::Past::past), unfolding(gltf_root::specs::RootExtensionTable::root_extension_rows, gltf_root::specs::RootExtensionTable::lights_rows, gltf_nodes::specs::LightTable::variant_rows, gltf_root::specs::RootExtensionTable::variants_rows, gltf_root::specs::RootExtensionTrees::root_extension_members))]
     fn next<C: Against>(&'a self, number: usize, context: &C) -> N {
@@ -70,16 +43,6 @@ impl<'a, N: Coming<'a>> Object<'a, N> for extensions::Root {
             0 => N::member("KHR_lights_punctual", &self.khr_lights_punctual, context),
             _ => N::done(),
         }
-    }
-}
-
-impl Visited for KhrLightsPunctual {
-    ghost kind = { lights_kind };
-
-    ghost tree = { λ v. closed_object (lights_members v) };
-
-    fn part<'a>(&'a self, _context: &Context<'_>) -> Part<'a> {
-        Part::Lights(self)
     }
 }
 

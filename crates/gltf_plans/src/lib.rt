@@ -1,5 +1,4 @@
-//! What a walk over a document goes through: the parts of the document, and what comes next in each
-//! object.
+//! What comes next in each object of a document.
 #![tactic(auto)]
 
 mod accessor;
@@ -11,12 +10,13 @@ mod light;
 mod material;
 mod mesh;
 mod next;
-mod part;
+mod normal_texture;
+mod object;
+mod occlusion_texture;
 mod scene;
 mod shading;
+mod sparse;
 mod texture;
-mod visited;
 
 pub use next::{Coming, Next};
-pub use part::Part;
-pub use visited::{Object, Visited};
+pub use object::Object;

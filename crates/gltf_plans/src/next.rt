@@ -4,15 +4,15 @@ ghost use Rattle.std.specs.Prelude.{◌≡◌};
 ghost use Rattle.gltf_paths.specs.Steps.{field, item as at_number, step_of};
 ghost use Rattle.gltf_schema.specs.Tree.{absent};
 ghost use Rattle.gltf_faults.specs.Context.{Context as Mathematical};
-ghost use Rattle.gltf_plans.specs.Parts.{move_of, plan_of, IsMore};
-ghost use Rattle.gltf_plans.specs.Plan.{Move, down, first, leaf, over};
-ghost use Rattle.gltf_plans.specs.Planned.{planned};
+ghost use Rattle.gltf_visits.specs.Parts.{plan_of};
+ghost use Rattle.gltf_visits.specs.Plan.{Move, down, first, leaf, over};
+ghost use Rattle.gltf_visits.specs.Planned.{planned};
+ghost use Rattle.gltf_plans.specs.Moves.{move_of, IsMore};
 
-use crate::part::Part;
-use crate::visited::Visited;
 use gltf_base::Step;
 use gltf_base::validation::Error;
 use gltf_faults::Against;
+use gltf_visits::{Part, Visited};
 
 /// What comes next in a part of a document.
 #[derive(Clone, Copy, Drop)]

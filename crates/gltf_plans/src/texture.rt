@@ -1,26 +1,9 @@
 //! Textures and samplers.
 
-ghost use Rattle.std.specs.Prelude.{◌≡◌};
-ghost use Rattle.gltf_textures.specs.TextureTable.{sampler_kind, texture_kind, info_kind};
-ghost use Rattle.gltf_textures.specs.TextureTrees.{sampler_members, texture_members, info_members};
-ghost use Rattle.gltf_schema.specs.Fields.{closed_object, list_tree};
-ghost use Rattle.gltf_schema.specs.Kind.{ListOf};
-
 use crate::next::Coming;
-use crate::part::Part;
-use crate::visited::{Object, Visited};
-use gltf_faults::{Against, Context, source_fault};
+use crate::object::Object;
+use gltf_faults::{Against, source_fault};
 use gltf_textures::texture::{Info, Sampler, Texture};
-
-impl Visited for Sampler {
-    ghost kind = { sampler_kind };
-
-    ghost tree = { λ v. closed_object (sampler_members v) };
-
-    fn part<'a>(&'a self, _context: &Context<'_>) -> Part<'a> {
-        Part::Sampler(self)
-    }
-}
 
 impl<'a, N: Coming<'a>> Object<'a, N> for Sampler {
     #[tactic(auto, using(crate::proofs::Past::past), unfolding(gltf_textures::specs::TextureTable::sampler_rows, gltf_textures::specs::TextureTrees::sampler_members))]
@@ -35,26 +18,6 @@ impl<'a, N: Coming<'a>> Object<'a, N> for Sampler {
     }
 }
 
-impl Visited for Vec<Sampler> {
-    ghost kind = { ListOf sampler_kind };
-
-    ghost tree = { λ v. list_tree (λ x. closed_object (sampler_members x)) v.items };
-
-    fn part<'a>(&'a self, _context: &Context<'_>) -> Part<'a> {
-        Part::Samplers(self)
-    }
-}
-
-impl Visited for Texture {
-    ghost kind = { texture_kind };
-
-    ghost tree = { λ v. closed_object (texture_members v) };
-
-    fn part<'a>(&'a self, _context: &Context<'_>) -> Part<'a> {
-        Part::Texture(self)
-    }
-}
-
 impl<'a, N: Coming<'a>> Object<'a, N> for Texture {
     #[tactic(auto, using(crate::proofs::Past::past), unfolding(gltf_textures::specs::TextureTable::texture_rows, gltf_textures::specs::TextureTrees::texture_members))]
     fn next<C: Against>(&'a self, number: usize, context: &C) -> N {
@@ -63,26 +26,6 @@ impl<'a, N: Coming<'a>> Object<'a, N> for Texture {
             1 => N::found("source", source_fault(self, &context.context())),
             _ => N::done(),
         }
-    }
-}
-
-impl Visited for Vec<Texture> {
-    ghost kind = { ListOf texture_kind };
-
-    ghost tree = { λ v. list_tree (λ x. closed_object (texture_members x)) v.items };
-
-    fn part<'a>(&'a self, _context: &Context<'_>) -> Part<'a> {
-        Part::Textures(self)
-    }
-}
-
-impl Visited for Info {
-    ghost kind = { info_kind };
-
-    ghost tree = { λ v. closed_object (info_members v) };
-
-    fn part<'a>(&'a self, _context: &Context<'_>) -> Part<'a> {
-        Part::Info(self)
     }
 }
 

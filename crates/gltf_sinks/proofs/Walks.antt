@@ -75,11 +75,6 @@ module _ {S R : Type 0} (next : S → List Step → Error → S) (refuses : S �
 -- ---- walks
 
 module _ {S R : Type 0} {next : S → List Step → Error → S} {refuses : S → List Step → Error → R → S → Type 0} where
-  -- a walk over nothing
-  pub went_nowhere : (r : Result (Unit {0}) (Stop R)) (p : ArrayVec Borrowed) (s : S) (n : ℕ) → WentOn next refuses r p s (λ _. []) n r p s
-  went_nowhere (Ok _) p s n = record { same = refl; handed = refl }
-  went_nowhere (Err stop) p s n = record { same = refl; handed = (refl, refl) }
-
   -- a report that was refused
   pub walked_refused : (p : ArrayVec Borrowed) (s t : S) (error : Error) (n : ℕ) (r : R)
       → refuses s (steps_of p) error r t → Walked next refuses p s (found_at (Some error)) n (Err (Sink r)) p t
@@ -107,8 +102,3 @@ module _ {S R : Type 0} {next : S → List Step → Error → S} {refuses : S �
       → n ≤ m → WentOn next refuses b p s f n r q t → WentOn next refuses b p s f m r q t
   went_wider {b} {r} {p} {q} {s} {t} {f} {n} {m} l h =
       record { same = h.same; handed = handed_after-wider next refuses b s t (f (steps_of p)) (length (steps_of p) + n) (length (steps_of p) + m) r (omega arith) h.handed }
-
-  -- past what cannot be wrong
-  pub went_past : {b r : Result (Unit {0}) (Stop R)} {p q : ArrayVec Borrowed} {s t : S} {f g : From} {n : ℕ}
-      → ((base : List Step) → g base ≡ []) → WentOn next refuses b p s f n r q t → WentOn next refuses b p s (λ base. g base ++ f base) n r q t
-  went_past {f = f} {g = g} e h = went_same (λ base. ap (λ rs. rs ++ f base) (e base)) h

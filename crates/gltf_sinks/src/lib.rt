@@ -7,5 +7,5 @@ pub mod laws;
 mod sink;
 
 pub use collect::Collect;
-pub use found::{also_told, tell, told};
+pub use found::tell;
 pub use sink::{Count, Sink, Stop};

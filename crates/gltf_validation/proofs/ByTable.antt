@@ -4,14 +4,14 @@ use Rattle.gltf_checked.specs.Spelling.{Spelling}
 use Rattle.gltf_paths.specs.Steps.{Step, item}
 use Rattle.gltf_checked.specs.declared.validation.Checked.{Checked}
 use Rattle.gltf_checked.specs.declared.validation.Checked.TheVariants.{Valid, Invalid}
-use Rattle.gltf_schema.specs.Tree.{Tree, absent, trees, list, tree_or_absent}
+use Rattle.gltf_schema.specs.Tree.{Tree, absent, trees, list}
 use Rattle.gltf_schema.specs.Kind.{Kind}
 use Rattle.gltf_schema.specs.Leaves.{checked_tree}
 use Rattle.gltf_sinks.specs.Report.{From, each_at}
 use Rattle.gltf_faults.specs.Context.{Context}
 use Rattle.gltf_faults.specs.Faults.{choice_faults, items_reports}
 use Rattle.gltf_faults.specs.Reports.{reports}
-use Rattle.gltf_validation.specs.ByType.{reports_by, reports_in, checked_reports, option_reports, list_reports, list_kind}
+use Rattle.gltf_validation.specs.ByType.{reports_by, reports_in, checked_reports, list_reports, list_kind}
 
 -- each item by itself
 pub items-each : {X : Type 0} (kind : Kind) (tree : X → Tree) (context : Context) (animation : Tree) (i : ℕ) (xs : List X) (base : List Step)
@@ -30,8 +30,3 @@ list-each (Some kind) tree own context xs base = items-each kind tree context ab
 pub choice-checked : {X : Type 0} (spell : X → Spelling) (context : Context) (x : Checked X) (base : List Step) → choice_faults (checked_tree spell x) base ≡ checked_reports x context base
 choice-checked spell context (Valid x) base = refl
 choice-checked spell context Invalid base = refl
-
-pub choice-optional : {X : Type 0} (spell : X → Spelling) (context : Context) (x : Option (Checked X)) (base : List Step)
-    → choice_faults (tree_or_absent (checked_tree spell) x) base ≡ option_reports checked_reports x context base
-choice-optional spell context None base = refl
-choice-optional spell context (Some x) base = choice-checked spell context x base

@@ -14,27 +14,10 @@ use gltf_faults::Rules;
 use gltf_root::root::Root;
 use gltf_sinks::{Sink, Stop};
 
-mod accessor;
-mod animation;
-mod buffer;
-mod camera;
-mod channels;
+mod choices;
 mod composed;
-mod document;
-mod image;
-mod leaves;
-mod light;
 mod maps;
-mod material;
-mod members;
-mod mesh;
-mod normal_texture;
-mod occlusion_texture;
-mod scene;
-mod shading;
-mod silent;
-mod sparse;
-mod texture;
+mod table;
 mod within;
 
 /// What can be validated.

@@ -4,3 +4,4 @@ pub mod Stacks
 pub mod Begun
 pub mod Moves
 pub mod AttributesBehind
+pub mod DocumentHeight

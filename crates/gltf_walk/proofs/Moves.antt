@@ -1,17 +1,17 @@
 -- What a move does to the frames of a walk.
-use Rattle.std.proofs.Common.{◌≡◌, ℕ, suc, ◌+◌, ◌-◌, ◌≤◌, List, [], ◌∷◌, ◌++◌, length, map, Option, None, Bor, refl, sym, ◌∙◌, ap, subst, arith, length-append}
+use Rattle.std.proofs.Common.{◌≡◌, ℕ, suc, ◌+◌, ◌-◌, ◌≤◌, List, [], ◌∷◌, ◌++◌, length, map, Option, None, Bor, refl, sym, ◌∙◌, ap, arith, length-append}
 use Rattle.std.proofs.lemmas.List.{map-append, length-map}
 use Rattle.std.specs.Option.{option_to_list}
 use Rattle.gltf_paths.specs.Steps.{Step, step_of}
 use Rattle.gltf_paths.specs.declared.path.Step.{Step as Borrowed}
 use Rattle.gltf_faults.specs.Context.{Context}
-use Rattle.gltf_plans.specs.Parts.{plan_of}
+use Rattle.gltf_visits.specs.Parts.{plan_of}
 use Rattle.gltf_walk.specs.Left.{part_left, plan_left, plans_left, IsNumbered}
-use Rattle.gltf_plans.specs.Plan.{Plan, place, nothing, below, told, down, over, at, left, first, weight, height}
+use Rattle.gltf_visits.specs.Plan.{Plan, place, nothing, below, told, down, over, at, left, first, weight, height}
 use Rattle.gltf_walk.specs.Stacks.{reach, to_come_of, weight_of}
 use Rattle.gltf_walk.specs.declared.frame.Frame.{Frame}
-use Rattle.gltf_plans.specs.declared.part.Part.{Part}
-use Rattle.gltf_plans.specs.declared.part.Part.TheVariants as part
+use Rattle.gltf_visits.specs.declared.part.Part.{Part}
+use Rattle.gltf_visits.specs.declared.part.Part.TheVariants as part
 use Rattle.gltf_checked.specs.declared.mesh.Semantic.{Semantic}
 use Rattle.gltf_checked.specs.declared.validation.Checked.{Checked}
 use Rattle.gltf_walk.proofs.Stacks.{rest, left_further, told_by, height_by, height_move, reach_last, weight_last, moved, entered, left_behind}
@@ -65,19 +65,26 @@ over_tells (place nothing []) base e = refl
 pub plans_last : (context : Context) (fs gs : List Frame) (f : Frame) → fs ≡ gs ++ f ∷ [] → plans_left context fs ≡ plans_left context gs ++ plan_left context f ∷ []
 plans_last context fs gs f e = ap (plans_left context) e ∙ map-append (plan_left context) gs (f ∷ [])
 
-pub popped_fits : (context : Context) (fs gs : List Frame) (f : Frame) → fs ≡ gs ++ f ∷ [] → reach 0 (plans_left context fs) ≤ 10
-    → (reach 0 (plans_left context gs) ≤ 10) × (length gs + height (plan_left context f) ≤ 10)
-popped_fits context fs gs f e h =
-    let whole : reach 0 (plans_left context gs ++ plan_left context f ∷ []) ≤ 10 = subst (λ ps. reach 0 ps ≤ 10) (plans_last context fs gs f e) h in
+pub popped_fits : (context : Context) (fs gs : List Frame) (f : Frame) → fs ≡ gs ++ f ∷ []
+    → (reach 0 (plans_left context gs) ≤ reach 0 (plans_left context fs)) × (length gs + height (plan_left context f) ≤ reach 0 (plans_left context fs))
+popped_fits context fs gs f e =
+    let whole = ap (reach 0) (plans_last context fs gs f e) in
     let here = reach_last 0 (plans_left context gs) (plan_left context f) in
     (omega (arith, whole, here), omega (arith, whole, here, length-map gs (plan_left context)))
 
-pub pushed_fits : (context : Context) (fs gs : List Frame) (f : Frame) → fs ≡ gs ++ f ∷ [] → reach 0 (plans_left context gs) ≤ 10 → length gs + height (plan_left context f) ≤ 10
-    → reach 0 (plans_left context fs) ≤ 10
-pushed_fits context fs gs f e h l =
+pub pushed_fits : (context : Context) (fs gs : List Frame) (f : Frame) (n : ℕ) → fs ≡ gs ++ f ∷ [] → reach 0 (plans_left context gs) ≤ n → length gs + height (plan_left context f) ≤ n
+    → reach 0 (plans_left context fs) ≤ n
+pushed_fits context fs gs f n e h l =
+    let whole = ap (reach 0) (plans_last context fs gs f e) in
     let here = reach_last 0 (plans_left context gs) (plan_left context f) in
-    let whole : reach 0 (plans_left context gs ++ plan_left context f ∷ []) ≤ 10 = omega (arith, h, l, here, length-map gs (plan_left context)) in
-    subst (λ ps. reach 0 ps ≤ 10) (sym (plans_last context fs gs f e)) whole
+    omega (arith, h, l, whole, here, length-map gs (plan_left context))
+
+-- a part stays where it was, with less of it left
+pub moved_fits : (context : Context) (fs gs hs : List Frame) (f g : Frame) → fs ≡ gs ++ f ∷ [] → hs ≡ gs ++ g ∷ [] → plan_left context g ≡ rest (plan_left context f)
+    → reach 0 (plans_left context hs) ≤ reach 0 (plans_left context fs)
+moved_fits context fs gs hs f g e d n =
+    let low = popped_fits context fs gs f e in
+    pushed_fits context hs gs g (reach 0 (plans_left context fs)) d low.0 (omega (arith, low.1, ap height n, rest_height (plan_left context f)))
 
 pub frames_weight : (context : Context) (fs gs : List Frame) (f : Frame) → fs ≡ gs ++ f ∷ [] → weight_of (plans_left context fs) ≡ weight_of (plans_left context gs) + weight (plan_left context f)
 frames_weight context fs gs f e = ap weight_of (plans_last context fs gs f e) ∙ weight_last (plans_left context gs) (plan_left context f)

@@ -1,50 +1,17 @@
--- No plan of a document is higher than ten steps.
-use Rattle.std.proofs.Common.{◌≡◌, ◌≤◌, ℕ, suc, max, List, [], ◌∷◌, Bool, true, false, refl, arith}
+-- No plan of a tree is higher than its kind.
+use Rattle.std.proofs.Common.{◌≤◌, ℕ, suc, max, cond, List, [], ◌∷◌, Bool, true, false, arith}
 use Rattle.gltf_checked.specs.Keys.{Key}
 use Rattle.gltf_schema.specs.Tree as tree
 use Rattle.gltf_schema.specs.Tree.{Tree, absent, Trees, end, with_tree, items_in, members_in, entries_in}
 use Rattle.gltf_schema.specs.Kind.{Kind, Attributes, ListOf, Object, ObjectName, Rows, no_rows, row}
-use Rattle.gltf_data.specs.AccessorTable.{sparse_indices_rows, sparse_values_rows, sparse_rows, accessor_rows}
-use Rattle.gltf_data.specs.BufferTable.{buffer_rows, view_rows}
-use Rattle.gltf_data.specs.ImageTable.{image_rows}
-use Rattle.gltf_textures.specs.TextureTable.{sampler_rows, texture_rows, texture_transform_rows, info_extension_rows, info_rows}
-use Rattle.gltf_shading.specs.MaterialExtensionTable.{pbr_specular_glossiness_rows, transmission_rows, volume_rows, specular_rows, ior_rows, emissive_strength_rows, material_extension_rows}
-use Rattle.gltf_materials.specs.MaterialTable.{pbr_metallic_roughness_rows, normal_texture_rows, occlusion_texture_rows, material_rows}
-use Rattle.gltf_meshes.specs.MeshTable.{variant_mapping_rows, variant_mappings_rows, primitive_extension_rows, morph_target_rows, primitive_rows, mesh_rows}
-use Rattle.gltf_nodes.specs.AssetTable.{asset_rows}
-use Rattle.gltf_nodes.specs.CameraTable.{orthographic_rows, perspective_rows, camera_rows}
-use Rattle.gltf_nodes.specs.LightTable.{light_of_node_rows, spot_rows, light_rows, variant_rows}
-use Rattle.gltf_nodes.specs.SceneTable.{node_extension_rows, node_rows, scene_rows, skin_rows}
-use Rattle.gltf_animations.specs.AnimationTable.{animation_sampler_rows, animation_target_rows, animation_channel_rows, animation_rows}
-use Rattle.gltf_root.specs.RootExtensionTable.{lights_rows, variants_rows, root_extension_rows}
-use Rattle.gltf_root.specs.RootTable.{root_rows, root_kind}
 use Rattle.gltf_faults.specs.Context.{Context}
 use Rattle.gltf_faults.specs.Reports.{animation_below}
 use Rattle.gltf_faults.specs.Silence.{is_silent}
 use Rattle.gltf_faults.specs.Rules.{root_extensions_required}
 use Rattle.gltf_root.specs.Lists.{count_in}
-use Rattle.gltf_plans.specs.Plan.{Plan, Plans, nothing, below, also, height, heights}
-use Rattle.gltf_plans.specs.Planned.{entry_plans, item_plans, name_plan, rule_plans, unless_silent, planned, member_plans}
-
--- the steps from an object to what its rule speaks of
-abbrev rule_height : ObjectName → ℕ
-rule_height ObjectName.accessor = 1
-rule_height ObjectName.light = 1
-rule_height ObjectName.primitive = 3
-rule_height ObjectName.root = 3
-rule_height _ = 0
-
-abbrev mutual
-  -- the steps to what stands deepest in a tree of a kind
-  kind_height : Kind → ℕ
-  kind_height (Attributes named) = 1
-  kind_height (ListOf kind) = suc (kind_height kind)
-  kind_height (Object named rows keeps) = max (rows_height rows) (rule_height named)
-  kind_height _ = 0
-
-  rows_height : Rows → ℕ
-  rows_height no_rows = 0
-  rows_height (row n mark kind rows) = max (suc (kind_height kind)) (rows_height rows)
+use Rattle.gltf_visits.specs.Height.{rule_height, kind_height, rows_height}
+use Rattle.gltf_visits.specs.Plan.{Plan, Plans, nothing, below, also, height, heights}
+use Rattle.gltf_visits.specs.Planned.{entry_plans, item_plans, name_plan, rule_plans, unless_silent, planned, member_plans}
 
 -- ---- parts of plans
 
@@ -80,12 +47,12 @@ rules_height named t context = omega arith
 
 -- a row, whether the plan passes it over or not
 row_height : (is_over : Bool) (n : List ℕ) (p : Plan) (ps : Plans) (k m : ℕ) → height p ≤ k → heights ps ≤ m
-    → heights (unless_silent is_over n p ps) ≤ max (suc k) m
+    → heights (unless_silent is_over n p ps) ≤ max (cond is_over 0 (suc k)) m
 row_height true n p ps k m here rest = omega (arith, rest)
 row_height false n p ps k m here rest = omega (arith, here, rest)
 
 mutual
-  bounded : (kind : Kind) (t : Tree) (context : Context) (animation : Tree) → height (planned kind t context animation) ≤ kind_height kind
+  pub bounded : (kind : Kind) (t : Tree) (context : Context) (animation : Tree) → height (planned kind t context animation) ≤ kind_height kind
   bounded (Attributes named) t context animation = entries_height (count_in named context.root) (entries_in t)
   bounded (ListOf kind) t context animation =
       items_height (λ x. planned kind x context animation) (kind_height kind) (λ x. bounded kind x context animation) 0 (items_in t)
@@ -103,19 +70,3 @@ mutual
   rows_bounded (with_tree t ts) (row n mark kind rows) context animation =
       row_height (is_silent kind) n (planned kind t context animation) (member_plans ts rows context animation) (kind_height kind) (rows_height rows)
       (bounded kind t context animation) (rows_bounded ts rows context animation)
-
--- ---- documents
-
--- deepest stand the variants of a primitive's mappings, in which nothing can be wrong
-document_height : kind_height root_kind ≡ 10
-unfolding root_rows root_extension_rows lights_rows variants_rows light_rows variant_rows spot_rows light_of_node_rows
-    accessor_rows sparse_rows sparse_indices_rows sparse_values_rows buffer_rows view_rows image_rows sampler_rows texture_rows info_rows info_extension_rows
-    texture_transform_rows material_rows pbr_metallic_roughness_rows normal_texture_rows occlusion_texture_rows material_extension_rows
-    pbr_specular_glossiness_rows transmission_rows volume_rows specular_rows ior_rows emissive_strength_rows mesh_rows primitive_rows primitive_extension_rows
-    variant_mappings_rows variant_mapping_rows morph_target_rows asset_rows camera_rows orthographic_rows perspective_rows node_rows node_extension_rows
-    scene_rows skin_rows animation_rows animation_channel_rows animation_sampler_rows animation_target_rows
-document_height = refl
-
--- any tree, walked as a document
-pub planned_height : (t : Tree) (context : Context) → height (planned root_kind t context absent) ≤ 10
-planned_height t context = let low = bounded root_kind t context absent in omega (arith, low, document_height)

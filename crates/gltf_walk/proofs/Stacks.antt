@@ -4,7 +4,7 @@ use Rattle.std.proofs.lemmas.List.{take-append-le}
 use Rattle.gltf_paths.specs.Steps.{Step}
 use Rattle.gltf_paths.specs.declared.validation.Error.{Error}
 use Rattle.gltf_sinks.specs.Report.{From, report}
-use Rattle.gltf_plans.specs.Plan.{Plan, place, Plans, nothing, below, told, told_below, told_here, Move, down, fault, over, left, left_below, first, weight, height}
+use Rattle.gltf_visits.specs.Plan.{Plan, place, Plans, nothing, below, told, told_below, told_here, Move, down, fault, over, left, left_below, first, weight, height}
 use Rattle.gltf_walk.specs.Stacks.{to_come_from, to_come_of, reach, weight_of}
 
 -- ---- a move of a plan

@@ -13,11 +13,11 @@ use Rattle.gltf_paths.specs.Lists.{ListName}
 use Rattle.gltf_schema.specs.Fields.{entry_of}
 use Rattle.gltf_root.specs.Lists.{count_in}
 use Rattle.gltf_faults.specs.Context.{Context}
-use Rattle.gltf_plans.specs.Parts.{plan_of}
-use Rattle.gltf_plans.specs.Plan.{Plan, place, left}
-use Rattle.gltf_plans.specs.Planned.{entry_plans}
-use Rattle.gltf_plans.specs.declared.part.Part.{Part}
-use Rattle.gltf_plans.specs.declared.part.Part.TheVariants as part
+use Rattle.gltf_visits.specs.Parts.{plan_of}
+use Rattle.gltf_visits.specs.Plan.{Plan, place, left}
+use Rattle.gltf_visits.specs.Planned.{entry_plans}
+use Rattle.gltf_visits.specs.declared.part.Part.{Part}
+use Rattle.gltf_visits.specs.declared.part.Part.TheVariants as part
 use Rattle.gltf_walk.specs.declared.frame.Frame.{Frame}
 
 -- ---- attributes, which are gone through by their keys

@@ -2,7 +2,7 @@
 use Rattle.std.specs.Prelude.{ℕ, suc, ◌+◌, ◌-◌, List, [], ◌∷◌, ◌++◌, length, take, max}
 use Rattle.gltf_paths.specs.Steps.{Step}
 use Rattle.gltf_sinks.specs.Report.{Report}
-use Rattle.gltf_plans.specs.Plan.{Plan, told, weight, height}
+use Rattle.gltf_visits.specs.Plan.{Plan, told, weight, height}
 
 -- what plans one below the other report, the last first; each stands one step further than the one before it, and the first
 -- at so many of the steps

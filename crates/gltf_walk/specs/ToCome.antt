@@ -6,7 +6,7 @@ use Rattle.gltf_root.specs.RootTrees.{root_tree}
 use Rattle.gltf_sinks.specs.Report.{Report, report}
 use Rattle.gltf_faults.specs.Context.{Context, rules_of, under}
 use Rattle.gltf_walk.specs.Left.{plans_left}
-use Rattle.gltf_walk.specs.Stacks.{to_come_of}
+use Rattle.gltf_walk.specs.Stacks.{reach, to_come_of}
 use Rattle.gltf_walk.specs.declared.state.Descent.{Descent}
 use Rattle.gltf_walk.specs.declared.state.Walk.{Walk}
 
@@ -19,6 +19,10 @@ context_in d = under (rules_of d.rules) (root_tree d.root.now)
 -- the steps from which it began
 abbrev pub base_count : Descent → ℕ
 base_count d = length d.steps.items - (length d.frames.items - 1)
+
+-- the steps from there to the deepest place that it has still to come to
+abbrev pub depth_of_descent : Descent → ℕ
+depth_of_descent d = reach 0 (plans_left (context_in d) d.frames.items)
 
 abbrev pub path_of_descent : Descent → List Step
 path_of_descent d = steps_of d.steps

@@ -2,7 +2,7 @@
 
 use gltf_base::mesh::Semantic;
 use gltf_base::validation::Checked;
-use gltf_plans::Part;
+use gltf_visits::Part;
 
 /// A part, and where the walk stands in it: in attributes behind a key, in any other part at a number.
 #[derive(Clone, Copy, Drop)]

@@ -2,8 +2,9 @@
 
 ghost use Rattle.std.specs.Prelude.{◌≡◌, ◌+◌, ◌<◌, ◌^◌};
 ghost use Rattle.gltf_faults.specs.Context.{context_of};
-ghost use Rattle.gltf_plans.specs.Parts.{move_of, plan_of, IsMore};
-ghost use Rattle.gltf_plans.specs.Plan.{at, first, left};
+ghost use Rattle.gltf_visits.specs.Parts.{plan_of};
+ghost use Rattle.gltf_plans.specs.Moves.{move_of, IsMore};
+ghost use Rattle.gltf_visits.specs.Plan.{at, first, left};
 ghost use Rattle.gltf_walk.specs.Left.{plan_left, IsNumbered};
 
 use crate::frame::Frame;
@@ -12,7 +13,8 @@ use crate::lists::{
     item_at, leaf_at, next_attribute,
 };
 use gltf_faults::{Against, Context};
-use gltf_plans::{Coming, Next, Object, Part};
+use gltf_plans::{Coming, Next, Object};
+use gltf_visits::Part;
 
 /// What comes next in a frame, which stands behind it then.
 pub(crate) fn next_in<'a>(frame: &mut Frame<'a>, context: &Context<'_>) -> Next<'a>

@@ -8,9 +8,10 @@ ghost use Rattle.gltf_schema.specs.Fields.{closed_object, list_tree, text_tree};
 ghost use Rattle.gltf_schema.specs.Kind.{ListOf};
 ghost use Rattle.gltf_schema.specs.Tree.{absent, items_in};
 ghost use Rattle.gltf_faults.specs.Context.{context_of};
-ghost use Rattle.gltf_plans.specs.Parts.{found_plan, move_of, IsMore};
-ghost use Rattle.gltf_plans.specs.Plan.{at, first, leaf, left, place};
-ghost use Rattle.gltf_plans.specs.Planned.{at_positions, entry_plan, item_plans, name_plan, planned};
+ghost use Rattle.gltf_visits.specs.Parts.{found_plan};
+ghost use Rattle.gltf_plans.specs.Moves.{move_of, IsMore};
+ghost use Rattle.gltf_visits.specs.Plan.{at, first, leaf, left, place};
+ghost use Rattle.gltf_visits.specs.Planned.{at_positions, entry_plan, item_plans, name_plan, planned};
 ghost use Rattle.gltf_walk.specs.Left.{attributes_left, IsFirstBehind};
 
 use gltf_animations::animation::{Animation, Channel};
@@ -21,7 +22,8 @@ use gltf_data::accessor::Accessor;
 use gltf_faults::{
     Against, Context, PositionFaults, choice_fault, extension_fault, index_fault, sampler_fault,
 };
-use gltf_plans::{Coming, Next, Part, Visited};
+use gltf_plans::{Coming, Next};
+use gltf_visits::{Part, Visited};
 use std::collections::BTreeMap;
 use std::ops::Bound;
 

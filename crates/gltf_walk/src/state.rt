@@ -12,7 +12,7 @@ use gltf_base::Steps;
 use gltf_faults::Rules;
 use gltf_root::root::Root;
 
-/// A walk over a document from any place, by any rules, against the document itself or another.
+/// A walk over a value from any place, by any rules, against a document.
 #[derive(Drop)]
 pub struct Descent<'a> {
     pub(crate) rules: Rules<'a>,

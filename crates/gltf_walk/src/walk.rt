@@ -1,14 +1,14 @@
 //! The walk.
 
-ghost use Rattle.std.specs.Prelude.{◌≡◌, ◌<◌, ◌+◌, [], length, IfOk, None, OnErr, false};
+ghost use Rattle.std.specs.Prelude.{◌≡◌, ◌<◌, ◌≤◌, ◌+◌, [], length, IfOk, None, OnErr, false};
 ghost use Rattle.gltf_paths.specs.Steps.{steps_of};
-ghost use Rattle.gltf_root.specs.RootTable.{root_kind};
 ghost use Rattle.gltf_root.specs.RootTrees.{root_tree};
 ghost use Rattle.gltf_faults.specs.Context.{rules_of, standard_rules};
 ghost use Rattle.gltf_faults.specs.Reports.{document_reports, reports_by_rules};
-ghost use Rattle.gltf_plans.specs.Parts.{plan_of};
-ghost use Rattle.gltf_plans.specs.Plan.{leaf};
-ghost use Rattle.gltf_walk.specs.ToCome.{base_count, left_of_descent, path_of_descent, to_come, path_of, IsNext, IsNextOf};
+ghost use Rattle.gltf_visits.specs.Parts.{plan_of};
+ghost use Rattle.gltf_visits.specs.Height.{kind_height};
+ghost use Rattle.gltf_visits.specs.Plan.{leaf};
+ghost use Rattle.gltf_walk.specs.ToCome.{base_count, depth_of_descent, left_of_descent, path_of_descent, to_come, path_of, IsNext, IsNextOf};
 
 use crate::frame::Frame;
 use crate::frames::next_in;
@@ -17,29 +17,36 @@ use arrayvec::ArrayVec;
 use gltf_base::Steps;
 use gltf_base::validation::Error;
 use gltf_faults::{Context, Rules};
-use gltf_plans::{Next, Part};
+use gltf_plans::Next;
 use gltf_root::root::Root;
+use gltf_visits::{Part, Visited};
 
 /// A path that has no room for one more step.
 #[derive(Clone, Copy, Debug, Drop, PartialEq, Eq)]
 pub struct StepsFull;
 
 impl<'a> Descent<'a> {
-    /// A walk over `document` by `rules` that looks its indexes up in `root`; each of its paths begins
+    /// A walk over `value` by `rules` that looks its indexes up in `root`; each of its paths begins
     /// with the steps of `base`.
-    pub fn new(
+    pub fn new<T: Visited>(
         rules: Rules<'a>,
-        document: &'a Root,
+        value: &'a T,
         root: &'a Root,
         base: &Steps<'a>,
     ) -> Descent<'a>
-        ensures reports { left_of_descent result ≡ reports_by_rules (rules_of rules.entry) root_kind (root_tree document.now) (root_tree root.now) (steps_of base.now) }
+        requires { kind_height T.kind ≤ 10 }
+        ensures reports { left_of_descent result ≡ reports_by_rules (rules_of rules.entry) T.kind (T.tree value.now) (root_tree root.now) (steps_of base.now) }
         ensures base { base_count result ≡ length (steps_of base.now) }
         ensures path { path_of_descent result ≡ steps_of base.now }
+        ensures depth { depth_of_descent result ≤ kind_height T.kind }
     {
+        let part = value.part(&Context {
+            rules: &rules,
+            root,
+        });
         let mut frames = ArrayVec::new();
         frames.push(Frame {
-            part: Part::Root(document),
+            part,
             number: 0,
             behind: None,
         });
@@ -52,10 +59,11 @@ impl<'a> Descent<'a> {
     }
 
     /// The error of the next report, whose path is then in `steps`; `None` where there is none left.
-    /// `StepsFull` comes only where the first steps and the ten below a document are more than 16.
+    /// `StepsFull` comes only where the first steps and those below the value are more than 16.
     pub fn next_report(&mut self) -> Result<Option<Error>, StepsFull>
         ensures next { IfOk result (λ error. IsNextOf self.old error self.new) }
-        ensures full { OnErr result (16 < base_count self.old + 10) }
+        ensures depth { depth_of_descent self.new ≤ depth_of_descent self.old }
+        ensures full { OnErr result (16 < base_count self.old + depth_of_descent self.old) }
     {
         while let Some(mut frame) = self.frames.pop() {
             let context = Context {

@@ -1,7 +1,7 @@
 //! What stands one step further.
 
 ghost use Rattle.std.specs.Prelude.{◌≡◌, ◌+◌, ◌++◌, ◌∷◌, []};
-ghost use Rattle.gltf_paths.specs.Steps.{step_of, field};
+ghost use Rattle.gltf_paths.specs.Steps.{step_of};
 ghost use Rattle.gltf_sinks.specs.Handed.{Walked, WentOn};
 ghost use Rattle.gltf_validation.specs.ByType.{reports_by};
 
@@ -49,20 +49,4 @@ pub(crate) fn also_within<'a, T: Validate, C: Against, S: Sink>(
         Ok(()) => within(value, step, context, path, sink),
         Err(stop) => Err(stop),
     }
-}
-
-/// Goes on with a member, where nothing stopped the walk before.
-pub(crate) fn member<'a, T: Validate, C: Against, S: Sink>(
-    before: Result<(), Stop<S::Refusal>>,
-    value: &'a T,
-    name: &'static str,
-    context: &C,
-    path: &mut Steps<'a>,
-    sink: &mut S,
-) -> Result<(), Stop<S::Refusal>>
-    ensures { WentOn S.next S.refuses before path.old (S.state sink.old)
-        (λ base. reports_by T.kind (T.tree value.now) (T.own value.now) (C.context context.now) (base ++ field name.now ∷ []))
-        (T.depth + 1) result path.new (S.state sink.new) }
-{
-    also_within(before, value, Step::Field(name), context, path, sink)
 }

@@ -3,7 +3,7 @@ use Rattle.std.proofs.Common.{rules, ◌∙◌}
 use Rattle.gltf_animations.specs.AnimationTable.{animation_channel_kind}
 use Rattle.gltf_animations.specs.AnimationTrees.{animation_channel_members, animation_members}
 use Rattle.gltf_schema.specs.Fields.{closed_object}
-use Rattle.gltf_plans.specs.Planned.{planned}
+use Rattle.gltf_visits.specs.Planned.{planned}
 use Rattle.gltf_plans.proofs.Items.{item_comes, items_end}
 use Rattle.gltf_walk.proofs.lists.channel_at.Goals as goal
 

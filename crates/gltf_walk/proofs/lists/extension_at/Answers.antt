@@ -1,7 +1,7 @@
 -- The name at the number, or none past the last.
 use Rattle.std.proofs.Common.{rules, ◌∙◌}
 use Rattle.gltf_schema.specs.Fields.{text_tree}
-use Rattle.gltf_plans.specs.Planned.{name_plan}
+use Rattle.gltf_visits.specs.Planned.{name_plan}
 use Rattle.gltf_plans.proofs.Items.{item_comes, items_end}
 use Rattle.gltf_walk.proofs.lists.extension_at.Goals as goal
 

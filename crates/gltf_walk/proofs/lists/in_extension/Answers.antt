@@ -4,8 +4,8 @@ use Rattle.gltf_paths.specs.Steps.{value}
 use Rattle.gltf_schema.specs.Tree.{text}
 use Rattle.gltf_faults.specs.Context.{Context, context_of}
 use Rattle.gltf_faults.specs.Rules.{extension_faults}
-use Rattle.gltf_plans.specs.Plan.{Plan, down}
-use Rattle.gltf_plans.specs.Planned.{leaf_of}
+use Rattle.gltf_visits.specs.Plan.{Plan, down}
+use Rattle.gltf_visits.specs.Planned.{leaf_of}
 use Rattle.gltf_plans.proofs.Leaves.{found_leaf}
 use Rattle.gltf_walk.proofs.lists.in_extension.Goals as goal
 

@@ -1,7 +1,7 @@
 -- The item at the number, or none past the last.
 use Rattle.std.proofs.Common.{rules, ◌∙◌}
 use Rattle.gltf_schema.specs.Tree.{absent}
-use Rattle.gltf_plans.specs.Planned.{planned}
+use Rattle.gltf_visits.specs.Planned.{planned}
 use Rattle.gltf_plans.proofs.Items.{item_comes, items_end}
 use Rattle.gltf_walk.proofs.lists.item_at.Goals as goal
 

@@ -4,7 +4,7 @@ use Rattle.gltf_data.specs.AccessorTable.{accessor_rows, sparse_rows, sparse_ind
 use Rattle.gltf_data.specs.AccessorTrees.{accessor_members}
 use Rattle.gltf_paths.specs.Steps.{field}
 use Rattle.gltf_faults.specs.Rules.{accessor_rule}
-use Rattle.gltf_plans.specs.Plan.{down}
+use Rattle.gltf_visits.specs.Plan.{down}
 use Rattle.gltf_plans.proofs.Leaves.{found_leaf}
 use Rattle.gltf_plans.proofs.accessor.AccessorObject.next.Goals as goal
 

@@ -5,8 +5,8 @@ use Rattle.gltf_animations.specs.AnimationTrees.{animation_members, animation_sa
 use Rattle.gltf_paths.specs.Steps.{field}
 use Rattle.gltf_schema.specs.Fields.{closed_object}
 use Rattle.gltf_schema.specs.Tree.{absent}
-use Rattle.gltf_plans.specs.Plan.{place, down}
-use Rattle.gltf_plans.specs.Planned.{planned}
+use Rattle.gltf_visits.specs.Plan.{place, down}
+use Rattle.gltf_visits.specs.Planned.{planned}
 use Rattle.gltf_plans.proofs.Items.{items_same}
 use Rattle.gltf_plans.proofs.animation.AnimationObject.next.Goals as goal
 

@@ -4,7 +4,7 @@ use Rattle.gltf_nodes.specs.LightTable.{light_rows, spot_rows}
 use Rattle.gltf_nodes.specs.LightTrees.{light_members}
 use Rattle.gltf_paths.specs.Steps.{field}
 use Rattle.gltf_faults.specs.Rules.{light_rule}
-use Rattle.gltf_plans.specs.Plan.{down}
+use Rattle.gltf_visits.specs.Plan.{down}
 use Rattle.gltf_plans.proofs.Leaves.{found_leaf}
 use Rattle.gltf_plans.proofs.light.LightObject.next.Goals as goal
 

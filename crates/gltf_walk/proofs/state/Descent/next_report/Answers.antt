@@ -2,13 +2,13 @@
 use Rattle.std.proofs.Common.{arith, None, rules, ap, sym, ◌∙◌, ◌++◌, length, map, ◌≡◌, ◌-◌}
 use Rattle.std.proofs.lemmas.List.{length-take}
 use Rattle.gltf_paths.specs.Steps.{step_of}
-use Rattle.gltf_plans.specs.Parts.{plan_of}
+use Rattle.gltf_visits.specs.Parts.{plan_of}
 use Rattle.gltf_walk.specs.Left.{plan_left, plans_left}
-use Rattle.gltf_plans.specs.Plan.{height, leaf, weight}
+use Rattle.gltf_visits.specs.Plan.{height, leaf, weight}
 use Rattle.gltf_walk.specs.Stacks.{to_come_of}
 use Rattle.gltf_walk.specs.ToCome.{context_in}
 use Rattle.gltf_walk.proofs.Stacks.{told_by, weight_by, weight_move, weight_least}
-use Rattle.gltf_walk.proofs.Moves.{left_one, begun_left, rest_height, down_height, popped_fits, pushed_fits, frames_weight, frames_length, over_goes, move_made, part_entered}
+use Rattle.gltf_walk.proofs.Moves.{left_one, begun_left, rest_height, down_height, popped_fits, pushed_fits, moved_fits, frames_weight, frames_length, over_goes, move_made, part_entered}
 use Rattle.gltf_walk.proofs.state.Descent.next_report.Goals as goal
 
 -- ---- a part that is over
@@ -17,9 +17,9 @@ pub invariant_of-self : goal.invariant_of-self
 invariant_of-self c =
     let context = context_in c.loop-frame.self in
     let e = c.in-Some.ensures.items in
-    let low = popped_fits context _ _ c.in-Some.frame e c.loop-frame.self.fits in
+    let low = popped_fits context _ _ c.in-Some.frame e in
     let gone = ap length c.pop-in-Done.ensures.rest in
-    record { fits = low.0; beside = omega (arith, c.loop-frame.self.beside, frames_length _ _ _ e, gone, length-take (length c.loop-frame.self.steps.items - 1) c.loop-frame.self.steps.items) }
+    record { fits = omega (arith, low.0, c.loop-frame.self.fits); beside = omega (arith, c.loop-frame.self.beside, frames_length _ _ _ e, gone, length-take (length c.loop-frame.self.steps.items - 1) c.loop-frame.self.steps.items) }
 
 pub loop-frame-smaller-in-Done : goal.loop-frame-smaller-in-Done
 loop-frame-smaller-in-Done c =
@@ -34,6 +34,7 @@ loop-frame-preserved-in-Done c =
     record {
       same = c.loop-frame.invariant.same ∙ over_goes context _ _ c.in-Some.frame _ _ _ e c.loop-frame.self.beside c.in-Done.ensures.comes c.pop-in-Done.ensures.items (omega (arith, gone));
       base = omega (arith, c.loop-frame.invariant.base, frames_length _ _ _ e, gone, c.loop-frame.self.beside);
+      depth = omega (arith, c.loop-frame.invariant.depth, (popped_fits context _ _ c.in-Some.frame e).0);
     }
 
 -- ---- what is wrong with the part itself
@@ -41,18 +42,18 @@ loop-frame-preserved-in-Done c =
 pub push-requires : goal.push-requires
 push-requires c =
     let context = context_in c.loop-frame.self in
-    let low = popped_fits context _ _ c.in-Some.frame c.in-Some.ensures.items c.loop-frame.self.fits in
-    (omega arith, omega (arith, low.1))
+    let low = popped_fits context _ _ c.in-Some.frame c.in-Some.ensures.items in
+    (omega arith, omega (arith, low.1, c.loop-frame.self.fits))
 
 pub invariant_of-self-in-Fault : goal.invariant_of-self-in-Fault
 invariant_of-self-in-Fault c =
     let context = context_in c.loop-frame.self in
     let e = c.in-Some.ensures.items in
-    let low = popped_fits context _ _ c.in-Some.frame e c.loop-frame.self.fits in
+    let low = popped_fits context _ _ c.in-Some.frame e in
     let next = c.in-Fault.ensures.left tt ∙ left_one (plan_left context c.in-Some.frame) in
     let deep = ap height next in
     record {
-      fits = pushed_fits context _ _ _ c.push.ensures.items low.0 (omega (arith, low.1, deep, rest_height (plan_left context c.in-Some.frame)));
+      fits = pushed_fits context _ _ _ 10 c.push.ensures.items (omega (arith, low.0, c.loop-frame.self.fits)) (omega (arith, low.1, deep, rest_height (plan_left context c.in-Some.frame), c.loop-frame.self.fits));
       beside = omega (arith, c.loop-frame.self.beside, frames_length _ _ _ e, frames_length _ _ _ c.push.ensures.items);
     }
 
@@ -67,6 +68,12 @@ returns-in-Fault-clause-next c =
           ∙ ap (λ m. told_by m steps ++ to_come_of steps (plans_left context c.push.new.self.items)) (sym c.in-Fault.ensures.comes)),
       omega (arith, c.loop-frame.invariant.base, frames_length _ _ _ e, frames_length _ _ _ c.push.ensures.items),
     )
+
+pub returns-in-Fault-clause-depth : goal.returns-in-Fault-clause-depth
+returns-in-Fault-clause-depth c =
+    let context = context_in c.loop-frame.self in
+    let next = c.in-Fault.ensures.left tt ∙ left_one (plan_left context c.in-Some.frame) in
+    omega (arith, c.loop-frame.invariant.depth, moved_fits context _ _ _ c.in-Some.frame c.next_in.new.frame c.in-Some.ensures.items c.push.ensures.items next)
 
 -- ---- a place at which nothing is wrong
 
@@ -92,22 +99,24 @@ loop-frame-preserved c =
     let steps = map step_of c.loop-frame.self.steps.items in
     let clean : plan_of context c.in-Down.part ≡ leaf None = c.needs_frame.ensures c.if-needs_frame.false context in
     let comes = rw clean at c.in-Down.ensures.comes in
+    let stays = moved_fits context _ _ _ c.in-Some.frame c.next_in.new.frame e d next in
     record {
       same = c.loop-frame.invariant.same
           ∙ (move_made context _ _ _ c.in-Some.frame c.next_in.new.frame c.loop-frame.self.steps.items e d next c.loop-frame.self.beside
           ∙ ap (λ m. told_by m steps ++ to_come_of steps (plans_left context c.push-in-Down.new.self.items)) (sym comes));
       base = omega (arith, c.loop-frame.invariant.base, frames_length _ _ _ e, frames_length _ _ _ d);
+      depth = omega (arith, c.loop-frame.invariant.depth, stays);
     }
 
 pub invariant_of-self-else-needs_frame : goal.invariant_of-self-else-needs_frame
 invariant_of-self-else-needs_frame c =
     let context = context_in c.loop-frame.self in
     let e = c.in-Some.ensures.items in
-    let low = popped_fits context _ _ c.in-Some.frame e c.loop-frame.self.fits in
+    let low = popped_fits context _ _ c.in-Some.frame e in
     let d = c.push-in-Down.ensures.items in
     let next = ap height (c.in-Down.ensures.left tt ∙ left_one (plan_left context c.in-Some.frame)) in
     record {
-      fits = pushed_fits context _ _ _ d low.0 (omega (arith, low.1, next, rest_height (plan_left context c.in-Some.frame)));
+      fits = pushed_fits context _ _ _ 10 d (omega (arith, low.0, c.loop-frame.self.fits)) (omega (arith, low.1, next, rest_height (plan_left context c.in-Some.frame), c.loop-frame.self.fits));
       beside = omega (arith, c.loop-frame.self.beside, frames_length _ _ _ e, frames_length _ _ _ d);
     }
 
@@ -116,18 +125,18 @@ invariant_of-self-else-needs_frame c =
 pub push-requires-in-Down : goal.push-requires-in-Down
 push-requires-in-Down c =
     let context = context_in c.loop-frame.self in
-    let low = popped_fits context _ _ c.in-Some.frame c.in-Some.ensures.items c.loop-frame.self.fits in
-    (omega arith, omega (arith, low.1))
+    let low = popped_fits context _ _ c.in-Some.frame c.in-Some.ensures.items in
+    (omega arith, omega (arith, low.1, c.loop-frame.self.fits))
 
 pub invariant_of-self-then-is_full : goal.invariant_of-self-then-is_full
 invariant_of-self-then-is_full c =
     let context = context_in c.loop-frame.self in
     let e = c.in-Some.ensures.items in
-    let low = popped_fits context _ _ c.in-Some.frame e c.loop-frame.self.fits in
+    let low = popped_fits context _ _ c.in-Some.frame e in
     let d = c.push-in-Down.ensures.items in
     let next = ap height (c.in-Down.ensures.left tt ∙ left_one (plan_left context c.in-Some.frame)) in
     record {
-      fits = pushed_fits context _ _ _ d low.0 (omega (arith, low.1, next, rest_height (plan_left context c.in-Some.frame)));
+      fits = pushed_fits context _ _ _ 10 d (omega (arith, low.0, c.loop-frame.self.fits)) (omega (arith, low.1, next, rest_height (plan_left context c.in-Some.frame), c.loop-frame.self.fits));
       beside = omega (arith, c.loop-frame.self.beside, frames_length _ _ _ e, frames_length _ _ _ d);
     }
 
@@ -135,28 +144,34 @@ pub returns-then-is_full-clause-full : goal.returns-then-is_full-clause-full
 returns-then-is_full-clause-full c =
     let context = context_in c.loop-frame.self in
     let e = c.in-Some.ensures.items in
-    let low = popped_fits context _ _ c.in-Some.frame e c.loop-frame.self.fits in
+    let low = popped_fits context _ _ c.in-Some.frame e in
     let deep = down_height (plan_left context c.in-Some.frame) (plan_of context c.in-Down.part) (step_of c.in-Down.step) c.in-Down.ensures.comes in
     let full : length c.loop-frame.self.steps.items ≡ 16 = search rules in
-    omega (arith, c.loop-frame.invariant.base, full, frames_length _ _ _ e, low.1, deep)
+    omega (arith, c.loop-frame.invariant.base, c.loop-frame.invariant.depth, full, frames_length _ _ _ e, low.1, deep)
+
+pub returns-then-is_full-clause-depth : goal.returns-then-is_full-clause-depth
+returns-then-is_full-clause-depth c =
+    let context = context_in c.loop-frame.self in
+    let next = c.in-Down.ensures.left tt ∙ left_one (plan_left context c.in-Some.frame) in
+    omega (arith, c.loop-frame.invariant.depth, moved_fits context _ _ _ c.in-Some.frame c.next_in.new.frame c.in-Some.ensures.items c.push-in-Down.ensures.items next)
 
 pub push-requires-then-needs_frame : goal.push-requires-then-needs_frame
 push-requires-then-needs_frame c =
     let context = context_in c.loop-frame.self in
-    let low = popped_fits context _ _ c.in-Some.frame c.in-Some.ensures.items c.loop-frame.self.fits in
-    (omega arith, omega (arith, low.1, frames_length _ _ _ c.push-in-Down.ensures.items))
+    let low = popped_fits context _ _ c.in-Some.frame c.in-Some.ensures.items in
+    (omega arith, omega (arith, low.1, c.loop-frame.self.fits, frames_length _ _ _ c.push-in-Down.ensures.items))
 
 pub invariant_of-self-then-needs_frame : goal.invariant_of-self-then-needs_frame
 invariant_of-self-then-needs_frame c =
     let context = context_in c.loop-frame.self in
     let e = c.in-Some.ensures.items in
-    let low = popped_fits context _ _ c.in-Some.frame e c.loop-frame.self.fits in
+    let low = popped_fits context _ _ c.in-Some.frame e in
     let d = c.push-in-Down.ensures.items in
     let next = ap height (c.in-Down.ensures.left tt ∙ left_one (plan_left context c.in-Some.frame)) in
     let deep = down_height (plan_left context c.in-Some.frame) (plan_of context c.in-Down.part) (step_of c.in-Down.step) c.in-Down.ensures.comes in
-    let moved = pushed_fits context _ _ _ d low.0 (omega (arith, low.1, next, rest_height (plan_left context c.in-Some.frame))) in
+    let moved = pushed_fits context _ _ _ 10 d (omega (arith, low.0, c.loop-frame.self.fits)) (omega (arith, low.1, next, rest_height (plan_left context c.in-Some.frame), c.loop-frame.self.fits)) in
     record {
-      fits = pushed_fits context _ _ _ c.push-then-needs_frame.ensures.items moved (omega (arith, low.1, deep, frames_length _ _ _ d, ap height (begun_left context c.in-Down.part)));
+      fits = pushed_fits context _ _ _ 10 c.push-then-needs_frame.ensures.items moved (omega (arith, low.1, deep, frames_length _ _ _ d, ap height (begun_left context c.in-Down.part), c.loop-frame.self.fits));
       beside = omega (arith, c.loop-frame.self.beside, frames_length _ _ _ e, frames_length _ _ _ d, frames_length _ _ _ c.push-then-needs_frame.ensures.items, c.push-then-needs_frame-2.ensures.len);
     }
 
@@ -183,6 +198,10 @@ loop-frame-preserved-then-needs_frame c =
     let d = c.push-in-Down.ensures.items in
     let next = c.in-Down.ensures.left tt ∙ left_one (plan_left context c.in-Some.frame) in
     let steps = map step_of c.loop-frame.self.steps.items in
+    let low = popped_fits context _ _ c.in-Some.frame e in
+    let stays = moved_fits context _ _ _ c.in-Some.frame c.next_in.new.frame e d next in
+    let deep = down_height (plan_left context c.in-Some.frame) (plan_of context c.in-Down.part) (step_of c.in-Down.step) c.in-Down.ensures.comes in
+    let within = pushed_fits context _ _ _ _ c.push-then-needs_frame.ensures.items stays (omega (arith, low.1, deep, frames_length _ _ _ d, ap height (begun_left context c.in-Down.part))) in
     record {
       same = c.loop-frame.invariant.same
           ∙ (move_made context _ _ _ c.in-Some.frame c.next_in.new.frame c.loop-frame.self.steps.items e d next c.loop-frame.self.beside
@@ -190,4 +209,5 @@ loop-frame-preserved-then-needs_frame c =
           ∙ sym (part_entered context _ _ c.in-Down.part c.loop-frame.self.steps.items _ c.in-Down.step c.push-then-needs_frame.ensures.items c.push-then-needs_frame-2.ensures.items
           (omega (arith, frames_length _ _ _ d)) (omega (arith, c.loop-frame.self.beside, frames_length _ _ _ e, frames_length _ _ _ d)))));
       base = omega (arith, c.loop-frame.invariant.base, frames_length _ _ _ e, frames_length _ _ _ d, frames_length _ _ _ c.push-then-needs_frame.ensures.items, c.push-then-needs_frame-2.ensures.len);
+      depth = omega (arith, c.loop-frame.invariant.depth, within);
     }

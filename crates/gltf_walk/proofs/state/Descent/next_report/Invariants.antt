@@ -1,7 +1,7 @@
 use Rattle.std.proofs.Common.{◌≡◌, ◌≤◌}
 use Rattle.gltf_walk.specs.Left.{plans_left}
 use Rattle.gltf_walk.specs.Stacks.{weight_of}
-use Rattle.gltf_walk.specs.ToCome.{base_count, context_in, left_of_descent}
+use Rattle.gltf_walk.specs.ToCome.{base_count, context_in, depth_of_descent, left_of_descent}
 use Rattle.gltf_walk.proofs.state.Descent.next_report.Given as goal
 
 abbrev pub decreases-loop-frame : goal.decreases-loop-frame
@@ -11,4 +11,5 @@ abbrev pub invariant-loop-frame : goal.invariant-loop-frame
 invariant-loop-frame l = record {
   same : left_of_descent l.fn.self ≡ left_of_descent l.self;
   base : base_count l.self ≤ base_count l.fn.self;
+  depth : depth_of_descent l.self ≤ depth_of_descent l.fn.self;
 }

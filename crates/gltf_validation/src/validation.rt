@@ -22,13 +22,13 @@ mod within;
 
 /// What can be validated.
 pub trait Validate {
-    /// The kind in the table of what such a value is; `None` for a type that isn't there.
+    /// The kind in the table of what such a value is; `None` for a type whose reports are its own.
     ghost kind: { Option Kind } = { None };
 
     /// The value as the table sees it.
     ghost tree: { Self → Tree } = { λ _. absent };
 
-    /// The reports of a type that isn't in the table, against a document by rules, from a base.
+    /// The reports of a type that has no kind, against a document by rules, from a base.
     ghost own: { Self → Context → From } = { no_reports };
 
     /// A bound on the steps from a value's place to what its walk visits: the members and the items in

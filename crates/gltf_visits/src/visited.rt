@@ -22,7 +22,7 @@ use gltf_faults::{Context, choice_fault, index_fault, stride_fault};
 use gltf_root::root::RootItem;
 use std::collections::BTreeMap;
 
-/// A value in which something can be wrong.
+/// A value that a walk can visit.
 pub trait Visited {
     /// The kind in the table of what such a value is.
     ghost kind: { Kind };

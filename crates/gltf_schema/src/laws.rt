@@ -11,6 +11,11 @@ ghost use Rattle.gltf_schema.specs.OfKind.{is_of_kind};
 ghost use Rattle.gltf_schema.specs.Read.{read};
 ghost use Rattle.gltf_schema.specs.Write.{write};
 
+/// What a sound kind reads is plain.
+pub fn read_trees_are_plain()
+    ensures { (kind : Kind) (d : Data) (t : Tree) → is_sound kind ≡ true → read kind d ≡ Some t → is_plain kind t ≡ true }
+{}
+
 /// What a plain tree is written as is read back as that tree.
 pub fn written_trees_are_read_back()
     ensures { (kind : Kind) (t : Tree) (d : Data) → is_sound kind ≡ true → is_plain kind t ≡ true → write kind t ≡ Some d → read kind d ≡ Some t }

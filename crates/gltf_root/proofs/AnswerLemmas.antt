@@ -1,8 +1,8 @@
 -- What bytes are read as, from what is known of their text and of their reader.
-use Rattle.std.proofs.Common.{◌≡◌, ◌≤◌, ◌∙◌, ap, subst, sym, ℕ, true, false, List, Option, Some, None, IsUtf8, ⊎_elim, Result, Ok, Err, IfSome}
+use Rattle.std.proofs.Common.{◌≡◌, ◌≤◌, ◌∙◌, ap, subst, sym, ℕ, true, false, List, Option, Some, None, IsUtf8, ⊎_elim, Result, Ok, Err, IfErr, IfSome}
 use Rattle.std.specs.Str.{is_utf8}
 use Rattle.std.proofs.lemmas.Bool.{cases_Bool}
-use Rattle.std.proofs.lemmas.Str.{IsUtf8-from_is_utf8, is_utf8-from_IsUtf8}
+use Rattle.std.proofs.lemmas.Str.{IsUtf8-from_is_utf8, IsUtf8-string_bytes, is_utf8-from_IsUtf8}
 use Rattle.std.proofs.KnownBytes.{Consumes-whole}
 use Rattle.serde_json.specs.Data.{Data, depth}
 use Rattle.serde_json.specs.Read.{read as read_json, max_depth}
@@ -13,7 +13,7 @@ use Rattle.gltf_schema.specs.Tree.{Tree}
 use Rattle.gltf_schema.specs.Write.{write}
 use Rattle.gltf_schema.specs.declared.error.Error.{Error}
 use Rattle.gltf_schema.specs.declared.error.Error.TheVariants.{Json, Schema, InvalidItem, Read, Write, Memory, TooLong}
-use Rattle.gltf_root.specs.Answer.{Answer, no_json, tree_answer, answer, IsAnswer, IsReadAnswer, IsReading}
+use Rattle.gltf_root.specs.Answer.{Answer, no_json, tree_answer, answer, IsAnswer, IsReadAnswer, IsReading, IsRefusal}
 use Rattle.gltf_devices.specs.Device.{Seen, IsWithin, IsCause, IsReadError, IsReadToEnd}
 use Rattle.gltf_root.specs.RootTable.{root_kind}
 use Rattle.gltf_root.specs.RootTrees.{root_tree}
@@ -100,7 +100,27 @@ IsReading-cause bytes calls seen Write h = absurd h
 IsReading-cause bytes calls seen TooLong h = h
 IsReading-cause bytes calls seen InvalidItem h = absurd h
 
-pub ruleset readings = (told-all, told-gave_up, IsReading-within, IsReading-cause)
+-- what is answered in the place of a document is a refusal
+pub refused-answer : (due : Answer) (r : Result Root Error) → IsAnswer due r → IfErr r IsRefusal
+refused-answer due (Ok root) h = tt
+refused-answer due (Err Json) h = tt
+refused-answer due (Err Schema) h = tt
+refused-answer due (Err (Memory e)) h = tt
+refused-answer due (Err Read) h = absurd h
+refused-answer due (Err Write) h = absurd h
+refused-answer due (Err TooLong) h = absurd h
+refused-answer due (Err InvalidItem) h = absurd h
+
+pub refused-gave_up : (e : Error) → IsReadError e → IsRefusal e
+refused-gave_up Json h = tt
+refused-gave_up Schema h = tt
+refused-gave_up (Memory e) h = tt
+refused-gave_up Read h = tt
+refused-gave_up Write h = absurd h
+refused-gave_up TooLong h = tt
+refused-gave_up InvalidItem h = absurd h
+
+pub ruleset readings = (told-all, told-gave_up, IsReading-within, IsReading-cause, refused-answer, refused-gave_up)
 
 -- bytes that read back as what is written are answered by the document
 pub printed-read_back : (t : Tree) (d : Data) (bytes : List ℕ) → write root_kind t ≡ Some d → (is_plain root_kind t ≡ true → read root_kind d ≡ Some t)
@@ -108,3 +128,5 @@ pub printed-read_back : (t : Tree) (d : Data) (bytes : List ℕ) → write root_
 printed-read_back t d bytes written back utf8 json = λ e again deep plain.
     let same : d ≡ e = cc in
     answer-json bytes d utf8 (json (subst (λ (x : Data). depth x ≤ max_depth) (sym same) deep)) ∙ ap tree_answer (back plain)
+
+pub ruleset texts = (IsUtf8-string_bytes)

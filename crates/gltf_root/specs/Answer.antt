@@ -7,7 +7,7 @@ use Rattle.gltf_schema.specs.Tree.{Tree}
 use Rattle.gltf_schema.specs.Read.{read}
 use Rattle.gltf_schema.specs.declared.error.Error.{Error}
 use Rattle.gltf_schema.specs.declared.error.Error.TheVariants as errors
-use Rattle.gltf_devices.specs.Device.{Seen, IsWithin, IsCause}
+use Rattle.gltf_devices.specs.Device.{Seen, IsWithin, IsCause, IsReadError}
 use Rattle.gltf_root.specs.RootTable.{root_kind}
 use Rattle.gltf_root.specs.RootTrees.{root_tree}
 use Rattle.gltf_root.specs.declared.root.Root.{Root}
@@ -42,6 +42,12 @@ abbrev pub IsReadAnswer : Answer → Result Root Error → Type 0
 IsReadAnswer due (Err errors.Read) = Unit {0}
 IsReadAnswer due (Err errors.TooLong) = Unit {0}
 IsReadAnswer due result = IsAnswer due result
+
+-- what is answered in the place of a document: that the bytes are none, or what reading was given up for
+abbrev pub IsRefusal : Error → Type 0
+IsRefusal errors.Json = Unit {0}
+IsRefusal errors.Schema = Unit {0}
+IsRefusal e = IsReadError e
 
 -- what a document may have of bytes, and its reader of calls, that of the end among them
 abbrev pub byte_limit : ℕ

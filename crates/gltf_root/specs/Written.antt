@@ -1,5 +1,5 @@
 -- What a document is written as.
-use Rattle.std.specs.Prelude.{◌≡◌, ◌≤◌, ℕ, List, ⊤, Bool, true, false, Option, Some, None, Result, Ok, Err}
+use Rattle.std.specs.Prelude.{◌≡◌, ◌≤◌, ℕ, List, ⊤, Bool, true, false, Option, Some, None, Result, Ok, Err, IsUtf8}
 use Rattle.std.specs.Io.KnownBytes.{Appends}
 use Rattle.json.specs.Print.{print}
 use Rattle.json.specs.Layout.{pretty as pretty_print}
@@ -17,15 +17,17 @@ use Rattle.gltf_devices.specs.Device.{AppendsFront}
 use Rattle.gltf_root.specs.Answer.{answer, document}
 use Rattle.gltf_root.specs.RootTable.{root_kind}
 
--- the bytes print a value in one line: exactly so where it holds no float, and otherwise as a text of its tokens
+-- the bytes are a text that prints a value in one line: exactly so where it holds no float, and otherwise as a text of its tokens
 pub record IsCompact (d : Data) (bytes : List ℕ) : Type 0 where
+  pub utf8 : IsUtf8 bytes
   pub exact : has_float d ≡ false → bytes ≡ compact_text d
   pub compact : bytes ≡ print (tokens bytes)
   pub in_order : IsInOrder bytes d
   pub reads_back : depth d ≤ max_depth → read_json bytes ≡ Some d
 
--- the bytes print a value in lines, two blanks deeper at each level
+-- the bytes are a text that prints a value in lines, two blanks deeper at each level
 pub record IsPretty (d : Data) (bytes : List ℕ) : Type 0 where
+  pub utf8 : IsUtf8 bytes
   pub laid_out : bytes ≡ pretty_print (tokens bytes)
   pub in_order : IsInOrder bytes d
   pub reads_back : depth d ≤ max_depth → read_json bytes ≡ Some d

@@ -1,12 +1,12 @@
 //! Documents from values, texts, bytes and readers.
 
-ghost use Rattle.std.specs.Prelude.{◌≡◌, ◌≤◌, ◌+◌, true, None, Err, IfOk, IfSome};
+ghost use Rattle.std.specs.Prelude.{◌≡◌, ◌≤◌, ◌+◌, true, None, Err, IfErr, IfOk, IfSome};
 ghost use Rattle.serde_json.specs.Find.{as_object};
 ghost use Rattle.serde_json.specs.View.{view};
 ghost use Rattle.gltf_schema.specs.Outcome.{Reads};
 ghost use Rattle.gltf_schema.specs.Plain.{is_plain};
 ghost use Rattle.gltf_schema.specs.Read.{read};
-ghost use Rattle.gltf_root.specs.Answer.{IsAnswer, IsReadAnswer, IsReading, answer, byte_limit, call_limit};
+ghost use Rattle.gltf_root.specs.Answer.{IsAnswer, IsReadAnswer, IsReading, IsRefusal, answer, byte_limit, call_limit};
 ghost use Rattle.gltf_devices.specs.Device.{IsFresh};
 ghost use Rattle.gltf_root.specs.RootTable.{root_kind};
 ghost use Rattle.gltf_root.specs.RootTrees.{root_tree};
@@ -61,6 +61,7 @@ impl Root {
     pub fn from_reader<R: ByteIn>(alloc: Global, reader: &mut R) -> Result<Root, Error>
         ensures told { IfSome (R.left reader.old) (λ bytes. IsReadAnswer (answer bytes) result) }
         ensures fresh { IsFresh (R.seen reader.old) → IsReading byte_limit call_limit (R.seen reader.new) result }
+        ensures refused { IfErr result IsRefusal }
         ensures soon { (R.seen reader.new).calls ≤ (R.seen reader.old).calls + call_limit }
         ensures plain { IfOk result (λ root. is_plain root_kind (root_tree root) ≡ true) }
     {
@@ -80,6 +81,7 @@ impl Root {
     ) -> Result<Root, Error>
         ensures told { IfSome (R.left reader.old) (λ bytes. IsReadAnswer (answer bytes) result) }
         ensures fresh { IsFresh (R.seen reader.old) → IsReading bytes calls (R.seen reader.new) result }
+        ensures refused { IfErr result IsRefusal }
         ensures soon { (R.seen reader.new).calls ≤ (R.seen reader.old).calls + calls }
         ensures uncalled { calls ≡ 0 → reader.new ≡ reader.old }
         ensures plain { IfOk result (λ root. is_plain root_kind (root_tree root) ≡ true) }

@@ -34,7 +34,7 @@ impl Root {
     }
 
     /// The document as JSON in one line, without blanks between its tokens; errors are those of
-    /// [`Root::to_value`]. It reads back where it isn't nested deeper than 127 levels.
+    /// [`Root::to_value`]. A plain one reads back where it isn't nested deeper than 127 levels.
     pub fn to_vec(&self, alloc: Global) -> Result<Vec<u8>, Error>
         ensures printed { Prints IsCompact (λ b. b.items) result (write root_kind (root_tree self.now))
             (holds_invalid (root_tree self.now)) }
@@ -54,6 +54,7 @@ impl Root {
     }
 
     /// The text of [`Root::to_vec`].
+    #[tactic(auto, using(crate::proofs::AnswerLemmas::texts))]
     pub fn to_string(&self, alloc: Global) -> Result<String, Error>
         ensures printed { Prints IsCompact string_bytes result (write root_kind (root_tree self.now))
             (holds_invalid (root_tree self.now)) }
@@ -63,6 +64,7 @@ impl Root {
     }
 
     /// The text of [`Root::to_vec_pretty`].
+    #[tactic(auto, using(crate::proofs::AnswerLemmas::texts))]
     pub fn to_string_pretty(&self, alloc: Global) -> Result<String, Error>
         ensures printed { Prints IsPretty string_bytes result (write root_kind (root_tree self.now))
             (holds_invalid (root_tree self.now)) }
@@ -75,7 +77,7 @@ impl Root {
     /// `Write` comes where the writer fails, which then has taken a front of them; after `InvalidItem`
     /// or `Memory` it is as it was. Nothing is flushed.
     pub fn to_writer<W: ByteOut>(&self, alloc: Global, writer: &mut W) -> Result<(), Error>
-        ensures taken { Takes IsCompact (W.taken writer.old) (W.taken writer.new) result
+        ensures taken { Takes (λ d bytes. IsCompact d bytes × IsReadBack (root_tree self.now) bytes) (W.taken writer.old) (W.taken writer.new) result
             (write root_kind (root_tree self.now)) (holds_invalid (root_tree self.now)) }
         ensures works { OnOk result (W.has_failed writer.new ≡ W.has_failed writer.old) }
         ensures breaks { result ≡ Err Error.Write → W.has_failed writer.new ≡ true }
@@ -87,7 +89,7 @@ impl Root {
 
     /// Writes the bytes of [`Root::to_vec_pretty`], as [`Root::to_writer`].
     pub fn to_writer_pretty<W: ByteOut>(&self, alloc: Global, writer: &mut W) -> Result<(), Error>
-        ensures taken { Takes IsPretty (W.taken writer.old) (W.taken writer.new) result
+        ensures taken { Takes (λ d bytes. IsPretty d bytes × IsReadBack (root_tree self.now) bytes) (W.taken writer.old) (W.taken writer.new) result
             (write root_kind (root_tree self.now)) (holds_invalid (root_tree self.now)) }
         ensures works { OnOk result (W.has_failed writer.new ≡ W.has_failed writer.old) }
         ensures breaks { result ≡ Err Error.Write → W.has_failed writer.new ≡ true }

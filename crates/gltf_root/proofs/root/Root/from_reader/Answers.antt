@@ -7,6 +7,9 @@ returns-clause-told g c = c.from_reader_within.ensures.told
 pub returns-clause-fresh : goal.returns-clause-fresh
 returns-clause-fresh g c = c.from_reader_within.ensures.fresh
 
+pub returns-clause-refused : goal.returns-clause-refused
+returns-clause-refused g c = c.from_reader_within.ensures.refused
+
 pub returns-clause-soon : goal.returns-clause-soon
 returns-clause-soon g c = c.from_reader_within.ensures.soon
 

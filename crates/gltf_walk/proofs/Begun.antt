@@ -9,16 +9,13 @@ use Rattle.gltf_visits.specs.Height.{kind_height}
 use Rattle.gltf_visits.specs.Parts.{plan_of}
 use Rattle.gltf_visits.specs.Planned.{planned}
 use Rattle.gltf_visits.specs.declared.part.Part.{Part}
-use Rattle.gltf_walk.specs.Left.{plans_left}
+use Rattle.gltf_walk.specs.Left.{first_frame, plans_left}
 use Rattle.gltf_walk.specs.Stacks.{reach, to_come_of}
 use Rattle.gltf_walk.specs.declared.frame.Frame.{Frame}
 use Rattle.gltf_walk.proofs.Moves.{begun_left}
 use Rattle.gltf_walk.proofs.PlanHeight.{bounded}
 use Rattle.gltf_walk.proofs.PlanReports.{planned_told}
 use Rattle.gltf_walk.proofs.Stacks.{of_last}
-
-abbrev pub first_frame : Part → Frame
-first_frame q = record { part = q; number = 0; behind = None }
 
 -- the one plan is the value's
 begun_plans : (kind : Kind) (t : Tree) (context : Context) (q : Part) (fs : List Frame) → fs ≡ first_frame q ∷ [] → plan_of context q ≡ planned kind t context absent

@@ -6,7 +6,7 @@ use Rattle.gltf_paths.specs.Steps.{Step, step_of}
 use Rattle.gltf_paths.specs.declared.path.Step.{Step as Borrowed}
 use Rattle.gltf_faults.specs.Context.{Context}
 use Rattle.gltf_visits.specs.Parts.{plan_of}
-use Rattle.gltf_walk.specs.Left.{part_left, plan_left, plans_left, IsNumbered}
+use Rattle.gltf_walk.specs.Left.{first_frame, part_left, plan_left, plans_left, IsNumbered}
 use Rattle.gltf_visits.specs.Plan.{Plan, place, nothing, below, told, down, over, at, left, first, weight, height}
 use Rattle.gltf_walk.specs.Stacks.{reach, to_come_of, weight_of}
 use Rattle.gltf_walk.specs.declared.frame.Frame.{Frame}
@@ -117,8 +117,12 @@ move_made context fs gs hs f g bs e d n l =
     ap (to_come_of steps) (plans_last context fs gs f e)
     ∙ (moved steps (plans_left context gs) (plan_left context f) beside ∙ ap (λ ps. told_by (first (plan_left context f)) steps ++ to_come_of steps ps) after)
 
+-- the frame that is put behind the others stands at the start of the part
+pub begun_behind : (hs is : List Frame) (f : Frame) (q : Part) → is ≡ hs ++ f ∷ [] → f ≡ first_frame q → is ≡ hs ++ first_frame q ∷ []
+begun_behind hs is f q e d = e ∙ ap (λ g. hs ++ g ∷ []) d
+
 -- the part at the step is gone into
-pub part_entered : (context : Context) (hs is : List Frame) (q : Part) (bs cs : List Borrowed) (s : Borrowed) → is ≡ hs ++ record { part = q; number = 0; behind = None } ∷ []
+pub part_entered : (context : Context) (hs is : List Frame) (q : Part) (bs cs : List Borrowed) (s : Borrowed) → is ≡ hs ++ first_frame q ∷ []
     → cs ≡ bs ++ s ∷ [] → 1 ≤ length hs → length hs ≤ suc (length bs)
     → to_come_of (map step_of cs) (plans_left context is) ≡ told (plan_of context q) (map step_of bs ++ step_of s ∷ []) ++ to_come_of (map step_of bs) (plans_left context hs)
 part_entered context hs is q bs cs s e d some l =

@@ -47,6 +47,10 @@ part_left context q number behind = left (plan_of context q) number
 
 -- ---- frames
 
+-- the start of a part
+abbrev pub first_frame : Part → Frame
+first_frame q = record { part = q; number = 0; behind = None }
+
 abbrev pub plan_left : Context → Frame → Plan
 plan_left context f = part_left context f.part f.number f.behind
 

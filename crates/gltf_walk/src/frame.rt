@@ -1,5 +1,9 @@
 //! Where a walk stands in one part of a document.
 
+ghost use Rattle.std.specs.Prelude.{◌≡◌, ◌∷◌, []};
+ghost use Rattle.gltf_walk.specs.Left.{first_frame};
+
+use arrayvec::ArrayVec;
 use gltf_base::mesh::Semantic;
 use gltf_base::validation::Checked;
 use gltf_visits::Part;
@@ -14,12 +18,30 @@ pub(crate) struct Frame<'a> {
     pub(crate) behind: Option<&'a Checked<Semantic>>,
 }
 
-impl Default for Frame<'_> {
-    fn default() -> Self {
+impl<'a> Frame<'a> {
+    /// The start of a part.
+    pub(crate) fn at_start(part: Part<'a>) -> Frame<'a>
+        ensures { result ≡ first_frame part.entry }
+    {
         Frame {
-            part: Part::Leaf(None),
+            part,
             number: 0,
             behind: None,
         }
     }
+}
+
+impl Default for Frame<'_> {
+    fn default() -> Self {
+        Frame::at_start(Part::Leaf(None))
+    }
+}
+
+/// The frames of a walk that begins in a part.
+pub(crate) fn begun_in(part: Part<'_>) -> ArrayVec<Frame<'_>, 16>
+    ensures { result.items ≡ first_frame part.entry ∷ [] }
+{
+    let mut frames = ArrayVec::new();
+    frames.push(Frame::at_start(part));
+    frames
 }

@@ -10,10 +10,9 @@ ghost use Rattle.gltf_visits.specs.Height.{kind_height};
 ghost use Rattle.gltf_visits.specs.Plan.{leaf};
 ghost use Rattle.gltf_walk.specs.ToCome.{base_count, depth_of_descent, left_of_descent, path_of_descent, to_come, path_of, IsNext, IsNextOf};
 
-use crate::frame::Frame;
+use crate::frame::{Frame, begun_in};
 use crate::frames::next_in;
 use crate::state::{Descent, Walk};
-use arrayvec::ArrayVec;
 use gltf_base::Steps;
 use gltf_base::validation::Error;
 use gltf_faults::{Context, Rules};
@@ -44,16 +43,10 @@ impl<'a> Descent<'a> {
             rules: &rules,
             root,
         });
-        let mut frames = ArrayVec::new();
-        frames.push(Frame {
-            part,
-            number: 0,
-            behind: None,
-        });
         Descent {
             rules,
             root,
-            frames,
+            frames: begun_in(part),
             steps: copied(base),
         }
     }
@@ -85,11 +78,7 @@ impl<'a> Descent<'a> {
                         if self.steps.is_full() {
                             return Err(StepsFull);
                         }
-                        self.frames.push(Frame {
-                            part,
-                            number: 0,
-                            behind: None,
-                        });
+                        self.frames.push(Frame::at_start(part));
                         self.steps.push(step);
                     }
                 }

@@ -8,7 +8,7 @@ use Rattle.gltf_visits.specs.Plan.{height, leaf, weight}
 use Rattle.gltf_walk.specs.Stacks.{to_come_of}
 use Rattle.gltf_walk.specs.ToCome.{context_in}
 use Rattle.gltf_walk.proofs.Stacks.{told_by, weight_by, weight_move, weight_least}
-use Rattle.gltf_walk.proofs.Moves.{left_one, begun_left, rest_height, down_height, popped_fits, pushed_fits, moved_fits, frames_weight, frames_length, over_goes, move_made, part_entered}
+use Rattle.gltf_walk.proofs.Moves.{left_one, begun_left, rest_height, down_height, popped_fits, pushed_fits, moved_fits, frames_weight, frames_length, over_goes, move_made, begun_behind, part_entered}
 use Rattle.gltf_walk.proofs.state.Descent.next_report.Goals as goal
 
 -- ---- a part that is over
@@ -164,6 +164,7 @@ push-requires-then-needs_frame c =
 pub invariant_of-self-then-needs_frame : goal.invariant_of-self-then-needs_frame
 invariant_of-self-then-needs_frame c =
     let context = context_in c.loop-frame.self in
+    let pushed = begun_behind _ _ _ c.in-Down.part c.push-then-needs_frame.ensures.items c.at_start.ensures in
     let e = c.in-Some.ensures.items in
     let low = popped_fits context _ _ c.in-Some.frame e in
     let d = c.push-in-Down.ensures.items in
@@ -171,20 +172,21 @@ invariant_of-self-then-needs_frame c =
     let deep = down_height (plan_left context c.in-Some.frame) (plan_of context c.in-Down.part) (step_of c.in-Down.step) c.in-Down.ensures.comes in
     let moved = pushed_fits context _ _ _ 10 d (omega (arith, low.0, c.loop-frame.self.fits)) (omega (arith, low.1, next, rest_height (plan_left context c.in-Some.frame), c.loop-frame.self.fits)) in
     record {
-      fits = pushed_fits context _ _ _ 10 c.push-then-needs_frame.ensures.items moved (omega (arith, low.1, deep, frames_length _ _ _ d, ap height (begun_left context c.in-Down.part), c.loop-frame.self.fits));
-      beside = omega (arith, c.loop-frame.self.beside, frames_length _ _ _ e, frames_length _ _ _ d, frames_length _ _ _ c.push-then-needs_frame.ensures.items, c.push-then-needs_frame-2.ensures.len);
+      fits = pushed_fits context _ _ _ 10 pushed moved (omega (arith, low.1, deep, frames_length _ _ _ d, ap height (begun_left context c.in-Down.part), c.loop-frame.self.fits));
+      beside = omega (arith, c.loop-frame.self.beside, frames_length _ _ _ e, frames_length _ _ _ d, frames_length _ _ _ pushed, c.push-then-needs_frame-2.ensures.len);
     }
 
 pub loop-frame-smaller-then-needs_frame : goal.loop-frame-smaller-then-needs_frame
 loop-frame-smaller-then-needs_frame c =
     let context = context_in c.loop-frame.self in
+    let pushed = begun_behind _ _ _ c.in-Down.part c.push-then-needs_frame.ensures.items c.at_start.ensures in
     let next = ap weight (c.in-Down.ensures.left tt ∙ left_one (plan_left context c.in-Some.frame)) in
     let child = ap weight (begun_left context c.in-Down.part) in
     omega (
       arith,
       frames_weight context _ _ c.in-Some.frame c.in-Some.ensures.items,
       frames_weight context _ _ c.next_in.new.frame c.push-in-Down.ensures.items,
-      frames_weight context _ _ _ c.push-then-needs_frame.ensures.items,
+      frames_weight context _ _ _ pushed,
       next,
       child,
       weight_move (plan_left context c.in-Some.frame),
@@ -194,6 +196,7 @@ loop-frame-smaller-then-needs_frame c =
 pub loop-frame-preserved-then-needs_frame : goal.loop-frame-preserved-then-needs_frame
 loop-frame-preserved-then-needs_frame c =
     let context = context_in c.loop-frame.self in
+    let pushed = begun_behind _ _ _ c.in-Down.part c.push-then-needs_frame.ensures.items c.at_start.ensures in
     let e = c.in-Some.ensures.items in
     let d = c.push-in-Down.ensures.items in
     let next = c.in-Down.ensures.left tt ∙ left_one (plan_left context c.in-Some.frame) in
@@ -201,13 +204,13 @@ loop-frame-preserved-then-needs_frame c =
     let low = popped_fits context _ _ c.in-Some.frame e in
     let stays = moved_fits context _ _ _ c.in-Some.frame c.next_in.new.frame e d next in
     let deep = down_height (plan_left context c.in-Some.frame) (plan_of context c.in-Down.part) (step_of c.in-Down.step) c.in-Down.ensures.comes in
-    let within = pushed_fits context _ _ _ _ c.push-then-needs_frame.ensures.items stays (omega (arith, low.1, deep, frames_length _ _ _ d, ap height (begun_left context c.in-Down.part))) in
+    let within = pushed_fits context _ _ _ _ pushed stays (omega (arith, low.1, deep, frames_length _ _ _ d, ap height (begun_left context c.in-Down.part))) in
     record {
       same = c.loop-frame.invariant.same
           ∙ (move_made context _ _ _ c.in-Some.frame c.next_in.new.frame c.loop-frame.self.steps.items e d next c.loop-frame.self.beside
           ∙ (ap (λ m. told_by m steps ++ to_come_of steps (plans_left context c.push-in-Down.new.self.items)) (sym c.in-Down.ensures.comes)
-          ∙ sym (part_entered context _ _ c.in-Down.part c.loop-frame.self.steps.items _ c.in-Down.step c.push-then-needs_frame.ensures.items c.push-then-needs_frame-2.ensures.items
+          ∙ sym (part_entered context _ _ c.in-Down.part c.loop-frame.self.steps.items _ c.in-Down.step pushed c.push-then-needs_frame-2.ensures.items
           (omega (arith, frames_length _ _ _ d)) (omega (arith, c.loop-frame.self.beside, frames_length _ _ _ e, frames_length _ _ _ d)))));
-      base = omega (arith, c.loop-frame.invariant.base, frames_length _ _ _ e, frames_length _ _ _ d, frames_length _ _ _ c.push-then-needs_frame.ensures.items, c.push-then-needs_frame-2.ensures.len);
+      base = omega (arith, c.loop-frame.invariant.base, frames_length _ _ _ e, frames_length _ _ _ d, frames_length _ _ _ pushed, c.push-then-needs_frame-2.ensures.len);
       depth = omega (arith, c.loop-frame.invariant.depth, within);
     }

@@ -1,4 +1,4 @@
--- Documents in which every index names an item and every choice is one that is listed.
+-- Documents in which every index names an item and every choice is known.
 use Rattle.std.specs.Prelude.{◌≡◌, ◌⊎◌, ℕ, ◌<◌, List, [], ◌∷◌, Bool, true}
 use Rattle.gltf_checked.specs.Keys.{Key, unknown}
 use Rattle.gltf_paths.specs.Lists.{ListName}

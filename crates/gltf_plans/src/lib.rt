@@ -16,6 +16,7 @@ mod occlusion_texture;
 mod scene;
 mod shading;
 mod sparse;
+mod sparse_values;
 mod texture;
 
 pub use next::{Coming, Next};

@@ -1,8 +1,8 @@
-//! Sparse storage of accessors.
+//! Sparse storage of accessors, and its indices.
 
 use crate::next::Coming;
 use crate::object::Object;
-use gltf_data::accessor::sparse::{Indices, Sparse, Values};
+use gltf_data::accessor::sparse::{Indices, Sparse};
 use gltf_faults::Against;
 
 impl<'a, N: Coming<'a>> Object<'a, N> for Sparse {
@@ -22,16 +22,6 @@ impl<'a, N: Coming<'a>> Object<'a, N> for Indices {
         match number {
             0 => N::member("bufferView", &self.buffer_view, context),
             1 => N::member("componentType", &self.component_type, context),
-            _ => N::done(),
-        }
-    }
-}
-
-impl<'a, N: Coming<'a>> Object<'a, N> for Values {
-    #[tactic(auto, using(crate::proofs::Past::past), unfolding(gltf_data::specs::AccessorTable::sparse_values_rows, gltf_data::specs::AccessorTrees::sparse_values_members))]
-    fn next<C: Against>(&'a self, number: usize, context: &C) -> N {
-        match number {
-            0 => N::member("bufferView", &self.buffer_view, context),
             _ => N::done(),
         }
     }

@@ -35,7 +35,7 @@ pub enum Semantic {
 
 impl Semantic {
     /// The semantic that an attribute's name means (glTF 2.0, section 3.7.2.1). Memory is taken for
-    /// the name of an application's own attribute alone.
+    /// the name of an application's own attribute alone; `Err` comes only where it was refused.
     #[tactic(auto, unfolding(crate::specs::Names::key_named))]
     pub fn checked(alloc: Global, text: &str) -> Result<Checked<Semantic>, AllocError>
         ensures key { IfOk result (λ semantic. checked_key semantic ≡ key_named text.now) }
@@ -50,7 +50,8 @@ impl Semantic {
         }
     }
 
-    /// The attribute's name that means the semantic. [`Semantic::checked`] reads it back.
+    /// The attribute's name that means the semantic. [`Semantic::checked`] reads it back. `Err` comes
+    /// only where memory was refused.
     pub fn to_string(&self, alloc: Global) -> Result<String, AllocError>
         ensures text { IfOk result (λ text. string_bytes text ≡ key_text (semantic_key self.now)) }
         ensures named { OnOk result (IsNamed (semantic_key self.now)) }
@@ -62,7 +63,8 @@ impl Semantic {
 }
 
 impl Checked<Semantic> {
-    /// The attribute's name that means the semantic, or the text that stands for none.
+    /// The attribute's name that means the semantic, or the text that stands for none. `Err` comes
+    /// only where memory was refused.
     pub fn to_string(&self, alloc: Global) -> Result<String, AllocError>
         ensures { IfOk result (λ text. string_bytes text ≡ key_text (checked_key self.now)) }
     {
@@ -121,7 +123,8 @@ fn parse_set(text: &str) -> Option<u32>
     text.parse().ok()
 }
 
-/// Appends the text of a semantic or of none.
+/// Appends the text of a semantic or of none. `Err` comes only where memory was refused; part of the
+/// text may have been appended then.
 pub fn write_semantic(text: &mut String, semantic: &Checked<Semantic>) -> Result<(), AllocError>
     ensures { OnOk result (string_bytes text.new ≡ string_bytes text.old ++ key_text (checked_key semantic.now)) }
 {

@@ -19,8 +19,8 @@ pub const ENABLED_EXTENSIONS: &[&str] = &[
     "KHR_materials_emissive_strength",
 ];
 
-/// The same names, as the ported crate calls those that its features can enable: no feature of this
-/// library leaves any out. It never goes by this list, which is for callers that ask.
+/// The extensions that the features of the ported crate can enable. They are the same names, since
+/// this library has no feature that leaves any out; nothing in it goes by this list.
 pub const SUPPORTED_EXTENSIONS: &[&str] = ENABLED_EXTENSIONS;
 
 /// The constants of this module are the names in their order.

@@ -1,11 +1,11 @@
 -- That a list has no items has one proof at most.
-use Rattle.std.specs.Prelude.{◌≡◌, List, [], ◌∷◌}
+use Rattle.std.specs.Prelude.{◌≡◌, List, [], ◌∷◌, ⊤}
 use Rattle.std.proofs.Common.{refl, sym, ◌∙◌, ap, subst}
 use mathlib.Core.HLevel.{Unit-prop}
 use mathlib.Core.Path.{path_j}
 
 abbrev HasNone : {A : Type 0} → List A → Type 0
-HasNone [] = Unit {0}
+HasNone [] = ⊤
 HasNone (x ∷ xs) = ⊥
 
 HasNone-prop : {A : Type 0} (xs : List A) → IsProp (HasNone xs)

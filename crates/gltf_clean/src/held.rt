@@ -8,6 +8,8 @@ use gltf_faults::Rules;
 use gltf_root::root::Root;
 
 /// A root that has no report under its rules.
+// Its calls are in keeping.rt: their contracts name this type, and what a file with a ghost field
+// imports must not import the file.
 #[derive(Drop)]
 pub struct Clean<'a> {
     pub(crate) rules: Rules<'a>,

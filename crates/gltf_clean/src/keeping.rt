@@ -22,7 +22,7 @@ use std::fmt::{self, Debug, Display, Formatter, Write};
 pub enum CleanError<T> {
     /// The list has 4294967295 items or more.
     Full(T),
-    /// There was no memory for one item more.
+    /// There was no memory for one more item.
     Memory(T),
     /// The item has a report where it would stand: what is wrong first.
     Faulty(T, Error),
@@ -72,7 +72,7 @@ impl<'a> Clean<'a> {
         self.root
     }
 
-    /// Appends an item to its list where it has no report there, and answers its index. It may name
+    /// Appends an item to its list where it has no report there, and returns its index. It may name
     /// items of the root and itself. Extension objects that are missing are made, as `Get::push` does.
     ///
     /// `Full` comes before any memory is taken, and `Memory` before the item is looked at. An item

@@ -7,5 +7,5 @@ mod item;
 mod keeping;
 
 pub use held::Clean;
-pub use item::{Item, TopLevelItem};
+pub use item::Item;
 pub use keeping::CleanError;

@@ -28,10 +28,7 @@ impl Schema for Stride {
     ghost present = { λ _. refl };
 
     fn decode(_alloc: Global, value: Value) -> Result<Stride, Error> {
-        match value.as_u64() {
-            Some(n) => Ok(Stride(n as usize)),
-            None => Err(Error::Schema),
-        }
+        Ok(Stride(value.as_u64().ok_or(Error::Schema)? as usize))
     }
 
     fn encode(&self, _alloc: Global) -> Result<Value, Error> {

@@ -15,7 +15,7 @@ use gltf_schema::{Error, Object, Reading, Schema, Writing};
 use serde_json::{Map, Value};
 use std::alloc::Global;
 
-/// What an image is written in: a media type, which may be another than `VALID_MIME_TYPES` lists.
+/// The media type of an image's data; it may be another than those that `VALID_MIME_TYPES` lists.
 #[derive(Clone, Debug, Drop)]
 pub struct MimeType(pub String);
 
@@ -35,12 +35,12 @@ impl Schema for MimeType {
     }
 }
 
-/// The data of a picture: in a view, or behind a URI.
+/// The data of an image: in a view, or behind a URI.
 #[derive(Clone, Debug)]
 pub struct Image {
-    /// The view that the data lies in; it and `uri` stand for each other.
+    /// The view that the data lies in; an image has it or `uri`, not both.
     pub buffer_view: Option<Index<View>>,
-    /// What the data is written in; a view needs it.
+    /// The media type of the data, which has to be there where the data lies in a view.
     pub mime_type: Option<MimeType>,
     pub name: Option<String>,
     /// Where the data lies.

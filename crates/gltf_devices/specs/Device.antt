@@ -1,5 +1,5 @@
--- What readers and writers show of their calls, and when reading to the end ends how.
-use Rattle.std.specs.Prelude.{◌≡◌, ℕ, ◌-◌, ◌^◌, ◌<◌, ◌≤◌, ◌⊎◌, min, List, length, take, Bool, true, false, Option}
+-- What readers and writers show of their calls, and how reading to the end may end.
+use Rattle.std.specs.Prelude.{◌≡◌, ℕ, ◌-◌, ◌^◌, ◌<◌, ◌≤◌, ◌⊎◌, min, List, length, take, Bool, true, false, Option, ⊤}
 use Rattle.std.specs.Io.KnownBytes.{Appends, Consumes, IsAtEnd}
 use Rattle.gltf_schema.specs.declared.error.Error.{Error}
 use Rattle.gltf_schema.specs.declared.error.Error.TheVariants as errors
@@ -40,18 +40,18 @@ pub record IsPastLimit (bytes calls : ℕ) (seen : Seen) : Type 0 where
   pub works : seen.has_failed ≡ false
   pub past : (bytes < seen.given) ⊎ ((seen.calls ≡ calls) × (seen.has_ended ≡ false))
 
--- why reading a reader that was fresh was given up: it failed, or memory was refused while it never failed, or a limit was passed
+-- why reading a reader that was fresh was given up: it failed, or memory was refused when it had not failed, or a limit was passed
 abbrev pub IsCause : ℕ → ℕ → Seen → Error → Type 0
 IsCause bytes calls seen errors.Read = seen.has_failed ≡ true
 IsCause bytes calls seen (errors.Memory e) = seen.has_failed ≡ false
 IsCause bytes calls seen errors.TooLong = IsPastLimit bytes calls seen
 IsCause bytes calls seen _ = ⊥
 
--- what reading is given up for
+-- the errors for which reading is given up
 abbrev pub IsReadError : Error → Type 0
-IsReadError errors.Read = Unit {0}
-IsReadError (errors.Memory e) = Unit {0}
-IsReadError errors.TooLong = Unit {0}
+IsReadError errors.Read = ⊤
+IsReadError (errors.Memory e) = ⊤
+IsReadError errors.TooLong = ⊤
 IsReadError _ = ⊥
 
 -- reading was given up for one of its errors, and of a fresh reader for its cause
@@ -59,7 +59,7 @@ pub record GaveUp (bytes calls : ℕ) (old new : Seen) (error : Error) : Type 0 
   pub kind : IsReadError error
   pub cause : IsFresh old → IsCause bytes calls new error
 
--- the known bytes grow by a front of these
+-- the known bytes grow by a prefix of these
 pub record AppendsFront (old new : Option (List ℕ)) (bytes : List ℕ) : Type 0 where
   pub count : ℕ
   pub within : count ≤ length bytes

@@ -6,6 +6,6 @@ use Rattle.gltf_devices.specs.declared.watched.Watched.{Watched}
 abbrev pub device_of : {D : Type 0} → Watched D → D
 device_of watched = watched.device
 
--- what its calls have shown
+-- what its reads have shown, and whether any call has failed
 abbrev pub seen_of : {D : Type 0} → Watched D → Seen
 seen_of watched = record { has_failed = watched.failed; calls = watched.calls; given = watched.given; has_ended = watched.ended }

@@ -24,8 +24,8 @@ pub trait ByteIn {
     // What the calls so far have shown.
     ghost seen: { Self → Seen };
 
-    /// Reads bytes into the front of `buf` and answers how many, or that the device refused the
-    /// call. `Ok(0)` for a slice that isn't empty is the end.
+    /// Reads bytes into the front of `buf` and returns how many. `Ok(0)` for a slice that isn't empty
+    /// is the end; `Err` comes where the device refused the call.
     fn read(&mut self, buf: &mut [u8]) -> Result<usize, Failed>
         ensures bound { IfOk result (λ n. n ≤ length buf.new) }
         ensures bytes { ReadConsumes (left self.old) (left self.new) result buf.new }
@@ -48,8 +48,8 @@ pub trait ByteOut {
     // Whether a call has failed.
     ghost has_failed: { Self → Bool };
 
-    /// Takes bytes off the front of `buf` and answers how many: at least one, if there is one. Or it
-    /// answers that the device refused the call.
+    /// Takes bytes from the front of `buf` and returns how many: at least one, if there is one. `Err`
+    /// comes where the device refused the call.
     fn write(&mut self, buf: &[u8]) -> Result<usize, Failed>
         ensures bound { IfOk result (λ n. n ≤ length buf.now) }
         ensures some { 0 < length buf.now → IfOk result (λ n. 0 < n) }
@@ -80,6 +80,7 @@ pub fn read_to_end<R: ByteIn>(
 }
 
 /// Appends all bytes up to the end, piece by piece.
+// It stands by itself, since a proof that knows what a new piece holds computes all its zeros.
 #[tactic(auto, using(crate::proofs::DeviceLemmas::reads))]
 fn fill<R: ByteIn>(
     reader: &mut R,
@@ -111,8 +112,8 @@ fn fill<R: ByteIn>(
     Err(DocumentError::TooLong)
 }
 
-/// Writes all bytes, in as many calls as the writer needs. `Err` comes where a call failed, and then a
-/// front of the bytes was taken.
+/// Writes all bytes, in as many calls as the writer needs. `Err` comes where a call failed; the writer
+/// has taken a prefix of the bytes then.
 #[tactic(auto, using(crate::proofs::WriteLemmas::writes))]
 pub fn write_all<W: ByteOut>(writer: &mut W, bytes: &[u8]) -> Result<(), Failed>
     ensures works { OnOk result (W.has_failed writer.new ≡ W.has_failed writer.old) }

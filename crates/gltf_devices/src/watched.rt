@@ -13,9 +13,13 @@ use std::io::{Read, Write};
 #[derive(Drop)]
 pub struct Watched<D> {
     device: D,
+    /// Whether a read or a write has failed.
     failed: bool,
+    /// How many reads there were.
     calls: u64,
+    /// How many bytes the reads gave.
     given: u64,
+    /// Whether the last read gave the end.
     ended: bool,
 }
 

@@ -12,4 +12,5 @@ pub mod Elsewhere
 pub mod Parting
 pub mod Primitives
 pub mod DefaultsWritten
+pub mod Silent
 pub mod Enabled

@@ -1,5 +1,5 @@
 -- Documents in which every index names an item and every choice is known.
-use Rattle.std.specs.Prelude.{◌≡◌, ◌⊎◌, ℕ, ◌<◌, List, [], ◌∷◌, Bool, true}
+use Rattle.std.specs.Prelude.{◌≡◌, ◌⊎◌, ℕ, ◌<◌, List, [], ◌∷◌, Bool, true, ⊤}
 use Rattle.gltf_checked.specs.Keys.{Key, unknown}
 use Rattle.gltf_paths.specs.Lists.{ListName}
 use Rattle.gltf_schema.specs.Tree.{Tree, index, invalid, Trees, end, with_tree, items_in, members_in, entries_in}
@@ -12,7 +12,7 @@ use Rattle.gltf_faults.specs.Reports.{animation_below}
 -- an index names one of so many items
 abbrev pub NamesItem : ℕ → Tree → Type 0
 NamesItem count (index n) = n < count
-NamesItem count _ = Unit {0}
+NamesItem count _ = ⊤
 
 -- an index names an image, or it is the number 2^32 - 1, where textures may be empty
 abbrev pub NamesImage : Bool → ℕ → Tree → Type 0
@@ -20,18 +20,18 @@ NamesImage may_be_empty count t = ((may_be_empty ≡ true) × (t ≡ index no_im
 
 abbrev pub IsListed : Tree → Type 0
 IsListed invalid = ⊥
-IsListed _ = Unit {0}
+IsListed _ = ⊤
 
 abbrev pub IsKnown : Key → Type 0
 IsKnown unknown = ⊥
-IsKnown _ = Unit {0}
+IsKnown _ = ⊤
 
 abbrev pub EntriesClosed : ℕ → List (Key × ℕ) → Type 0
-EntriesClosed count [] = Unit {0}
+EntriesClosed count [] = ⊤
 EntriesClosed count (e ∷ es) = IsKnown e.0 × (e.1 < count) × EntriesClosed count es
 
 abbrev pub EachTree : (Tree → Type 0) → Trees → Type 0
-EachTree P end = Unit {0}
+EachTree P end = ⊤
 EachTree P (with_tree t ts) = P t × EachTree P ts
 
 abbrev mutual
@@ -45,9 +45,9 @@ abbrev mutual
   IsClosed (Attributes named) t context animation = EntriesClosed (count_in named context.root) (entries_in t)
   IsClosed (ListOf kind) t context animation = EachTree (λ x. IsClosed kind x context animation) (items_in t)
   IsClosed (Object named rows keeps) t context animation = MembersClosed (members_in t) rows context (animation_below named t animation)
-  IsClosed _ t context animation = Unit {0}
+  IsClosed _ t context animation = ⊤
 
   pub MembersClosed : Trees → Rows → Context → Tree → Type 0
-  MembersClosed end rows context animation = Unit {0}
-  MembersClosed (with_tree t ts) no_rows context animation = Unit {0}
+  MembersClosed end rows context animation = ⊤
+  MembersClosed (with_tree t ts) no_rows context animation = ⊤
   MembersClosed (with_tree t ts) (row n mark kind rows) context animation = IsClosed kind t context animation × MembersClosed ts rows context animation

@@ -18,7 +18,7 @@ use gltf_animations::animation::{Animation, Channel, Sampler};
 use gltf_base::validation::Error;
 use gltf_base::{Index, IndexTo, Names};
 use gltf_root::root::{Root, RootItem};
-use gltf_textures::texture::Texture;
+use gltf_textures::texture::{NO_IMAGE, Texture};
 
 /// What is wrong with an index: `IndexOutOfBounds` where it is past the end of its list in `root`.
 pub fn index_fault<P: Names>(index: &IndexTo<P>, root: &Root) -> Option<Error>
@@ -33,13 +33,13 @@ where
     }
 }
 
-/// What is wrong with the image that a texture names. Where its number is 4294967295, which stands for
-/// none, that is `Missing`, and nothing where the rules allow it; else what is wrong with the index.
+/// What is wrong with the image that a texture names. Where its number is [`NO_IMAGE`] that is
+/// `Missing`, and nothing where the rules allow it; else what is wrong with the index.
 pub fn source_fault(texture: &Texture, context: &Context<'_>) -> Option<Error>
     ensures { (base : List Step) → found_at result base
         ≡ source_faults (context_of context.now).rules.empty_texture (count_in ListName.images (context_of context.now).root) (index_tree texture.now.source) base }
 {
-    if texture.source != Index::new(u32::MAX) {
+    if texture.source != Index::new(NO_IMAGE) {
         index_fault(&texture.source, context.root)
     } else if context.rules.empty_texture {
         None

@@ -73,7 +73,7 @@ pub fn pushes_change_one_list()
         → tree_at n (members_in (pushed named x (root_tree r))) ≡ tree_at n (members_in (root_tree r)) }
 {}
 
-/// An item more at the end of a list of a document leaves what is wrong in a value as it was, unless
+/// One more item at the end of a list of a document leaves what is wrong in a value as it was, unless
 /// some index into the list, in the value, is the very number that the item takes.
 pub fn pushes_leave_other_reports()
     ensures { (rules : Rules) (r : Document) (named : ListName) (x : Tree) (kind : Kind) (t above : Tree) (base : List Step)
@@ -81,7 +81,7 @@ pub fn pushes_leave_other_reports()
         → reports kind t (under rules (pushed named x (root_tree r))) above base ≡ reports kind t (under rules (root_tree r)) above base }
 {}
 
-/// An item more in a document without reports: what is wrong then is what is wrong with the item,
+/// One more item in a document without reports: what is wrong then is what is wrong with the item,
 /// where it stands.
 pub fn pushes_onto_clean_documents()
     ensures { (rules : Rules) (r : Document) (named : ListName) (x : Tree)

@@ -5,7 +5,7 @@ ghost use Rattle.std.specs.Map.{lookup};
 ghost use Rattle.serde_json.specs.View.{view};
 ghost use Rattle.gltf_checked.specs.Semantics.{checked_key};
 ghost use Rattle.gltf_paths.specs.Indexes.{index_number};
-ghost use Rattle.gltf_paths.specs.Steps.{Step as Mathematical};
+ghost use Rattle.gltf_paths.specs.Steps.{Step as MathematicalStep};
 ghost use Rattle.gltf_data.specs.AccessorTrees.{accessor_members};
 ghost use Rattle.gltf_meshes.specs.MeshTrees.{primitive_members};
 ghost use Rattle.gltf_schema.specs.Fields.{any_tree, attributes_tree, closed_object};
@@ -40,7 +40,7 @@ pub struct PositionFaults {
 /// their accessor, where it is there, `Missing` or, for what isn't three numbers, `Invalid`.
 #[tactic(auto, unfolding(gltf_meshes::specs::MeshTrees::primitive_members))]
 pub fn position_faults(primitive: &Primitive, root: &Root) -> PositionFaults
-    ensures { (base : List Mathematical) → found_in_positions result base
+    ensures { (base : List MathematicalStep) → found_in_positions result base
         ≡ positions_faults (lookup is_positions (entries_in (primitive_attributes (primitive_members primitive.now)))) (root_tree root.now) base }
 {
     match index_of_positions(&primitive.attributes) {
@@ -55,7 +55,7 @@ pub fn position_faults(primitive: &Primitive, root: &Root) -> PositionFaults
 
 /// What is wrong with the accessor that an index names; nothing where it names none.
 fn found_at_index(index: Index<Accessor>, root: &Root) -> PositionFaults
-    ensures { (base : List Mathematical) → found_in_positions result base
+    ensures { (base : List MathematicalStep) → found_in_positions result base
         ≡ positions_faults (Some (index_number index)) (root_tree root.now) base }
 {
     match root.get(index) {
@@ -71,7 +71,7 @@ fn found_at_index(index: Index<Accessor>, root: &Root) -> PositionFaults
 /// What is wrong with the bounds of an accessor of positions.
 #[tactic(auto, unfolding(gltf_data::specs::AccessorTrees::accessor_members))]
 fn found_in_bounds(accessor: &Accessor) -> PositionFaults
-    ensures { (base : List Mathematical) → found_in_positions result base
+    ensures { (base : List MathematicalStep) → found_in_positions result base
         ≡ bounds_faults (closed_object (accessor_members accessor.now)) base }
 {
     PositionFaults {
@@ -83,7 +83,7 @@ fn found_in_bounds(accessor: &Accessor) -> PositionFaults
 
 /// What is wrong with a bound of positions.
 fn bound_fault(bound: &Option<Value>) -> Option<Error>
-    ensures { (base : List Mathematical) → found_at result base ≡ bound_faults (tree_or_absent any_tree bound.now) base }
+    ensures { (base : List MathematicalStep) → found_at result base ≡ bound_faults (tree_or_absent any_tree bound.now) base }
 {
     match bound {
         None => Some(Error::Missing),

@@ -1,5 +1,5 @@
 -- What a run wrote, from how its document was read and what the writer took.
-use Rattle.std.proofs.Common.{◌≡◌, ◌≢◌, ◌⊎◌, inl, inr, ℕ, List, [], ◌∷◌, Bool, true, false, Option, Some, None, IfSome, IsSomeAnd, Result, Ok, Err, refl, sym, ◌∙◌, subst, arith}
+use Rattle.std.proofs.Common.{◌≡◌, ◌≢◌, ◌⊎◌, inl, inr, ℕ, List, [], ◌∷◌, Bool, true, Option, Some, None, IfSome, IsSomeAnd, Result, Ok, Err, refl, sym, ◌∙◌, subst, arith}
 use Rattle.std.proofs.lemmas.Bool.{true≢false}
 use Rattle.std.specs.Io.KnownBytes.{Appends}
 use Rattle.gltf_schema.specs.declared.error.Error.{Error}
@@ -12,7 +12,7 @@ use Rattle.gltf_sinks.specs.Report.{Report}
 use Rattle.gltf_root.specs.RootTrees.{root_tree}
 use Rattle.gltf_root.specs.declared.root.Root.{Root}
 use Rattle.gltf_lines.specs.Output.{Output, answer_output, reports_output, output, refusal}
-use Rattle.gltf_lines.specs.Run.{IsRun, IsWritten, reading_output}
+use Rattle.gltf_lines.specs.Run.{BrokeOff, IsRun, IsWhole, IsWritten, reading_output}
 
 -- no output of an answer has the refusal's status
 reports_output-status : (rs : List Report) → (reports_output rs).status ≢ 4
@@ -30,50 +30,49 @@ output-told : (rules : Rules) (input : Option (List ℕ)) (a : Answer) (P : Outp
 output-told rules None a P told h = tt
 output-told rules (Some bytes) a P told h = subst (λ x. P (answer_output rules x)) (sym told) h
 
-module _ (rules : Rules) (input old new : Option (List ℕ)) where
+module _ (rules : Rules) (input old new : Option (List ℕ)) (failed_before failed : Bool) (status : ℕ) where
   -- the refusal was written
-  IsRun-refused : (failed : Bool) (status : ℕ) → IsWritten refusal old new failed status → IsRun rules input old new failed status
-  IsRun-refused false status h = record {
-    answered = λ some. absurd (some (h.whole refl).0);
-    refused = λ _ _. (h.whole refl).1;
-    broke_off = λ e. absurd (true≢false (sym e));
+  IsRun-refused : IsWhole refusal old new failed_before failed status ⊎ BrokeOff refusal.text old new failed status → IsRun rules input old new failed_before failed status
+  IsRun-refused (inl whole) = record {
+    answered = λ some. absurd (some whole.answered);
+    refused = λ _. inl whole;
   }
-  IsRun-refused true status h = record {
-    answered = λ some. absurd (some (h.front refl).0);
-    refused = λ _ e. absurd (true≢false e);
-    broke_off = λ _. ((h.front refl).0, inl (h.front refl).1);
+  IsRun-refused (inr broke) = record {
+    answered = λ some. absurd (some broke.answered);
+    refused = λ _. inr (inl broke);
   }
 
   -- the output of the answer was written
-  IsRun-answered : (a : Answer) (failed : Bool) (status : ℕ) → IfSome input (λ bytes. answer bytes ≡ a) → IsWritten (answer_output rules a) old new failed status
-      → IsRun rules input old new failed status
-  IsRun-answered a false status told h = record {
-    answered = λ _. (refl, output-told rules input a (λ due. (status ≡ due.status) × Appends old new due.text) told (h.whole refl));
-    refused = λ four _. absurd (answer_output-status rules a (sym (h.whole refl).0 ∙ four));
-    broke_off = λ e. absurd (true≢false (sym e));
+  IsRun-answered : (a : Answer) → IfSome input (λ bytes. answer bytes ≡ a)
+      → IsWhole (answer_output rules a) old new failed_before failed status ⊎ BrokeOff (answer_output rules a).text old new failed status → IsRun rules input old new failed_before failed status
+  IsRun-answered a told (inl whole) = record {
+    answered = λ _. (whole.works, output-told rules input a (λ due. (status ≡ due.status) × Appends old new due.text) told (whole.answered, whole.appends));
+    refused = λ four. absurd (answer_output-status rules a (sym whole.answered ∙ four));
   }
-  IsRun-answered a true status told h = record {
-    answered = λ some. absurd (some (h.front refl).0);
-    refused = λ _ e. absurd (true≢false e);
-    broke_off = λ _. ((h.front refl).0, inr (output-told rules input a (λ due. AppendsFront old new due.text) told (h.front refl).1));
+  IsRun-answered a told (inr broke) = record {
+    answered = λ some. absurd (some broke.answered);
+    refused = λ _. inr (inr (broke.fails, output-told rules input a (λ due. AppendsFront old new due.text) told broke.front));
   }
 
-  IsRun-read : (r : Result Root Error) (failed : Bool) (status : ℕ) → IfSome input (λ bytes. IsReadAnswer (answer bytes) r)
-      → IsSomeAnd (reading_output rules r) (λ due. IsWritten due old new failed status) → IsRun rules input old new failed status
-  IsRun-read (Ok root) failed status told h = IsRun-answered (document (root_tree root)) failed status told h
-  IsRun-read (Err Json) failed status told h = IsRun-answered no_json failed status told h
-  IsRun-read (Err Schema) failed status told h = IsRun-answered no_document failed status told h
-  IsRun-read (Err (Memory e)) failed status told h = absurd h
-  IsRun-read (Err Read) failed status told h = absurd h
-  IsRun-read (Err Write) failed status told h = absurd h
-  IsRun-read (Err TooLong) failed status told h = absurd h
-  IsRun-read (Err InvalidItem) failed status told h = absurd h
+  IsRun-read : (r : Result Root Error) → IfSome input (λ bytes. IsReadAnswer (answer bytes) r)
+      → IsSomeAnd (reading_output rules r) (λ due. IsWritten due old new failed_before failed status) → IsRun rules input old new failed_before failed status
+  unfolding IsWritten
+  IsRun-read (Ok root) told h = IsRun-answered (document (root_tree root)) told h
+  IsRun-read (Err Json) told h = IsRun-answered no_json told h
+  IsRun-read (Err Schema) told h = IsRun-answered no_document told h
+  IsRun-read (Err (Memory e)) told h = absurd h
+  IsRun-read (Err Read) told h = absurd h
+  IsRun-read (Err Write) told h = absurd h
+  IsRun-read (Err TooLong) told h = absurd h
+  IsRun-read (Err InvalidItem) told h = absurd h
 
   -- one of the two was written, by how the document was read
-  pub IsRun-either : (r : Result Root Error) (failed : Bool) (status : ℕ) → IfSome input (λ bytes. IsReadAnswer (answer bytes) r)
-      → IsWritten refusal old new failed status ⊎ IsSomeAnd (reading_output rules r) (λ due. IsWritten due old new failed status) → IsRun rules input old new failed status
-  IsRun-either r failed status told (inl h) = IsRun-refused failed status h
-  IsRun-either r failed status told (inr h) = IsRun-read r failed status told h
+  pub IsRun-either : (r : Result Root Error) → IfSome input (λ bytes. IsReadAnswer (answer bytes) r)
+      → IsWritten refusal old new failed_before failed status ⊎ IsSomeAnd (reading_output rules r) (λ due. IsWritten due old new failed_before failed status)
+      → IsRun rules input old new failed_before failed status
+  unfolding IsWritten
+  IsRun-either r told (inl h) = IsRun-refused h
+  IsRun-either r told (inr h) = IsRun-read r told h
 
 -- there is no output, or a fresh reader was read within the limits
 none-or-read : (rules : Rules) (bytes calls : ℕ) (seen : Seen) (r : Result Root Error) → IsReading bytes calls seen r → (reading_output rules r ≡ None) ⊎ IsWithin bytes calls seen
@@ -85,6 +84,18 @@ none-or-read rules bytes calls seen (Err Read) h = inl refl
 none-or-read rules bytes calls seen (Err Write) h = inl refl
 none-or-read rules bytes calls seen (Err TooLong) h = inl refl
 none-or-read rules bytes calls seen (Err InvalidItem) h = inl refl
+
+-- the output of a document that was refused
+pub json-output : (rules : Rules) (r : Result Root Error) (P : Output → Type 0) → r ≡ Err Json → P (answer_output rules no_json) → IsSomeAnd (reading_output rules r) P
+json-output rules r P is h = subst (λ (x : Result Root Error). IsSomeAnd (reading_output rules x) P) (sym is) h
+
+pub schema-output : (rules : Rules) (r : Result Root Error) (P : Output → Type 0) → r ≡ Err Schema → P (answer_output rules no_document) → IsSomeAnd (reading_output rules r) P
+schema-output rules r P is h = subst (λ (x : Result Root Error). IsSomeAnd (reading_output rules x) P) (sym is) h
+
+-- the same either way
+pub same-either : {A : Type 0} → A ⊎ A → A
+same-either (inl a) = a
+same-either (inr a) = a
 
 -- of two things one of which holds, the one holds where the other doesn't
 first-of : {A B : Type 0} → A ⊎ B → (B → ⊥) → A

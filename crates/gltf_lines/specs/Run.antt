@@ -1,5 +1,5 @@
 -- What a run has written and answered.
-use Rattle.std.specs.Prelude.{◌≡◌, ◌≢◌, ◌⊎◌, ℕ, List, Bool, true, false, Option, Some, None, IfSome, Result, Ok, Err}
+use Rattle.std.specs.Prelude.{◌≡◌, ◌≢◌, ◌⊎◌, ℕ, List, Bool, true, Option, Some, None, IfSome, Result, Ok, Err}
 use Rattle.std.specs.Io.KnownBytes.{Appends}
 use Rattle.gltf_schema.specs.declared.error.Error.{Error}
 use Rattle.gltf_schema.specs.declared.error.Error.TheVariants as errors
@@ -10,20 +10,30 @@ use Rattle.gltf_root.specs.RootTrees.{root_tree}
 use Rattle.gltf_root.specs.declared.root.Root.{Root}
 use Rattle.gltf_lines.specs.Output.{Output, answer_output, output, refusal}
 
--- by the rules, the bytes that the reader told at the start, if any, what the writer told before and after, whether it has failed then
--- though it hadn't before, and the status
-pub record IsRun (rules : Rules) (input old new : Option (List ℕ)) (failed : Bool) (status : ℕ) : Type 0 where
-  -- the bytes' output is written
-  pub answered : status ≢ 4 → (failed ≡ false) × IfSome input (λ bytes. (status ≡ (output rules bytes).status) × Appends old new (output rules bytes).text)
-  -- the refusal is written
-  pub refused : status ≡ 4 → failed ≡ false → Appends old new refusal.text
-  -- a front of one of the two is written
-  pub broke_off : failed ≡ true → (status ≡ 4) × (AppendsFront old new refusal.text ⊎ IfSome input (λ bytes. AppendsFront old new (output rules bytes).text))
+-- an output was written whole, and the writer failed no more than it had before
+pub record IsWhole (due : Output) (old new : Option (List ℕ)) (failed_before failed : Bool) (status : ℕ) : Type 0 where
+  pub answered : status ≡ due.status
+  pub works : failed ≡ failed_before
+  pub appends : Appends old new due.text
+
+-- the writer failed, behind a front of a text
+pub record BrokeOff (text : List ℕ) (old new : Option (List ℕ)) (failed : Bool) (status : ℕ) : Type 0 where
+  pub answered : status ≡ 4
+  pub fails : failed ≡ true
+  pub front : AppendsFront old new text
 
 -- an output was written, as far as the writer took it
-pub record IsWritten (due : Output) (old new : Option (List ℕ)) (failed : Bool) (status : ℕ) : Type 0 where
-  pub whole : failed ≡ false → (status ≡ due.status) × Appends old new due.text
-  pub front : failed ≡ true → (status ≡ 4) × AppendsFront old new due.text
+unfoldable pub IsWritten : Output → Option (List ℕ) → Option (List ℕ) → Bool → Bool → ℕ → Type 0
+IsWritten due old new failed_before failed status = IsWhole due old new failed_before failed status ⊎ BrokeOff due.text old new failed status
+
+-- by the rules, the bytes that the reader told at the start, if any, what the writer told before and after, whether it had failed
+-- before and has failed then, and the status
+pub record IsRun (rules : Rules) (input old new : Option (List ℕ)) (failed_before failed : Bool) (status : ℕ) : Type 0 where
+  -- the bytes' output is written
+  pub answered : status ≢ 4 → (failed ≡ failed_before) × IfSome input (λ bytes. (status ≡ (output rules bytes).status) × Appends old new (output rules bytes).text)
+  -- the refusal is written, or the writer failed behind a front of one of the two
+  pub refused : status ≡ 4 → IsWhole refusal old new failed_before failed status ⊎ BrokeOff refusal.text old new failed status
+      ⊎ ((failed ≡ true) × IfSome input (λ bytes. AppendsFront old new (output rules bytes).text))
 
 -- a reader that was fresh gave its end within the limits of a document
 abbrev pub IsReadWhole : Seen → Type 0

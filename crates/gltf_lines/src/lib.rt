@@ -1,7 +1,7 @@
 //! Reads a document and writes what is wrong in it, a line for each report.
 #![tactic(auto)]
 
-ghost use Rattle.std.specs.Prelude.{◌≡◌, ◌≢◌, ◌≤◌, ◌⊎◌, false, true, None, IsSomeAnd};
+ghost use Rattle.std.specs.Prelude.{◌≡◌, ◌≢◌, ◌≤◌, ◌⊎◌, true, None, IsSomeAnd};
 ghost use Rattle.gltf_devices.specs.Device.{IsFresh, AppendsFront};
 ghost use Rattle.gltf_faults.specs.Context.{rules_of, standard_rules};
 ghost use Rattle.gltf_lines.specs.Output.{refusal};
@@ -22,7 +22,7 @@ use writing::write_output;
 const REFUSAL: &str = "refused: input or output\n";
 
 /// Reads a document to its end and writes a line for each report, `clean` where there is none, or
-/// why the document was refused. It answers the exit status:
+/// why the document was refused. It returns the exit status:
 ///
 /// | Status | Output |
 /// |---|---|
@@ -30,13 +30,14 @@ const REFUSAL: &str = "refused: input or output\n";
 /// | 1 | a line `path: error` for each report, in order |
 /// | 2 | `refused: not JSON` |
 /// | 3 | `refused: not a glTF document` |
-/// | 4 | `refused: input or output`, where the reader failed, a limit of [`Root::from_reader`] was passed or memory was refused; a front of the output that was due, where the writer failed |
+/// | 4 | `refused: input or output`, where the reader failed, a limit of [`Root::from_reader`] was passed or memory was refused; a prefix of the output that was due, where the writer failed |
 ///
-/// The whole output is made before its first byte is written.
+/// The whole output is made before its first byte is written. Paths escape nothing, so a report on a
+/// name with a newline in it takes more than one line.
 pub fn run<R: ByteIn, W: ByteOut>(alloc: Global, reader: &mut R, writer: &mut W) -> u8
     ensures status { result ≤ 4 }
-    ensures run { W.has_failed writer.old ≡ false → IsRun standard_rules (R.left reader.old) (W.taken writer.old)
-        (W.taken writer.new) (W.has_failed writer.new) result }
+    ensures run { IsRun standard_rules (R.left reader.old) (W.taken writer.old) (W.taken writer.new)
+        (W.has_failed writer.old) (W.has_failed writer.new) result }
     ensures reader_failed { IsFresh (R.seen reader.old) → (R.seen reader.new).has_failed ≡ true
         → (result ≡ 4) × AppendsFront (W.taken writer.old) (W.taken writer.new) refusal.text }
     ensures not_read { IsFresh (R.seen reader.old) → ¬ (IsReadWhole (R.seen reader.new))
@@ -54,8 +55,8 @@ pub fn run_with<R: ByteIn, W: ByteOut>(
     writer: &mut W,
 ) -> u8
     ensures status { result ≤ 4 }
-    ensures run { W.has_failed writer.old ≡ false → IsRun (rules_of rules.now) (R.left reader.old) (W.taken writer.old)
-        (W.taken writer.new) (W.has_failed writer.new) result }
+    ensures run { IsRun (rules_of rules.now) (R.left reader.old) (W.taken writer.old) (W.taken writer.new)
+        (W.has_failed writer.old) (W.has_failed writer.new) result }
     ensures reader_failed { IsFresh (R.seen reader.old) → (R.seen reader.new).has_failed ≡ true
         → (result ≡ 4) × AppendsFront (W.taken writer.old) (W.taken writer.new) refusal.text }
     ensures not_read { IsFresh (R.seen reader.old) → ¬ (IsReadWhole (R.seen reader.new))
@@ -76,10 +77,9 @@ fn answer<W: ByteOut>(
     ensures status { result ≤ 4 }
     ensures given_up { reading_output (rules_of rules.now) reading.now ≡ None
         → (result ≡ 4) × AppendsFront (W.taken writer.old) (W.taken writer.new) refusal.text }
-    ensures written { W.has_failed writer.old ≡ false
-        → IsWritten refusal (W.taken writer.old) (W.taken writer.new) (W.has_failed writer.new) result
+    ensures written { IsWritten refusal (W.taken writer.old) (W.taken writer.new) (W.has_failed writer.old) (W.has_failed writer.new) result
         ⊎ IsSomeAnd (reading_output (rules_of rules.now) reading.now) (λ due.
-        IsWritten due (W.taken writer.old) (W.taken writer.new) (W.has_failed writer.new) result) }
+        IsWritten due (W.taken writer.old) (W.taken writer.new) (W.has_failed writer.old) (W.has_failed writer.new) result) }
 {
     match reading {
         Ok(root) => match lines_of(alloc, rules, root) {

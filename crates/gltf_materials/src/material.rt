@@ -22,7 +22,7 @@ use std::alloc::Global;
 /// How a surface looks.
 #[derive(Clone, Debug)]
 pub struct Material {
-    /// Below which alpha nothing is shown where `alpha_mode` is `Mask`; without it one half.
+    /// The alpha below which nothing is shown where `alpha_mode` is `Mask`; without it one half.
     pub alpha_cutoff: Option<AlphaCutoff>,
     /// How the alpha of the base color is used.
     pub alpha_mode: Checked<AlphaMode>,
@@ -33,9 +33,9 @@ pub struct Material {
     pub pbr_metallic_roughness: PbrMetallicRoughness,
     /// Normals in tangent space.
     pub normal_texture: Option<NormalTexture>,
-    /// How much indirect light reaches a place.
+    /// How much indirect light reaches each point of the surface.
     pub occlusion_texture: Option<OcclusionTexture>,
-    /// The color of the light that the surface sends out.
+    /// The color of the light that the surface emits.
     pub emissive_texture: Option<Info>,
     /// The factors of that color.
     pub emissive_factor: EmissiveFactor,
@@ -63,7 +63,7 @@ impl Drop for Material {
 }
 
 impl Material {
-    /// A material that says nothing.
+    /// A material with every member at its default.
     #[tactic(auto, unfolding(crate::specs::MaterialTable::material_rows, crate::specs::MaterialTrees::material_members))]
     pub fn new() -> Material
         ensures { material_members result ≡ defaults material_rows }
@@ -163,12 +163,12 @@ pub struct PbrMetallicRoughness {
     pub extras: Extras,
     /// The base color.
     pub base_color_texture: Option<Info>,
-    /// How rough the surface is, by green, and how metallic, by blue.
+    /// How rough the surface is, in the green channel, and how metallic, in the blue one.
     pub metallic_roughness_texture: Option<Info>,
 }
 
 impl PbrMetallicRoughness {
-    /// Parameters that say nothing.
+    /// Parameters with every member at its default.
     #[tactic(auto, unfolding(crate::specs::MaterialTable::pbr_metallic_roughness_rows, crate::specs::MaterialTrees::pbr_metallic_roughness_members))]
     pub fn new() -> PbrMetallicRoughness
         ensures { pbr_metallic_roughness_members result ≡ defaults pbr_metallic_roughness_rows }
@@ -346,7 +346,7 @@ impl Object for OcclusionTexture {
     }
 }
 
-/// Below which alpha nothing is shown.
+/// The alpha below which nothing is shown.
 #[derive(Clone, Debug, Drop)]
 pub struct AlphaCutoff(pub Real);
 

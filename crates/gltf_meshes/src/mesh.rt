@@ -93,12 +93,13 @@ impl Object for Mesh {
 // What takes longest to drop stands last (docs/DECISIONS.md).
 #[derive(Clone, Debug, Drop)]
 pub struct Primitive {
-    /// The numbers of the vertices in the order in which they are drawn; without it all are, as they lie.
+    /// The numbers of the vertices in drawing order; without it all vertices are drawn, in the order in
+    /// which they lie.
     pub indices: Option<Index<Accessor>>,
     pub material: Option<Index<Material>>,
     /// What the vertices are drawn as.
     pub mode: Checked<Mode>,
-    /// The data of each vertex, by what it means.
+    /// The data of the vertices, by what it means.
     pub attributes: BTreeMap<Checked<Semantic>, Index<Accessor>>,
     /// What can be added to the attributes, by the mesh's weights.
     pub targets: Option<Vec<MorphTarget>>,

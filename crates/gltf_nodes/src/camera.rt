@@ -153,13 +153,13 @@ impl Object for Orthographic {
 /// A projection with perspective.
 #[derive(Clone, Debug, Drop)]
 pub struct Perspective {
-    /// The width that is seen, by its height; without it that of the viewport.
+    /// The width of the view divided by its height; without it that of the viewport.
     pub aspect_ratio: Option<Real>,
-    /// The angle that is seen from top to bottom, in radians.
+    /// The angle of the view from top to bottom, in radians.
     pub yfov: Real,
-    /// How far away the last is that is seen, in meters; without it there is no end.
+    /// How far away the far end of the view is, in meters; without it there is none.
     pub zfar: Option<Real>,
-    /// How far away the first is that is seen, in meters.
+    /// How far away the near end of the view is, in meters.
     pub znear: Real,
     pub extensions: Option<extensions::camera::Perspective>,
     pub extras: Extras,

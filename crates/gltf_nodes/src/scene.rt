@@ -29,7 +29,7 @@ pub struct Node {
     pub name: Option<String>,
     /// The nodes that move with this one.
     pub children: Option<Vec<Index<Node>>>,
-    /// How much of each morph target of the mesh is added; without it the mesh says it.
+    /// How much of each morph target of the mesh is added; without it the mesh's own weights hold.
     pub weights: Option<Vec<Real>>,
     /// How the node stands in its parent, as a matrix by columns.
     pub matrix: Option<[Real; 16]>,
@@ -64,7 +64,7 @@ impl Drop for Node {
 }
 
 impl Node {
-    /// A node that says nothing.
+    /// A node with every member at its default.
     #[tactic(auto, unfolding(crate::specs::SceneTable::node_rows, crate::specs::SceneTrees::node_members))]
     pub fn new() -> Node
         ensures { node_members result ≡ defaults node_rows }

@@ -58,8 +58,8 @@ impl<T> Index<T> {
         self.0 as usize
     }
 
-    /// Appends an item to its list, and answers its index. A list of 4294967295 items or more is
-    /// full, which is told before any memory is taken.
+    /// Appends an item to its list, and returns its index. `Full` comes for a list of 4294967295 items
+    /// or more, before any memory is taken; `Memory` where the list could not grow.
     pub fn push(list: &mut Vec<T>, item: T) -> Result<Index<T>, PushError<T>>
         ensures pushed { IfOk result (λ index. (index_number index ≡ vec_len list.old)
             × (list.new.items ≡ list.old.items ++ item ∷ [])) }
@@ -83,7 +83,7 @@ impl<T> Index<T> {
 pub enum PushError<T> {
     /// The list has 4294967295 items or more.
     Full(T),
-    /// There was no memory for one item more.
+    /// There was no memory for one more item.
     Memory(T),
 }
 

@@ -74,7 +74,8 @@ impl KeyStep for Checked<Semantic> {
 pub struct Path(pub String);
 
 impl Path {
-    /// The text of the steps, applied from the left to the empty path.
+    /// The text of the steps, applied from the left to the empty path. Here and in the calls below
+    /// `Err` comes only where memory was refused.
     pub fn of(alloc: Global, steps: &Steps<'_>) -> Result<Path, AllocError>
         ensures { IfOk result (λ path. string_bytes path.0 ≡ path_text (steps_of steps.now)) }
     {

@@ -2,9 +2,9 @@
 use Rattle.std.proofs.Common.{◌≡◌, ℕ, zero, suc, ◌+◌, ◌≤◌, ◌<◌, List, [], ◌∷◌, length, map, get_or, refl, subst, ap, arith}
 use Rattle.gltf_paths.specs.Steps.{item}
 use Rattle.gltf_schema.specs.Tree.{Tree, trees}
-use Rattle.gltf_visits.specs.Plan.{Plan, place, down, over, at, counts}
+use Rattle.gltf_visits.specs.Plan.{Plan, place, down, over, at}
 use Rattle.gltf_visits.specs.Planned.{item_plans}
-use Rattle.gltf_plans.proofs.Past.{past}
+use Rattle.gltf_plans.proofs.Past.{counts, past}
 
 item_there : {X : Type 0} (f : Tree → Plan) (tree : X → Tree) (xs : List X) (i n : ℕ) (x : X) → n < length xs → x ≡ get_or xs n x
     → down (item (i + n)) (f (tree x)) ≡ at (place (item_plans f i (trees (map tree xs))) []) n

@@ -1,7 +1,12 @@
 -- Past its last move a plan is over.
 use Rattle.std.proofs.Common.{◌≡◌, ℕ, zero, suc, ◌+◌, ◌≤◌, List, [], ◌∷◌, length, Option, Some, None, refl, arith}
 use Rattle.gltf_paths.specs.declared.validation.Error.{Error}
-use Rattle.gltf_visits.specs.Plan.{Plans, place, nothing, below, errors, at, over, counts}
+use Rattle.gltf_visits.specs.Plan.{Plans, place, nothing, below, errors, at, over}
+
+-- how many steps down a plan has
+abbrev pub counts : Plans → ℕ
+counts nothing = 0
+counts (below s p ps) = suc (counts ps)
 
 pub past : (ps : Plans) (es : List Error) (n : ℕ) → counts ps + length es ≤ n → over ≡ at (place ps es) n
 past nothing [] zero l = refl

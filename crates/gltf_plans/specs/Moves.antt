@@ -1,4 +1,5 @@
 -- What is answered of what comes next.
+use Rattle.std.specs.Prelude.{⊤}
 use Rattle.gltf_paths.specs.Steps.{step_of}
 use Rattle.gltf_faults.specs.Context.{Context}
 use Rattle.gltf_visits.specs.Parts.{plan_of}
@@ -15,4 +16,4 @@ move_of context next.Done = over
 -- something comes
 abbrev pub IsMore : Next → Type 0
 IsMore next.Done = ⊥
-IsMore _ = Unit {0}
+IsMore _ = ⊤

@@ -25,8 +25,8 @@ pub enum Next<'a> {
     Done,
 }
 
-/// What is answered of what comes next in an object or a list. That is a [`Next`]; who makes it by these
-/// calls alone need not know the parts of a whole document.
+/// What an object or a list says of what comes next in it. That is a [`Next`]; code that makes one by
+/// these calls alone need not know the parts of a whole document.
 pub trait Coming<'a>: Sized {
     ghost moved: { Mathematical → Self → Move };
 

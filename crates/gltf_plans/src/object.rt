@@ -9,7 +9,8 @@ use crate::next::Coming;
 use gltf_faults::Against;
 use gltf_visits::Visited;
 
-/// An object in whose members something can be wrong.
+/// An object in whose members something can be wrong. (How objects are read and written is another
+/// trait, `gltf_schema::Object`.)
 pub trait Object<'a, N: Coming<'a>>: Visited {
     /// What comes at a number: the members in which something can be wrong, in the rows' order, and
     /// then what the object's rule speaks of.

@@ -2,7 +2,7 @@
 //! line for each report.
 #![tactic(auto)]
 
-ghost use Rattle.std.specs.Prelude.{◌≡◌, ◌≢◌, ◌≤◌, false};
+ghost use Rattle.std.specs.Prelude.{◌≡◌, ◌≢◌, ◌≤◌};
 ghost use Rattle.std.specs.Process.{exit_status};
 ghost use Rattle.gltf_devices.specs.Device.{IsFresh};
 ghost use Rattle.gltf_faults.specs.Context.{standard_rules};
@@ -18,8 +18,8 @@ pub use gltf_lines::{run, run_with};
 /// Runs, and makes the status of the run that of the program.
 fn exit_code<R: ByteIn, W: ByteOut>(alloc: Global, reader: &mut R, writer: &mut W) -> ExitCode
     ensures status { exit_status result ≤ 4 }
-    ensures run { W.has_failed writer.old ≡ false → IsRun standard_rules (R.left reader.old) (W.taken writer.old)
-        (W.taken writer.new) (W.has_failed writer.new) (exit_status result) }
+    ensures run { IsRun standard_rules (R.left reader.old) (W.taken writer.old) (W.taken writer.new)
+        (W.has_failed writer.old) (W.has_failed writer.new) (exit_status result) }
     ensures within { IsFresh (R.seen reader.old) → exit_status result ≢ 4 → IsReadWhole (R.seen reader.new) }
 {
     ExitCode::from(run(alloc, reader, writer))

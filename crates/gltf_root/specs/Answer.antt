@@ -1,5 +1,5 @@
 -- What the bytes of a document are read as.
-use Rattle.std.specs.Prelude.{◌≡◌, ℕ, List, Option, Some, None, if◌then◌else◌, Result, Ok, Err}
+use Rattle.std.specs.Prelude.{◌≡◌, ℕ, List, Option, Some, None, if◌then◌else◌, Result, Ok, Err, ⊤}
 use Rattle.std.specs.Str.{is_utf8}
 use Rattle.serde_json.specs.Data.{Data}
 use Rattle.serde_json.specs.Read.{read as read_json}
@@ -34,29 +34,29 @@ abbrev pub IsAnswer : Answer → Result Root Error → Type 0
 IsAnswer due (Ok root) = due ≡ document (root_tree root)
 IsAnswer due (Err errors.Json) = due ≡ no_json
 IsAnswer due (Err errors.Schema) = due ≡ no_document
-IsAnswer due (Err (errors.Memory e)) = Unit {0}
+IsAnswer due (Err (errors.Memory e)) = ⊤
 IsAnswer due (Err _) = ⊥
 
 -- the same, where reading may also have been given up before the end
 abbrev pub IsReadAnswer : Answer → Result Root Error → Type 0
-IsReadAnswer due (Err errors.Read) = Unit {0}
-IsReadAnswer due (Err errors.TooLong) = Unit {0}
+IsReadAnswer due (Err errors.Read) = ⊤
+IsReadAnswer due (Err errors.TooLong) = ⊤
 IsReadAnswer due result = IsAnswer due result
 
--- what is answered in the place of a document: that the bytes are none, or what reading was given up for
+-- what comes in place of a document: that the bytes are no document, or why reading was given up
 abbrev pub IsRefusal : Error → Type 0
-IsRefusal errors.Json = Unit {0}
-IsRefusal errors.Schema = Unit {0}
+IsRefusal errors.Json = ⊤
+IsRefusal errors.Schema = ⊤
 IsRefusal e = IsReadError e
 
--- what a document may have of bytes, and its reader of calls, that of the end among them
+-- how many bytes a document may have, and how many calls its reader may take, the one at the end among them
 abbrev pub byte_limit : ℕ
 byte_limit = 1073741824
 
 abbrev pub call_limit : ℕ
 call_limit = 2147483648
 
--- how a reader that was fresh was read: to its end within the limits, or not, for the cause that is answered
+-- how a reader that was fresh was read: to its end within the limits, or not, for the cause that the error tells
 abbrev pub IsReading : ℕ → ℕ → Seen → Result Root Error → Type 0
 IsReading bytes calls seen (Ok root) = IsWithin bytes calls seen
 IsReading bytes calls seen (Err errors.Json) = IsWithin bytes calls seen

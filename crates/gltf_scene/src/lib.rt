@@ -50,7 +50,7 @@ pub mod extensions {
     pub mod scene {
         pub use gltf_nodes::extensions::scene::{Node, Scene};
 
-        /// Lights at points of a scene.
+        /// Punctual lights.
         pub mod khr_lights_punctual {
             pub use gltf_base::extensions::scene::khr_lights_punctual::{
                 LightType, Type, VALID_TYPES,

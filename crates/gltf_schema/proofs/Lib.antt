@@ -11,5 +11,6 @@ pub mod ArrayOfNumbers
 pub mod ReadPlain
 pub mod Entries
 pub mod AttributesRead
+pub mod LastNames
 pub mod RefusedWhereInvalid
 pub mod WrittenWhereValid

@@ -13,7 +13,7 @@ use Rattle.gltf_schema.specs.Tree.{Tree, Trees, end, with_tree}
 use Rattle.gltf_schema.specs.Kind.{Mark, required, optional, always, unless, sometimes, or_null, Kind, IndexInto, SourceImage, ChannelSampler, U32, U64, Stride, Number, Numbers, Text, Truth, Any, Choice, Attributes, ListOf, Object, Rows, no_rows, row}
 use Rattle.gltf_schema.specs.Read.{read, read_rows, read_items, read_member, read_entries, all_numbers, spelling_in, choice_among, small_number, whole_number, kept}
 use Rattle.gltf_schema.specs.Write.{write, write_rows, write_items, write_member, write_entries, written, leaves_out, is_default, is_named, key_name, small_data, are_in_order}
-use Rattle.gltf_schema.specs.Invalid.{is_unknown, any_unknown, holds_invalid, any_holds_invalid, has_written_default, writes_defaults, write_defaults}
+use Rattle.gltf_schema.specs.Invalid.{is_unknown, any_unknown, holds_invalid, any_holds_invalid, has_written_default, has_written_defaults, have_written_defaults}
 use Rattle.gltf_schema.proofs.TakingOut.{first_of_both, second_of_both, neither}
 use Rattle.gltf_schema.proofs.PuttingIn.{or_right}
 use Rattle.gltf_schema.proofs.ReadPlain.{mapped, bound}
@@ -156,7 +156,7 @@ index_written d n h = rw (small_is d n h) refl
 
 mutual
   -- by any kind whose defaults are written
-  valid_written : (kind : Kind) (d : Data) (t : Tree) → writes_defaults kind ≡ true → read kind d ≡ Some t → holds_invalid t ≡ false → is_some (write kind t) ≡ true
+  valid_written : (kind : Kind) (d : Data) (t : Tree) → has_written_defaults kind ≡ true → read kind d ≡ Some t → holds_invalid t ≡ false → is_some (write kind t) ≡ true
   valid_written (IndexInto named) d t defaults h valid = let n = mapped tree.index (small_number d) t h in rw (← n.2) (index_written d n.0 n.1)
   valid_written SourceImage d t defaults h valid = let n = mapped tree.index (small_number d) t h in rw (← n.2) (index_written d n.0 n.1)
   valid_written ChannelSampler d t defaults h valid = let n = mapped tree.index (small_number d) t h in rw (← n.2) (index_written d n.0 n.1)
@@ -191,16 +191,16 @@ mutual
       rw (← ts.2) (some_mapped json_object (write_rows rows ts.0 (kept keeps rows ms.0))
       (rows_written rows ms.0 ts.0 defaults ts.1 (ap holds_invalid ts.2 ∙ valid) (kept keeps rows ms.0)))
 
-  rows_written : (rows : Rows) (ms : Members) (ts : Trees) → write_defaults rows ≡ true → read_rows rows ms ≡ Some ts → any_holds_invalid ts ≡ false → (old : Members) → is_some (write_rows rows ts old) ≡ true
+  rows_written : (rows : Rows) (ms : Members) (ts : Trees) → have_written_defaults rows ≡ true → read_rows rows ms ≡ Some ts → any_holds_invalid ts ≡ false → (old : Members) → is_some (write_rows rows ts old) ≡ true
   rows_written no_rows ms ts defaults h valid old = rw (← inside end ts h) refl
   rows_written (row n mark kind rows) ms ts defaults h valid old =
       let first = bound (read_member mark (read kind) (get_member n ms)) _ ts h in
       let later = mapped (with_tree first.0) (read_rows rows ms) ts first.2 in
       let apart = neither (holds_invalid first.0) (any_holds_invalid later.0) (ap any_holds_invalid later.2 ∙ valid) in
-      let two = first_of_both (has_written_default mark kind && writes_defaults kind) (write_defaults rows) defaults in
-      let inner = second_of_both (has_written_default mark kind) (writes_defaults kind) two in
-      let rest = second_of_both (has_written_default mark kind && writes_defaults kind) (write_defaults rows) defaults in
-      let done = member_done mark kind (get_member n ms) first.0 (first_of_both (has_written_default mark kind) (writes_defaults kind) two) (λ d g. valid_written kind d first.0 inner g apart.0) first.1 in
+      let two = first_of_both (has_written_default mark kind && has_written_defaults kind) (have_written_defaults rows) defaults in
+      let inner = second_of_both (has_written_default mark kind) (has_written_defaults kind) two in
+      let rest = second_of_both (has_written_default mark kind && has_written_defaults kind) (have_written_defaults rows) defaults in
+      let done = member_done mark kind (get_member n ms) first.0 (first_of_both (has_written_default mark kind) (has_written_defaults kind) two) (λ d g. valid_written kind d first.0 inner g apart.0) first.1 in
       rw (← later.2) (some_bound (write_rows rows later.0) (write_member n mark (write kind) first.0 old)
       (done_put (leaves_out mark first.0) n (written mark (write kind) first.0) old done)
       (λ new. rows_written rows ms later.0 rest later.1 apart.1 new))
@@ -216,7 +216,7 @@ invalid_at None t each invalid = refl
 invalid_at (Some d) t each invalid = absurd (true≢false (sym invalid ∙ each d refl))
 
 -- what was read is refused exactly where something in it is invalid
-pub refused_where_invalid : (kind : Kind) (d : Data) (t : Tree) → writes_defaults kind ≡ true → read kind d ≡ Some t → (write kind t ≡ None) ↔ (holds_invalid t ≡ true)
+pub refused_where_invalid : (kind : Kind) (d : Data) (t : Tree) → has_written_defaults kind ≡ true → read kind d ≡ Some t → (write kind t ≡ None) ↔ (holds_invalid t ≡ true)
 refused_where_invalid kind d t defaults h = (
   λ none. refused_at _ (write kind t) t refl (λ valid. valid_written kind d t defaults h valid) none,
   λ invalid. invalid_at (write kind t) t (λ e g. written_valid kind t e g) invalid,

@@ -11,7 +11,7 @@ use Rattle.gltf_paths.specs.Lists.{images}
 use Rattle.gltf_schema.specs.Kind.{Mark, required, Kind, IndexInto, SourceImage, ChannelSampler, U32, Rows, no_rows, row}
 use Rattle.gltf_schema.specs.Read.{read, read_member, small_number}
 use Rattle.gltf_schema.specs.Taken.{without, take_member, take_rows, take_all, left}
-use Rattle.gltf_schema.specs.Readings.{MemberFrom, RowsFrom, OthersFrom, FinishFrom, ReadsMember, ReadsRows, TakesOthers, Finishes}
+use Rattle.gltf_schema.specs.Readings.{MemberFrom, OthersFrom, FinishFrom, ReadsMember, TakesOthers, Finishes}
 use Rattle.gltf_schema.proofs.TakingOut.{refused}
 
 -- a step that is refused refuses what comes after it
@@ -42,6 +42,15 @@ row_refused : (e : Error) (n : List ℕ) (mark : Mark) (kind : Kind) (rows : Row
     → Refuses e (take_member n mark kind ms) → Refuses e (take_rows (row n mark kind rows) ms)
 unfolding take_rows
 row_refused e n mark kind rows ms h = refused_then e _ (take_member n mark kind ms) h
+
+-- rows read from members that are under way, or that failed
+abbrev pub RowsFrom : Result Members Error → Rows → Trees → Result Members Error → Type 0
+RowsFrom (Ok ms) rows ts after = Reads (λ left. (ts, left)) after (take_rows rows ms)
+RowsFrom (Err e) rows ts after = after ≡ Err e
+
+-- each row was read
+pub record ReadsRows (before : Result Members Error) (rows : Rows) (ts : Trees) (after : Result Members Error) : Type 0 where
+  pub is : RowsFrom before rows ts after
 
 none_from : (s : Result Members Error) → RowsFrom s no_rows end s
 none_from (Ok ms) = none_taken ms

@@ -17,7 +17,7 @@ use Rattle.gltf_schema.specs.Write.{write_rows}
 use Rattle.gltf_schema.specs.Invalid.{holds_invalid, any_holds_invalid}
 use Rattle.gltf_schema.specs.Put.{put_member, put_rows, some_invalid}
 use Rattle.gltf_schema.specs.Readings.{members_or_error}
-use Rattle.gltf_schema.specs.Writings.{BeginsWith, MemberOnto, RowsOnto, WritesMember, WritesRows}
+use Rattle.gltf_schema.specs.Writings.{BeginsWith, MemberOnto, WritesMember}
 use Rattle.gltf_schema.proofs.Putting.{withheld_through, withheld_then, withheld_anyway}
 use Rattle.gltf_schema.proofs.PuttingIn.{or_left, or_right}
 
@@ -46,6 +46,15 @@ later_written : (after : Result Members Error) (n : List ℕ) (mark : Mark) (kin
     → Writes (λ m. m) after (put_rows rows ts ms') (some_invalid ts) → Writes (λ m. m) after (put_rows (row n mark kind rows) (with_tree t ts) ms) (some_invalid (with_tree t ts))
 later_written (Ok rest) n mark kind rows t ts ms ms' put h = row_put n mark kind rows t ts ms ms' put ∙ h
 later_written (Err e) n mark kind rows t ts ms ms' put h = later_withheld e n mark kind rows t ts ms ms' put h
+
+-- rows written onto members that are under way, or that failed
+abbrev pub RowsOnto : Result Members Error → Rows → Trees → Result Members Error → Type 0
+RowsOnto (Ok ms) rows ts after = Writes (λ m. m) after (put_rows rows ts ms) (some_invalid ts)
+RowsOnto (Err e) rows ts after = after ≡ Err e
+
+-- each row was written
+pub record WritesRows (before : Result Members Error) (rows : Rows) (ts : Trees) (after : Result Members Error) : Type 0 where
+  pub is : RowsOnto before rows ts after
 
 none_onto : (s : Result Members Error) → RowsOnto s no_rows end s
 none_onto (Ok ms) = none_put ms

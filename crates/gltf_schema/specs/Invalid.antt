@@ -37,11 +37,11 @@ has_written_default _ kind = true
 
 abbrev mutual
   -- each default in the kind is one that is written
-  pub writes_defaults : Kind → Bool
-  writes_defaults (ListOf kind) = writes_defaults kind
-  writes_defaults (Object named rows keeps) = write_defaults rows
-  writes_defaults _ = true
+  pub has_written_defaults : Kind → Bool
+  has_written_defaults (ListOf kind) = has_written_defaults kind
+  has_written_defaults (Object named rows keeps) = have_written_defaults rows
+  has_written_defaults _ = true
 
-  pub write_defaults : Rows → Bool
-  write_defaults no_rows = true
-  write_defaults (row n mark kind rows) = has_written_default mark kind && writes_defaults kind && write_defaults rows
+  pub have_written_defaults : Rows → Bool
+  have_written_defaults no_rows = true
+  have_written_defaults (row n mark kind rows) = has_written_default mark kind && has_written_defaults kind && have_written_defaults rows

@@ -9,6 +9,7 @@ pub mod Invalid
 pub mod OfKind
 pub mod Outcome
 pub mod ErrorText
+pub mod Attributes
 pub mod Taken
 pub mod Readings
 pub mod Writings

@@ -1,11 +1,11 @@
 -- What a call that reads or writes answers, want of memory aside.
-use Rattle.std.specs.Prelude.{◌≡◌, Bool, true, Option, Some, None, Result, Ok, Err}
+use Rattle.std.specs.Prelude.{◌≡◌, Bool, true, Option, Some, None, Result, Ok, Err, ⊤}
 use Rattle.gltf_schema.specs.declared.error.Error.{Error}
 use Rattle.gltf_schema.specs.declared.error.Error.TheVariants as errors
 
 -- only what reads nothing is refused, and as no glTF
 abbrev pub Refuses : {Y : Type 0} → Error → Option Y → Type 0
-Refuses (errors.Memory e) read = Unit {0}
+Refuses (errors.Memory e) read = ⊤
 Refuses errors.Schema read = read ≡ None
 Refuses _ read = ⊥
 
@@ -16,7 +16,7 @@ Reads view (Err e) read = Refuses e read
 
 -- only what is not written since something in it is invalid is refused, and as an invalid item
 abbrev pub Withholds : {Y : Type 0} → Error → Option Y → Bool → Type 0
-Withholds (errors.Memory e) written is_invalid = Unit {0}
+Withholds (errors.Memory e) written is_invalid = ⊤
 Withholds errors.InvalidItem written is_invalid = (written ≡ None) × (is_invalid ≡ true)
 Withholds _ written is_invalid = ⊥
 

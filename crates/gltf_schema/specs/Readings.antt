@@ -1,17 +1,16 @@
--- Rows read from members that are under way, or that failed.
-use Rattle.std.specs.Prelude.{◌≡◌, ℕ, List, Result, Ok, Err}
+-- What each method of Reading gives: the members that are left, or the error that was met.
+use Rattle.std.specs.Prelude.{◌≡◌, ℕ, List, String, Result, Ok, Err}
 use Rattle.serde_json.specs.Data.{Members, no_members}
 use Rattle.serde_json.specs.View.{members_view}
-use Rattle.std.specs.Prelude.{String}
 use Rattle.std.specs.declared.alloc.Global.{Global}
 use Rattle.std.specs.BTreeMap.{BTreeMap}
 use Rattle.serde_json.specs.declared.value.Value.{Value}
 use Rattle.gltf_schema.specs.declared.error.Error.{Error}
 use Rattle.gltf_schema.specs.declared.reading.Reading.{Reading}
 use Rattle.gltf_schema.specs.Outcome.{Reads}
-use Rattle.gltf_schema.specs.Tree.{Tree, Trees}
-use Rattle.gltf_schema.specs.Kind.{Mark, Kind, Rows}
-use Rattle.gltf_schema.specs.Taken.{take_member, take_rows}
+use Rattle.gltf_schema.specs.Tree.{Tree}
+use Rattle.gltf_schema.specs.Kind.{Mark, Kind}
+use Rattle.gltf_schema.specs.Taken.{take_member}
 
 -- the members that are left, or why reading failed
 abbrev pub members_or_error : Result (BTreeMap (String Global) Value) Error → Result Members Error
@@ -26,17 +25,9 @@ abbrev pub MemberFrom : Result Members Error → List ℕ → Mark → Kind → 
 MemberFrom (Ok ms) n mark kind t after = Reads (λ left. (t, left)) after (take_member n mark kind ms)
 MemberFrom (Err e) n mark kind t after = after ≡ Err e
 
-abbrev pub RowsFrom : Result Members Error → Rows → Trees → Result Members Error → Type 0
-RowsFrom (Ok ms) rows ts after = Reads (λ left. (ts, left)) after (take_rows rows ms)
-RowsFrom (Err e) rows ts after = after ≡ Err e
-
 -- one row was read
 pub record ReadsMember (before : Result Members Error) (n : List ℕ) (mark : Mark) (kind : Kind) (t : Tree) (after : Result Members Error) : Type 0 where
   pub is : MemberFrom before n mark kind t after
-
--- each row was
-pub record ReadsRows (before : Result Members Error) (rows : Rows) (ts : Trees) (after : Result Members Error) : Type 0 where
-  pub is : RowsFrom before rows ts after
 
 abbrev pub OthersFrom : Result Members Error → Members → Result Members Error → Type 0
 OthersFrom (Ok ms) others after = (others ≡ ms) × (after ≡ Ok no_members)

@@ -55,7 +55,8 @@ abbrev pub write_items : (Tree → Option Data) → Trees → Option Items
 write_items f end = Some json.no_items
 write_items f (with_tree t ts) = f t >>= λ d. option_map (json.item d) (write_items f ts)
 
--- whether a tree is the default under which a member is left out
+-- whether a tree is the default under which a member is left out; the table leaves out truths, indexes, items of choices and
+-- empty lists alone
 abbrev pub is_default : Tree → Tree → Bool
 is_default (truth true) (truth b) = b
 is_default (truth false) (truth b) = not b

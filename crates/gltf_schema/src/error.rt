@@ -29,15 +29,15 @@ impl fmt::Display for Error {
     ghost output = { λ e. Some (error_text e) };
 
     fn fmt<W: fmt::Write>(&self, f: &mut fmt::Formatter<W>) -> fmt::Result {
-        match self {
-            Error::Json => write!(f, "not JSON"),
-            Error::Schema => write!(f, "not a glTF document"),
-            Error::InvalidItem => write!(f, "invalid item"),
-            Error::Read => write!(f, "read failed"),
-            Error::Write => write!(f, "write failed"),
-            Error::Memory(_) => write!(f, "no memory"),
-            Error::TooLong => write!(f, "input too long"),
-        }
+        f.write_str(match self {
+            Error::Json => "not JSON",
+            Error::Schema => "not a glTF document",
+            Error::InvalidItem => "invalid item",
+            Error::Read => "read failed",
+            Error::Write => "write failed",
+            Error::Memory(_) => "no memory",
+            Error::TooLong => "input too long",
+        })
     }
 }
 

@@ -1,12 +1,15 @@
 //! Laws of the definitions that the contracts of this crate speak by. Each is the contract of a
 //! function that does nothing.
 
-ghost use Rattle.std.specs.Prelude.{◌≡◌, ◌↔◌, true, false, Some, None};
-ghost use Rattle.serde_json.specs.Data.{Data};
-ghost use Rattle.gltf_schema.specs.Tree.{Tree};
-ghost use Rattle.gltf_schema.specs.Kind.{Kind};
+ghost use Rattle.std.specs.Prelude.{◌≡◌, ◌↔◌, ◌∷◌, ℕ, List, [], true, false, Some, None, codes};
+ghost use Rattle.serde_json.specs.Data.{Data, Members, member, no_members, number, object, unsigned};
+ghost use Rattle.gltf_paths.specs.Lists.{ListName};
+ghost use Rattle.gltf_checked.specs.Keys.{Key, colors};
+ghost use Rattle.gltf_schema.specs.Attributes.{index_at, last_index};
+ghost use Rattle.gltf_schema.specs.Tree.{Tree, attributes};
+ghost use Rattle.gltf_schema.specs.Kind.{Kind, Attributes};
 ghost use Rattle.gltf_schema.specs.Plain.{is_plain, is_sound};
-ghost use Rattle.gltf_schema.specs.Invalid.{holds_invalid, writes_defaults};
+ghost use Rattle.gltf_schema.specs.Invalid.{holds_invalid, has_written_defaults};
 ghost use Rattle.gltf_schema.specs.OfKind.{is_of_kind};
 ghost use Rattle.gltf_schema.specs.Read.{read};
 ghost use Rattle.gltf_schema.specs.Write.{write};
@@ -29,11 +32,21 @@ pub fn written_trees_hold_nothing_invalid()
 /// What was read, by a kind whose defaults are written, is refused for writing exactly where an item
 /// or a key in it is invalid.
 pub fn read_trees_are_refused_where_invalid()
-    ensures { (kind : Kind) (d : Data) (t : Tree) → writes_defaults kind ≡ true → read kind d ≡ Some t → (write kind t ≡ None) ↔ (holds_invalid t ≡ true) }
+    ensures { (kind : Kind) (d : Data) (t : Tree) → has_written_defaults kind ≡ true → read kind d ≡ Some t → (write kind t ≡ None) ↔ (holds_invalid t ≡ true) }
 {}
 
 /// A tree of a kind is refused for writing exactly where an item or a key in it is invalid. So a
 /// plain one of a sound kind, in which none is, is written and read back as that tree.
 pub fn trees_of_a_kind_are_refused_where_invalid()
     ensures { (kind : Kind) (t : Tree) → is_of_kind kind t ≡ true → (write kind t ≡ None) ↔ (holds_invalid t ≡ true) }
+{}
+
+/// Attributes that were read have a key exactly where a name means it, with the index of the last such
+/// name.
+#[tactic(auto, unfolding(gltf_checked::specs::Names::key_named))]
+pub fn keys_have_the_indexes_of_their_last_names()
+    ensures last { (named : ListName) (ms : Members) (es : List (Key × ℕ)) → read (Attributes named) (object ms) ≡ Some (attributes es)
+        → (key : Key) → index_at key es ≡ last_index key ms }
+    ensures worked { read (Attributes ListName.accessors) (object (member (codes "COLOR_+1") (number (unsigned 0))
+        (member (codes "COLOR_01") (number (unsigned 1)) (member (codes "COLOR_1") (number (unsigned 2)) no_members)))) ≡ Some (attributes ((colors 1, 2) ∷ [])) }
 {}

@@ -43,10 +43,7 @@ impl Schema for USize64 {
     ghost present = { λ _. refl };
 
     fn decode(_alloc: Global, value: Value) -> Result<USize64, Error> {
-        match value.as_u64() {
-            Some(n) => Ok(USize64(n)),
-            None => Err(Error::Schema),
-        }
+        Ok(USize64(value.as_u64().ok_or(Error::Schema)?))
     }
 
     fn encode(&self, _alloc: Global) -> Result<Value, Error> {
@@ -62,10 +59,7 @@ impl<P: Names> Schema for IndexTo<P> {
     ghost present = { λ _. refl };
 
     fn decode(_alloc: Global, value: Value) -> Result<IndexTo<P>, Error> {
-        match small_number(&value) {
-            Some(n) => Ok(IndexTo::from_number(n)),
-            None => Err(Error::Schema),
-        }
+        Ok(IndexTo::from_number(small_number(&value).ok_or(Error::Schema)?))
     }
 
     fn encode(&self, _alloc: Global) -> Result<Value, Error> {
@@ -81,10 +75,7 @@ impl Schema for Real {
     ghost present = { λ _. refl };
 
     fn decode(_alloc: Global, value: Value) -> Result<Real, Error> {
-        match Real::from_value(value) {
-            Ok(number) => Ok(number),
-            Err(_) => Err(Error::Schema),
-        }
+        Real::from_value(value).map_err(|_| Error::Schema)
     }
 
     fn encode(&self, _alloc: Global) -> Result<Value, Error> {
@@ -221,10 +212,7 @@ impl<T: Schema> Schema for Vec<T> {
 fn small_number(value: &Value) -> Option<u32>
     ensures { result ≡ number_of_32_bits (view value.now) }
 {
-    match value.as_u64() {
-        Some(n) if n <= u64::from(u32::MAX) => Some(n as u32),
-        _ => None,
-    }
+    u32::try_from(value.as_u64()?).ok()
 }
 
 /// Each item, in order.

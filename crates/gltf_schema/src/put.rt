@@ -48,10 +48,7 @@ pub(crate) fn put_optional<T: Schema>(
         (holds_invalid (tree_or_absent T.tree value.now)) }
 {
     match value {
-        Some(value) => {
-            put_always(alloc, members, name, value)?;
-            Ok(())
-        }
+        Some(value) => put_always(alloc, members, name, value),
         None => Ok(()),
     }
 }
@@ -91,8 +88,7 @@ pub(crate) fn put_unless<T: Omittable>(
     if value.is_default(&default) {
         return Ok(());
     }
-    put_always(alloc, members, name, value)?;
-    Ok(())
+    put_always(alloc, members, name, value)
 }
 
 /// A list that is left out where it is empty.
@@ -111,6 +107,5 @@ pub(crate) fn put_list<T: Schema>(
     if value.is_empty() {
         return Ok(());
     }
-    put_always(alloc, members, name, value)?;
-    Ok(())
+    put_always(alloc, members, name, value)
 }

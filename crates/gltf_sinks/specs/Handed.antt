@@ -14,11 +14,11 @@ run next s [] = s
 run next s (r ∷ rs) = run next (next s r.steps r.error) rs
 
 module _ {S R : Type 0} (next : S → List Step → Error → S) (refuses : S → List Step → Error → R → S → Type 0) where
-  -- a sink took the first of the reports
+  -- a sink took some of the reports, from the first on
   abbrev pub TookFirst : S → List Report → S → Type 0
   TookFirst old all new = (before : List Report) × (after : List Report) × (all ≡ before ++ after) × (new ≡ run next old before)
 
-  -- a sink took the first of the reports, and refused the next one
+  -- a sink took some of the reports, from the first on, and refused the next one
   abbrev pub RefusedOne : S → List Report → R → S → Type 0
   RefusedOne old all r new = (before : List Report) × (at : Report) × (after : List Report)
       × (all ≡ before ++ at ∷ after) × refuses (run next old before) at.steps at.error r new
@@ -30,18 +30,9 @@ module _ {S R : Type 0} (next : S → List Step → Error → S) (refuses : S �
   HandedOver old all steps (Err StepsFull) new = (16 < steps) × TookFirst old all new
   HandedOver old all steps (Err (Sink r)) new = RefusedOne old all r new
 
-  -- the same after another walk: where that one stopped, nothing more is done
-  abbrev pub HandedOverAfter : Result (Unit {0}) (Stop R) → S → List Report → ℕ → Result (Unit {0}) (Stop R) → S → Type 0
-  HandedOverAfter (Ok _) old all steps result new = HandedOver old all steps result new
-  HandedOverAfter (Err stop) old all steps result new = (result ≡ Err stop) × (new ≡ old)
-
-  -- a walk that goes on from an earlier answer: the path at its end is that at its start, and the sink was handed the
-  -- reports from there, of places at most so many steps further
-  pub record WentOn (before : Result (Unit {0}) (Stop R)) (path : ArrayVec Borrowed) (old : S) (all : From) (depth : ℕ)
+  -- a walk: the path at its end is that at its start, and the sink was handed the reports from there, of places at most so many
+  -- steps further
+  pub record Walked (path : ArrayVec Borrowed) (old : S) (all : From) (depth : ℕ)
       (result : Result (Unit {0}) (Stop R)) (exit : ArrayVec Borrowed) (new : S) : Type 0 where
     pub same : exit ≡ path
-    pub handed : HandedOverAfter before old (all (steps_of path)) (length (steps_of path) + depth) result new
-
-  -- a walk by itself
-  abbrev pub Walked : ArrayVec Borrowed → S → From → ℕ → Result (Unit {0}) (Stop R) → ArrayVec Borrowed → S → Type 0
-  Walked = WentOn (Ok tt)
+    pub handed : HandedOver old (all (steps_of path)) (length (steps_of path) + depth) result new

@@ -52,7 +52,7 @@ impl Drop for Sampler {
 }
 
 impl Sampler {
-    /// A sampler that repeats the texture and says nothing else.
+    /// A sampler with every member at its default: it repeats the texture.
     #[tactic(auto, unfolding(crate::specs::TextureTable::sampler_rows, crate::specs::TextureTrees::sampler_members))]
     pub fn new() -> Sampler
         ensures { sampler_members result ≡ defaults sampler_rows }
@@ -119,11 +119,15 @@ impl Object for Sampler {
     }
 }
 
+/// The number at `source` that stands for no image.
+pub const NO_IMAGE: u32 = u32::MAX;
+
 /// An image and how it is sampled.
 // What takes longest to drop stands last (docs/DECISIONS.md).
 #[derive(Clone, Debug)]
 pub struct Texture {
-    /// The image; 4294967295 where the document names none, as where an extension gives it.
+    /// The image; [`NO_IMAGE`], which is 4294967295, where the document names none, as where an
+    /// extension gives it.
     pub source: Index<Image>,
     /// How the image is sampled; without it the texture repeats and is filtered at will.
     pub sampler: Option<Index<Sampler>>,
@@ -167,7 +171,7 @@ impl Object for Texture {
         let name = reading.optional("name");
         let sampler = reading.optional("sampler");
         let extensions = reading.optional("extensions");
-        let source = reading.or_default("source", Index::new(u32::MAX));
+        let source = reading.or_default("source", Index::new(NO_IMAGE));
         let extras = reading.optional("extras");
         reading.finish(Texture {
             name,
@@ -183,7 +187,7 @@ impl Object for Texture {
             .optional("name", &self.name)
             .optional("sampler", &self.sampler)
             .optional("extensions", &self.extensions)
-            .unless("source", &self.source, Index::new(u32::MAX))
+            .unless("source", &self.source, Index::new(NO_IMAGE))
             .optional("extras", &self.extras)
             .finish()
     }

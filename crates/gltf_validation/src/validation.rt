@@ -35,8 +35,8 @@ pub trait Validate {
     /// which something can be wrong, and the places of its reports.
     ghost depth: { ℕ } = { 0 };
 
-    /// Hands the sink what is wrong in the value by `rules`, in order, each step list beginning with
-    /// the steps of `path`. Indexes are looked up in `root`. On every exit `path` is as it was.
+    /// Hands the sink what is wrong in the value by `rules`, in order, each path beginning with the
+    /// steps of `path`. Indexes are looked up in `root`. On every exit `path` is as it was.
     /// Nothing is allocated.
     ///
     /// It stops with `StepsFull` only where the steps of `path` and the depth of the type are more

@@ -1,7 +1,7 @@
 -- What a part of a document is walked by.
 use Rattle.std.specs.Prelude.{[]}
-use Rattle.gltf_animations.specs.AnimationTable.{animation_target_kind, animation_sampler_kind, animation_kind}
-use Rattle.gltf_animations.specs.AnimationTrees.{animation_target_members, animation_sampler_members, animation_members}
+use Rattle.gltf_animations.specs.AnimationTable.{animation_channel_kind, animation_target_kind, animation_sampler_kind, animation_kind}
+use Rattle.gltf_animations.specs.AnimationTrees.{animation_channel_members, animation_target_members, animation_sampler_members, animation_members}
 use Rattle.gltf_data.specs.AccessorTable.{accessor_kind, sparse_kind, sparse_indices_kind, sparse_values_kind}
 use Rattle.gltf_data.specs.AccessorTrees.{accessor_members, sparse_members, sparse_indices_members, sparse_values_members}
 use Rattle.gltf_data.specs.BufferTable.{view_kind}
@@ -9,7 +9,7 @@ use Rattle.gltf_data.specs.BufferTrees.{view_members}
 use Rattle.gltf_data.specs.ImageTable.{image_kind}
 use Rattle.gltf_data.specs.ImageTrees.{image_members}
 use Rattle.gltf_materials.specs.MaterialTable.{material_kind, pbr_metallic_roughness_kind, normal_texture_kind, occlusion_texture_kind}
-use Rattle.gltf_materials.specs.MaterialTrees.{material_members, pbr_metallic_roughness_members, normal_texture_members, occlusion_texture_members}
+use Rattle.gltf_materials.specs.MaterialTrees.{material_extensions, material_members, pbr_metallic_roughness_members, normal_texture_members, occlusion_texture_members}
 use Rattle.gltf_meshes.specs.MeshTable.{mesh_kind, primitive_kind, morph_target_kind}
 use Rattle.gltf_meshes.specs.MeshTrees.{mesh_members, primitive_members, morph_target_members}
 use Rattle.gltf_nodes.specs.CameraTable.{camera_kind}
@@ -22,13 +22,10 @@ use Rattle.gltf_root.specs.RootExtensionTable.{root_extensions_kind, lights_kind
 use Rattle.gltf_root.specs.RootExtensionTrees.{root_extensions, lights_members}
 use Rattle.gltf_root.specs.RootTable.{root_kind}
 use Rattle.gltf_root.specs.RootTrees.{root_tree}
-use Rattle.gltf_materials.specs.MaterialTrees.{material_extensions}
 use Rattle.gltf_shading.specs.MaterialExtensionTable.{material_extensions_kind, pbr_specular_glossiness_kind, transmission_kind, volume_kind, specular_kind}
 use Rattle.gltf_shading.specs.MaterialExtensionTrees.{pbr_specular_glossiness_tree, transmission_members, volume_members, specular_members}
 use Rattle.gltf_textures.specs.TextureTable.{sampler_kind, texture_kind, info_kind}
 use Rattle.gltf_textures.specs.TextureTrees.{sampler_members, texture_members, info_members}
-use Rattle.gltf_animations.specs.AnimationTable.{animation_channel_kind}
-use Rattle.gltf_animations.specs.AnimationTrees.{animation_channel_members}
 use Rattle.gltf_paths.specs.Lists.{ListName}
 use Rattle.gltf_schema.specs.Fields.{attributes_tree, closed_object, index_tree, list_tree, text_tree}
 use Rattle.gltf_schema.specs.Kind.{Attributes, IndexInto, ListOf}

@@ -73,20 +73,7 @@ first (place nothing []) = over
 abbrev pub at : Plan → ℕ → Move
 at p n = first (left p n)
 
--- ---- how much there is
-
-abbrev pub counts : Plans → ℕ
-counts nothing = 0
-counts (below s p ps) = suc (counts ps)
-
-abbrev mutual
-  -- the moves that a walk through a plan makes, and the one that finds it over
-  pub weight : Plan → ℕ
-  weight (place ps es) = 1 + (length es + weights ps)
-
-  pub weights : Plans → ℕ
-  weights nothing = 0
-  weights (below s p ps) = (1 + weight p) + weights ps
+-- ---- how deep it is
 
 abbrev mutual
   -- the steps down that it takes at most

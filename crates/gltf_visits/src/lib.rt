@@ -17,5 +17,4 @@ mod texture;
 mod visited;
 
 pub use part::Part;
-pub use silent::Silent;
 pub use visited::Visited;

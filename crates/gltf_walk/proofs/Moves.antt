@@ -7,14 +7,14 @@ use Rattle.gltf_paths.specs.declared.path.Step.{Step as Borrowed}
 use Rattle.gltf_faults.specs.Context.{Context}
 use Rattle.gltf_visits.specs.Parts.{plan_of}
 use Rattle.gltf_walk.specs.Left.{first_frame, part_left, plan_left, plans_left, IsNumbered}
-use Rattle.gltf_visits.specs.Plan.{Plan, place, nothing, below, told, down, over, at, left, first, weight, height}
-use Rattle.gltf_walk.specs.Stacks.{reach, to_come_of, weight_of}
+use Rattle.gltf_visits.specs.Plan.{Plan, place, nothing, below, told, down, over, at, left, first, height}
+use Rattle.gltf_walk.specs.Stacks.{reach, to_come_of}
 use Rattle.gltf_walk.specs.declared.frame.Frame.{Frame}
 use Rattle.gltf_visits.specs.declared.part.Part.{Part}
 use Rattle.gltf_visits.specs.declared.part.Part.TheVariants as part
 use Rattle.gltf_checked.specs.declared.mesh.Semantic.{Semantic}
 use Rattle.gltf_checked.specs.declared.validation.Checked.{Checked}
-use Rattle.gltf_walk.proofs.Stacks.{rest, left_further, told_by, height_by, height_move, reach_last, weight_last, moved, entered, left_behind}
+use Rattle.gltf_walk.proofs.Stacks.{weight, weight_of, rest, left_further, told_by, height_by, height_move, reach_last, weight_last, moved, entered, left_behind}
 
 -- ---- one plan
 

@@ -18,8 +18,9 @@ use Rattle.gltf_faults.specs.Context.{Context}
 use Rattle.gltf_faults.specs.Faults.{report_if, number_faults, index_faults, source_faults, stride_faults, choice_faults, key_faults, entries_faults, items_reports}
 use Rattle.gltf_faults.specs.Reports.{animation_below, reports, member_reports}
 use Rattle.gltf_faults.specs.Rules.{is_positions, accessor_min, accessor_max, primitive_attributes, root_extensions_required, bound_faults, bounds_faults, positions_faults, extension_faults, rule, object_faults}
-use Rattle.gltf_faults.specs.Silence.{is_silent, silent}
+use Rattle.gltf_faults.specs.Silence.{is_silent}
 use Rattle.gltf_faults.proofs.Joining.{joined}
+use Rattle.gltf_faults.proofs.Silent.{silent}
 use Rattle.gltf_visits.specs.Plan.{Plan, Plans, nothing, below, errors, leaf, also, told, told_below, told_here}
 use Rattle.gltf_visits.specs.Planned.{error_among, error_of, leaf_of, entry_plans, item_plans, bounds_plan, positions_plan, name_plan, rule_plans, own_error, unless_silent, planned, member_plans}
 

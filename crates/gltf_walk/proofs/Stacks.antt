@@ -4,8 +4,24 @@ use Rattle.std.proofs.lemmas.List.{take-append-le}
 use Rattle.gltf_paths.specs.Steps.{Step}
 use Rattle.gltf_paths.specs.declared.validation.Error.{Error}
 use Rattle.gltf_sinks.specs.Report.{From, report}
-use Rattle.gltf_visits.specs.Plan.{Plan, place, Plans, nothing, below, told, told_below, told_here, Move, down, fault, over, left, left_below, first, weight, height}
-use Rattle.gltf_walk.specs.Stacks.{to_come_from, to_come_of, reach, weight_of}
+use Rattle.gltf_visits.specs.Plan.{Plan, place, Plans, nothing, below, told, told_below, told_here, Move, down, fault, over, left, left_below, first, height}
+use Rattle.gltf_walk.specs.Stacks.{to_come_from, to_come_of, reach}
+
+-- ---- how many moves there are
+
+abbrev mutual
+  -- the moves that a walk through a plan makes, and the one that finds it over
+  pub weight : Plan → ℕ
+  weight (place ps es) = 1 + (length es + weights ps)
+
+  pub weights : Plans → ℕ
+  weights nothing = 0
+  weights (below s p ps) = (1 + weight p) + weights ps
+
+-- the moves that are left
+abbrev pub weight_of : List Plan → ℕ
+weight_of [] = 0
+weight_of (p ∷ ps) = weight p + weight_of ps
 
 -- ---- a move of a plan
 

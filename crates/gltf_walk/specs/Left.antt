@@ -1,5 +1,5 @@
 -- What is left of the plans of frames.
-use Rattle.std.specs.Prelude.{◌≡◌, ℕ, List, [], ◌∷◌, map, Option, Some, None, MatchOption}
+use Rattle.std.specs.Prelude.{◌≡◌, ℕ, List, [], ◌∷◌, map, Option, Some, None, MatchOption, ⊤}
 use Rattle.std.specs.Borrow.{Bor}
 use Rattle.std.specs.List.{filter}
 use Rattle.std.specs.Ordering.{is_lt}
@@ -39,7 +39,7 @@ attributes_left context m behind = place (entry_plans (count_in ListName.accesso
 
 abbrev pub IsNumbered : Part → Type 0
 IsNumbered (part.Attributes m) = ⊥
-IsNumbered _ = Unit {0}
+IsNumbered _ = ⊤
 
 abbrev pub part_left : Context → Part → ℕ → Option (Bor (Checked Semantic)) → Plan
 part_left context (part.Attributes m) number behind = attributes_left context m.now behind

@@ -2,7 +2,7 @@
 use Rattle.std.specs.Prelude.{ℕ, suc, ◌+◌, ◌-◌, List, [], ◌∷◌, ◌++◌, length, take, max}
 use Rattle.gltf_paths.specs.Steps.{Step}
 use Rattle.gltf_sinks.specs.Report.{Report}
-use Rattle.gltf_visits.specs.Plan.{Plan, told, weight, height}
+use Rattle.gltf_visits.specs.Plan.{Plan, told, height}
 
 -- what plans one below the other report, the last first; each stands one step further than the one before it, and the first
 -- at so many of the steps
@@ -18,8 +18,3 @@ to_come_of steps ps = to_come_from (length steps - (length ps - 1)) steps ps
 abbrev pub reach : ℕ → List Plan → ℕ
 reach n [] = 0
 reach n (p ∷ ps) = max (n + height p) (reach (suc n) ps)
-
--- the moves that are left
-abbrev pub weight_of : List Plan → ℕ
-weight_of [] = 0
-weight_of (p ∷ ps) = weight p + weight_of ps

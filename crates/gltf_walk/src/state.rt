@@ -13,6 +13,8 @@ use gltf_faults::Rules;
 use gltf_root::root::Root;
 
 /// A walk over a value from any place, by any rules, against a document.
+// Its calls, and those of `Walk`, are in walk.rt: their contracts name these types, and what a file
+// with a ghost field imports must not import the file.
 #[derive(Drop)]
 pub struct Descent<'a> {
     pub(crate) rules: Rules<'a>,

@@ -127,7 +127,7 @@ impl<'a> Walk<'a> {
     }
 
     /// The path of the last report; empty before the first one and after the last one.
-    pub fn steps(&self) -> &Steps<'_>
+    pub fn steps(&self) -> &Steps<'a>
         ensures { steps_of result.now ≡ path_of self.now }
     {
         self.descent.steps()

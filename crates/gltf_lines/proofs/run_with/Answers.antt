@@ -4,7 +4,7 @@ use Rattle.gltf_lines.proofs.RunLemmas.{IsRun-either, reading_output-unread, fai
 use Rattle.gltf_lines.proofs.run_with.Goals as goal
 
 pub returns-clause-run : goal.returns-clause-run
-returns-clause-run g c = λ works. IsRun-either _ _ _ _ c.from_reader-reading.result _ _ c.from_reader-reading.ensures.told (c.answer.ensures.written works)
+returns-clause-run g c = IsRun-either _ _ _ _ _ _ _ c.from_reader-reading.result c.from_reader-reading.ensures.told c.answer.ensures.written
 
 pub returns-clause-reader_failed : goal.returns-clause-reader_failed
 returns-clause-reader_failed g c = λ fresh failed.

@@ -60,9 +60,12 @@ fn attributes(rt: HostRuntime) -> Result<(), Fail> {
     Ok(())
 }
 
-/// Whether a light keeps an extension object of one member.
+/// Whether a light keeps an extension object with the member `a`, which is 1, and no other.
 fn keeps_extensions(light: &Light) -> bool {
-    matches!(&light.extensions, Some(Value::Object(members)) if members.len() == 1)
+    let Some(Value::Object(members)) = &light.extensions else {
+        return false;
+    };
+    members.len() == 1 && members.get("a").and_then(|found| found.as_u64()) == Some(1)
 }
 
 #[test]

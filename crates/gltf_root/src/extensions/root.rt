@@ -108,7 +108,7 @@ impl Object for KhrLightsPunctual {
 }
 
 impl KhrLightsPunctual {
-    /// None of them.
+    /// No light.
     #[tactic(auto, unfolding(crate::specs::RootExtensionTrees::lights_members))]
     pub fn new(alloc: Global) -> KhrLightsPunctual
         ensures { lights_members result ≡ with_tree (list end) end }
@@ -155,7 +155,7 @@ impl Object for KhrMaterialsVariants {
 }
 
 impl KhrMaterialsVariants {
-    /// None of them.
+    /// No variant.
     #[tactic(auto, unfolding(crate::specs::RootExtensionTrees::variants_members))]
     pub fn new(alloc: Global) -> KhrMaterialsVariants
         ensures { variants_members result ≡ with_tree (list end) end }

@@ -50,9 +50,10 @@ pub trait Get<T> {
         ensures lent { IfSome result (λ list. list.now.items ≡ listed self.old) }
         ensures missing { (result ≡ None) ↔ (is_there named (document self.old) ≡ false) };
 
-    /// Appends an item to the list, and answers its index. Extension objects that are missing are
-    /// made, empty but for the list, once the list has grown. A list of 4294967295 items or more is
-    /// full, which is told before any memory is taken.
+    /// Appends an item to the list, and returns its index. Extension objects that are missing are
+    /// made, empty but for the list, once the list has grown. `Full` comes for a list of 4294967295
+    /// items or more, before any memory is taken; `Memory` where the list could not grow. Memory is
+    /// taken by the allocator of the list, or of the list of nodes where the list has to be made.
     fn push(&mut self, item: T) -> Result<Index<T>, PushError<T>>
         ensures pushed { IfOk result (λ index. (index_number index ≡ length (listed self.old))
             × (document self.new ≡ pushed named (item_tree item) (document self.old))) }
@@ -66,7 +67,7 @@ pub trait Get<T> {
     fn mark(&self) -> Mark
         ensures { result ≡ mark_in named (document self.now) };
 
-    /// Takes the last item out of the list, and answers it; `None` where the list is empty, and then
+    /// Takes the last item out of the list, and returns it; `None` where the list is empty, and then
     /// nothing changes. What the mark says was missing before the push is missing again. With the
     /// mark of the document before a push, it is that document again.
     fn undo_push(&mut self, mark: Mark) -> Option<T>
@@ -101,7 +102,8 @@ pub trait RootItem: Listed + Drop {
         ensures lent { IfSome result (λ list. list.now.items ≡ items root.old) }
         ensures missing { (result ≡ None) ↔ (is_there Self.list (root_tree root.old) ≡ false) };
 
-    /// Appends an item to the list of a root, and answers its index.
+    /// Appends an item to the list of a root, and returns its index. Errors and memory are those of
+    /// [`Get::push`].
     fn push_onto(root: &mut Root, item: Self) -> Result<Index<Self>, PushError<Self>>
         ensures pushed { IfOk result (λ index. (index_number index ≡ length (items root.old))
             × (root_tree root.new ≡ pushed Self.list (tree item) (root_tree root.old))) }
@@ -180,7 +182,7 @@ impl Root {
         Get::<T>::get(self, index)
     }
 
-    /// Appends an item to its list, and answers its index, as `Get::push` does.
+    /// Appends an item to its list, and returns its index, as [`Get::push`] does.
     pub fn push<T>(&mut self, item: T) -> Result<Index<T>, PushError<T>>
     where
         Root: Get<T>,

@@ -69,24 +69,24 @@ impl Root {
     }
 
     /// The document that a reader gives up to its end, as [`Root::from_reader`] with other limits:
-    /// `TooLong` comes where it gives more than `bytes` bytes, or hasn't given its end in `calls`
-    /// calls, the call at the end among them. It reads 65536 bytes a call, so a reader may be asked
-    /// for some bytes past the limit.
+    /// `TooLong` comes where it gives more than `most_bytes` bytes, or hasn't given its end in
+    /// `most_calls` calls, the call at the end among them. It reads 65536 bytes a call, so a reader may
+    /// be asked for some bytes past the limit.
     #[tactic(auto, using(crate::proofs::AnswerLemmas::readings))]
     pub fn from_reader_within<R: ByteIn>(
         alloc: Global,
         reader: &mut R,
-        bytes: u64,
-        calls: u64,
+        most_bytes: u64,
+        most_calls: u64,
     ) -> Result<Root, Error>
         ensures told { IfSome (R.left reader.old) (λ bytes. IsReadAnswer (answer bytes) result) }
-        ensures fresh { IsFresh (R.seen reader.old) → IsReading bytes calls (R.seen reader.new) result }
+        ensures fresh { IsFresh (R.seen reader.old) → IsReading most_bytes most_calls (R.seen reader.new) result }
         ensures refused { IfErr result IsRefusal }
-        ensures soon { (R.seen reader.new).calls ≤ (R.seen reader.old).calls + calls }
-        ensures uncalled { calls ≡ 0 → reader.new ≡ reader.old }
+        ensures soon { (R.seen reader.new).calls ≤ (R.seen reader.old).calls + most_calls }
+        ensures uncalled { most_calls ≡ 0 → reader.new ≡ reader.old }
         ensures plain { IfOk result (λ root. is_plain root_kind (root_tree root) ≡ true) }
     {
-        let text = read_to_end(alloc, reader, bytes, calls)?;
+        let text = read_to_end(alloc, reader, most_bytes, most_calls)?;
         Root::from_slice(alloc, &text)
     }
 }

@@ -22,7 +22,7 @@ use std::alloc::Global;
 pub struct Material {
     /// `KHR_materials_pbrSpecularGlossiness`: the specular-glossiness model in place of the metallic-roughness one.
     pub pbr_specular_glossiness: Option<PbrSpecularGlossiness>,
-    /// `KHR_materials_unlit`: the surface shows its base color, without light.
+    /// `KHR_materials_unlit`: the surface shows its base color, whatever the light.
     pub unlit: Option<Unlit>,
     /// `KHR_materials_transmission`: light passes through the surface.
     pub transmission: Option<Transmission>,
@@ -226,7 +226,7 @@ pub struct PbrSpecularGlossiness {
     pub extras: Extras,
     /// The diffuse color.
     pub diffuse_texture: Option<Info>,
-    /// The specular color, and how glossy the surface is, by alpha.
+    /// The specular color, and in the alpha channel how glossy the surface is.
     pub specular_glossiness_texture: Option<Info>,
 }
 
@@ -282,7 +282,7 @@ impl Object for PbrSpecularGlossiness {
 }
 
 impl PbrSpecularGlossiness {
-    /// Parameters that say nothing.
+    /// Parameters with every member at its default.
     #[tactic(auto, unfolding(crate::specs::MaterialExtensionTable::pbr_specular_glossiness_rows, crate::specs::MaterialExtensionTrees::pbr_specular_glossiness_members))]
     pub fn new(alloc: Global) -> PbrSpecularGlossiness
         ensures known { pbr_specular_glossiness_members result ≡ defaults pbr_specular_glossiness_rows }
@@ -308,7 +308,7 @@ pub struct PbrDiffuseFactor(pub Option<[Real; 4]>);
 #[derive(Clone, Debug, Default, Drop)]
 pub struct PbrSpecularFactor(pub Option<[Real; 3]>);
 
-/// That a surface shows its base color, without light (`KHR_materials_unlit`).
+/// A surface that shows its base color, whatever the light (`KHR_materials_unlit`).
 #[derive(Clone, Debug, Drop)]
 pub struct Unlit {}
 
@@ -349,7 +349,7 @@ pub struct Transmission {
     /// The part of the light that passes.
     pub transmission_factor: TransmissionFactor,
     pub extras: Extras,
-    /// The part of the light that passes, by red.
+    /// The part of the light that passes, in the red channel.
     pub transmission_texture: Option<Info>,
 }
 
@@ -413,10 +413,10 @@ pub struct Volume {
     pub thickness_factor: ThicknessFactor,
     /// How far light goes in the body before it is absorbed, on average.
     pub attenuation_distance: AttenuationDistance,
-    /// What becomes of white light at that distance.
+    /// The color that white light has at that distance.
     pub attenuation_color: AttenuationColor,
     pub extras: Extras,
-    /// How thick the body is, by green.
+    /// How thick the body is, in the green channel.
     pub thickness_texture: Option<Info>,
 }
 
@@ -497,7 +497,7 @@ pub struct Specular {
     /// The factors of the color of the reflection.
     pub specular_color_factor: SpecularColorFactor,
     pub extras: Extras,
-    /// How strong the reflection is, by alpha.
+    /// How strong the reflection is, in the alpha channel.
     pub specular_texture: Option<Info>,
     /// The color of the reflection.
     pub specular_color_texture: Option<Info>,
@@ -544,7 +544,7 @@ impl Object for Specular {
 }
 
 impl Specular {
-    /// A reflection that says nothing.
+    /// A reflection with every member at its default.
     #[tactic(auto, unfolding(crate::specs::MaterialExtensionTable::specular_rows, crate::specs::MaterialExtensionTrees::specular_members))]
     pub fn new() -> Specular
         ensures { specular_members result ≡ defaults specular_rows }
@@ -607,7 +607,7 @@ impl Object for Ior {
 }
 
 impl Ior {
-    /// An index that says nothing.
+    /// The default index of refraction.
     #[tactic(auto, unfolding(crate::specs::MaterialExtensionTable::ior_rows, crate::specs::MaterialExtensionTrees::ior_members))]
     pub fn new() -> Ior
         ensures { ior_members result ≡ defaults ior_rows }
@@ -623,7 +623,7 @@ impl Ior {
 #[derive(Clone, Debug, Default, Drop)]
 pub struct IndexOfRefraction(pub Option<Real>);
 
-/// How strong the light is that a surface sends out (`KHR_materials_emissive_strength`).
+/// How strong the light is that a surface emits (`KHR_materials_emissive_strength`).
 #[derive(Clone, Debug, Drop)]
 pub struct EmissiveStrength {
     /// The factor of that light.
@@ -659,7 +659,7 @@ impl Object for EmissiveStrength {
 }
 
 impl EmissiveStrength {
-    /// A strength that says nothing.
+    /// The default strength.
     #[tactic(auto, unfolding(crate::specs::MaterialExtensionTable::emissive_strength_rows, crate::specs::MaterialExtensionTrees::emissive_strength_members))]
     pub fn new() -> EmissiveStrength
         ensures { emissive_strength_members result ≡ defaults emissive_strength_rows }

@@ -207,7 +207,7 @@ impl TextureTransform {
 #[derive(Clone, Debug, Default, Drop)]
 pub struct TextureTransformOffset(pub Option<[Real; 2]>);
 
-/// The angle by which the coordinates are turned round the origin, in radians, against the clock;
+/// The angle by which the coordinates are turned round the origin, in radians, counter-clockwise;
 /// `None` stands for 0.
 #[derive(Clone, Debug, Default, Drop)]
 pub struct TextureTransformRotation(pub Option<Real>);

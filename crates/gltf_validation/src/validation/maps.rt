@@ -7,7 +7,7 @@ ghost use Rattle.gltf_sinks.specs.Handed.{Walked};
 ghost use Rattle.gltf_validation.specs.ByType.{reports_in, each_entry};
 
 use super::Validate;
-use super::within::{also_within, within};
+use super::within::within;
 use gltf_base::{KeyStep, Steps};
 use gltf_faults::{Against, Context, Rules};
 use gltf_root::root::Root;
@@ -66,6 +66,6 @@ fn entry<'a, K: KeyStep + Validate, V: Validate, C: Against, S: Sink>(
         ++ reports_in V.kind V.tree V.own (C.context context.now) value.now (base ++ key (K.key_text named.now) ∷ []))
         (max K.depth V.depth + 1) result path.new (S.state sink.new) }
 {
-    let walked = within(named, named.key_step(), context, path, sink);
-    also_within(walked, value, named.key_step(), context, path, sink)
+    within(named, named.key_step(), context, path, sink)?;
+    within(value, named.key_step(), context, path, sink)
 }

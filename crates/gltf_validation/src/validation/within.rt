@@ -2,7 +2,7 @@
 
 ghost use Rattle.std.specs.Prelude.{◌≡◌, ◌+◌, ◌++◌, ◌∷◌, []};
 ghost use Rattle.gltf_paths.specs.Steps.{step_of};
-ghost use Rattle.gltf_sinks.specs.Handed.{Walked, WentOn};
+ghost use Rattle.gltf_sinks.specs.Handed.{Walked};
 ghost use Rattle.gltf_validation.specs.ByType.{reports_by};
 
 use super::Validate;
@@ -30,23 +30,4 @@ pub(crate) fn within<'a, T: Validate, C: Against, S: Sink>(
     let walked = value.validate_with(by.rules, by.root, path, sink);
     path.pop();
     walked
-}
-
-/// Goes on with what stands one step further, where nothing stopped the walk before.
-pub(crate) fn also_within<'a, T: Validate, C: Against, S: Sink>(
-    before: Result<(), Stop<S::Refusal>>,
-    value: &'a T,
-    step: Step<'a>,
-    context: &C,
-    path: &mut Steps<'a>,
-    sink: &mut S,
-) -> Result<(), Stop<S::Refusal>>
-    ensures { WentOn S.next S.refuses before path.old (S.state sink.old)
-        (λ base. reports_by T.kind (T.tree value.now) (T.own value.now) (C.context context.now) (base ++ step_of step.entry ∷ []))
-        (T.depth + 1) result path.new (S.state sink.new) }
-{
-    match before {
-        Ok(()) => within(value, step, context, path, sink),
-        Err(stop) => Err(stop),
-    }
 }

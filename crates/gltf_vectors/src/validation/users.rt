@@ -9,7 +9,7 @@ ghost use Rattle.gltf_schema.specs.Kind.{IndexInto};
 ghost use Rattle.gltf_schema.specs.Tree.{absent};
 ghost use Rattle.gltf_root.specs.RootTrees.{root_tree};
 ghost use Rattle.gltf_faults.specs.Context.{rules_of, under};
-ghost use Rattle.gltf_sinks.specs.Handed.{WentOn};
+ghost use Rattle.gltf_sinks.specs.Handed.{Walked};
 ghost use Rattle.gltf_validation.specs.ByType.{reports_by, reports_in, each_entry, no_reports};
 
 use crate::documents::lines_of;
@@ -70,15 +70,14 @@ impl Validate for Pair {
         path: &mut Steps<'a>,
         sink: &mut S,
     ) -> Result<(), Stop<S::Refusal>> {
-        let left = member(Ok(()), &self.left, "left", rules, root, path, sink);
-        let right = member(left, &self.right, "right", rules, root, path, sink);
-        member(right, &self.tags, "tags", rules, root, path, sink)
+        member(&self.left, "left", rules, root, path, sink)?;
+        member(&self.right, "right", rules, root, path, sink)?;
+        member(&self.tags, "tags", rules, root, path, sink)
     }
 }
 
-/// Goes on with a member, where nothing stopped the walk before.
+/// Validates a member, one step further.
 fn member<'a, T: Validate, S: Sink>(
-    before: Result<(), Stop<S::Refusal>>,
     value: &'a T,
     name: &'static str,
     rules: &Rules<'_>,
@@ -86,22 +85,17 @@ fn member<'a, T: Validate, S: Sink>(
     path: &mut Steps<'a>,
     sink: &mut S,
 ) -> Result<(), Stop<S::Refusal>>
-    ensures { WentOn S.next S.refuses before path.old (S.state sink.old)
+    ensures { Walked S.next S.refuses path.old (S.state sink.old)
         (λ base. reports_by T.kind (T.tree value.now) (T.own value.now) (under (rules_of rules.now) (root_tree root.now)) (base ++ field name.now ∷ []))
         (T.depth + 1) result path.new (S.state sink.new) }
 {
-    match before {
-        Err(stop) => Err(stop),
-        Ok(()) => {
-            if path.is_full() {
-                return Err(Stop::StepsFull);
-            }
-            path.push(Step::Field(name));
-            let walked = value.validate_with(rules, root, path, sink);
-            path.pop();
-            walked
-        }
+    if path.is_full() {
+        return Err(Stop::StepsFull);
     }
+    path.push(Step::Field(name));
+    let walked = value.validate_with(rules, root, path, sink);
+    path.pop();
+    walked
 }
 
 /// A pair whose indexes are all 0, one of them tagged `a`.

@@ -16,7 +16,7 @@ pub const VALID_TYPES: &[&str] = &["directional", "point", "spot"];
 pub enum LightType {
     /// From far away, in one direction.
     Directional = 1,
-    /// From a point, to all sides.
+    /// From a point, in all directions.
     Point,
     /// From a point, into a cone.
     Spot,

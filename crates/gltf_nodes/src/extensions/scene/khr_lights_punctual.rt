@@ -1,4 +1,4 @@
-//! Lights at points of a scene (the extension `KHR_lights_punctual`).
+//! Punctual lights: directional lights, point lights and spot lights (`KHR_lights_punctual`).
 
 ghost use Rattle.std.specs.Prelude.{◌≡◌, false};
 ghost use Rattle.serde_json.specs.Data.{no_members};
@@ -16,7 +16,8 @@ use gltf_schema::{Error, Object, Reading, Writing};
 use serde_json::{Map, Value};
 use std::alloc::Global;
 
-/// The light that stands at a node, and shines along its -z axis.
+/// The light that a node carries. It stands at the node's origin; a directional or a spot light shines
+/// along the node's local -z axis.
 #[derive(Clone, Debug, Drop)]
 pub struct KhrLightsPunctual {
     pub light: Index<Light>,
@@ -179,7 +180,7 @@ impl Object for Spot {
 }
 
 impl Spot {
-    /// A cone that says nothing.
+    /// A cone with every member at its default.
     #[tactic(auto, unfolding(crate::specs::LightTable::spot_rows, crate::specs::LightTrees::spot_members))]
     pub fn new() -> Spot
         ensures { spot_members result ≡ defaults spot_rows }

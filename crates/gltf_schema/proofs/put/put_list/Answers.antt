@@ -1,5 +1,5 @@
 -- A list with items is always written.
-use Rattle.std.proofs.Common.{◌≡◌, false, nat_eq, length, sym, ◌∙◌, arith}
+use Rattle.std.proofs.Common.{◌≡◌, false, nat_eq, length, refl, sym, ◌∙◌, arith}
 use Rattle.gltf_schema.specs.Kind.{ListOf}
 use Rattle.gltf_schema.specs.Write.{write}
 use Rattle.gltf_schema.specs.Put.{put_member}
@@ -11,4 +11,5 @@ pub returns : goal.returns
 unfolding put_member
 returns g c =
     let some : nat_eq (length c.args.value.now.items) 0 ≡ false = (let e : length c.args.value.now.items ≡ c.args.value.now.len = omega arith in rw e (sym c.is_empty.ensures ∙ c.if-is_empty.false)) in
-    filled g.T.Schema.tree c.args.value.now.items c.args.name.now (write (ListOf g.T.Schema.kind)) (members_view c.args.members.now.entries) _ some c.in_ok-put_always.ensures.required
+    rw (filled g.T.Schema.tree c.args.value.now.items c.args.name.now (write (ListOf g.T.Schema.kind)) (members_view c.args.members.now.entries) _ some refl)
+    c.put_always.ensures.required

@@ -4,10 +4,10 @@ use Rattle.std.proofs.lemmas.List.{length-take}
 use Rattle.gltf_paths.specs.Steps.{step_of}
 use Rattle.gltf_visits.specs.Parts.{plan_of}
 use Rattle.gltf_walk.specs.Left.{plan_left, plans_left}
-use Rattle.gltf_visits.specs.Plan.{height, leaf, weight}
+use Rattle.gltf_visits.specs.Plan.{height, leaf}
 use Rattle.gltf_walk.specs.Stacks.{to_come_of}
 use Rattle.gltf_walk.specs.ToCome.{context_in}
-use Rattle.gltf_walk.proofs.Stacks.{told_by, weight_by, weight_move, weight_least}
+use Rattle.gltf_walk.proofs.Stacks.{weight, told_by, weight_by, weight_move, weight_least}
 use Rattle.gltf_walk.proofs.Moves.{left_one, begun_left, rest_height, down_height, popped_fits, pushed_fits, moved_fits, frames_weight, frames_length, over_goes, move_made, begun_behind, part_entered}
 use Rattle.gltf_walk.proofs.state.Descent.next_report.Goals as goal
 

@@ -1,6 +1,6 @@
 use Rattle.std.proofs.Common.{◌≡◌, ◌≤◌}
 use Rattle.gltf_walk.specs.Left.{plans_left}
-use Rattle.gltf_walk.specs.Stacks.{weight_of}
+use Rattle.gltf_walk.proofs.Stacks.{weight_of}
 use Rattle.gltf_walk.specs.ToCome.{base_count, context_in, depth_of_descent, left_of_descent}
 use Rattle.gltf_walk.proofs.state.Descent.next_report.Given as goal
 

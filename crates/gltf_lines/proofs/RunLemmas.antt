@@ -85,12 +85,9 @@ none-or-read rules bytes calls seen (Err Write) h = inl refl
 none-or-read rules bytes calls seen (Err TooLong) h = inl refl
 none-or-read rules bytes calls seen (Err InvalidItem) h = inl refl
 
--- the output of a document that was refused
-pub json-output : (rules : Rules) (r : Result Root Error) (P : Output → Type 0) → r ≡ Err Json → P (answer_output rules no_json) → IsSomeAnd (reading_output rules r) P
-json-output rules r P is h = subst (λ (x : Result Root Error). IsSomeAnd (reading_output rules x) P) (sym is) h
-
-pub schema-output : (rules : Rules) (r : Result Root Error) (P : Output → Type 0) → r ≡ Err Schema → P (answer_output rules no_document) → IsSomeAnd (reading_output rules r) P
-schema-output rules r P is h = subst (λ (x : Result Root Error). IsSomeAnd (reading_output rules x) P) (sym is) h
+-- what holds of the output of a reading that is known
+pub output-known : (rules : Rules) (r known : Result Root Error) (P : Output → Type 0) → r ≡ known → IsSomeAnd (reading_output rules known) P → IsSomeAnd (reading_output rules r) P
+output-known rules r known P is h = subst (λ (x : Result Root Error). IsSomeAnd (reading_output rules x) P) (sym is) h
 
 -- the same either way
 pub same-either : {A : Type 0} → A ⊎ A → A

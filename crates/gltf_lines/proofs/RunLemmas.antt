@@ -12,7 +12,7 @@ use Rattle.gltf_sinks.specs.Report.{Report}
 use Rattle.gltf_root.specs.RootTrees.{root_tree}
 use Rattle.gltf_root.specs.declared.root.Root.{Root}
 use Rattle.gltf_lines.specs.Output.{Output, answer_output, reports_output, output, refusal}
-use Rattle.gltf_lines.specs.Run.{BrokeOff, IsRun, IsWhole, IsWritten, reading_output}
+use Rattle.gltf_lines.specs.Run.{IsRun, IsWritten, reading_output}
 
 -- no output of an answer has the refusal's status
 reports_output-status : (rs : List Report) → (reports_output rs).status ≢ 4
@@ -32,31 +32,32 @@ output-told rules (Some bytes) a P told h = subst (λ x. P (answer_output rules 
 
 module _ (rules : Rules) (input old new : Option (List ℕ)) (failed_before failed : Bool) (status : ℕ) where
   -- the refusal was written
-  IsRun-refused : IsWhole refusal old new failed_before failed status ⊎ BrokeOff refusal.text old new failed status → IsRun rules input old new failed_before failed status
+  IsRun-refused : IsWritten refusal old new failed_before failed status → IsRun rules input old new failed_before failed status
+  unfolding IsWritten
   IsRun-refused (inl whole) = record {
     answered = λ some. absurd (some whole.answered);
-    refused = λ _. inl whole;
+    refused = λ _. inl (inl whole);
   }
   IsRun-refused (inr broke) = record {
     answered = λ some. absurd (some broke.answered);
-    refused = λ _. inr (inl broke);
+    refused = λ _. inl (inr broke);
   }
 
   -- the output of the answer was written
   IsRun-answered : (a : Answer) → IfSome input (λ bytes. answer bytes ≡ a)
-      → IsWhole (answer_output rules a) old new failed_before failed status ⊎ BrokeOff (answer_output rules a).text old new failed status → IsRun rules input old new failed_before failed status
+      → IsWritten (answer_output rules a) old new failed_before failed status → IsRun rules input old new failed_before failed status
+  unfolding IsWritten
   IsRun-answered a told (inl whole) = record {
     answered = λ _. (whole.works, output-told rules input a (λ due. (status ≡ due.status) × Appends old new due.text) told (whole.answered, whole.appends));
     refused = λ four. absurd (answer_output-status rules a (sym whole.answered ∙ four));
   }
   IsRun-answered a told (inr broke) = record {
     answered = λ some. absurd (some broke.answered);
-    refused = λ _. inr (inr (broke.fails, output-told rules input a (λ due. AppendsFront old new due.text) told broke.front));
+    refused = λ _. inr (broke.fails, output-told rules input a (λ due. AppendsFront old new due.text) told broke.front);
   }
 
   IsRun-read : (r : Result Root Error) → IfSome input (λ bytes. IsReadAnswer (answer bytes) r)
       → IsSomeAnd (reading_output rules r) (λ due. IsWritten due old new failed_before failed status) → IsRun rules input old new failed_before failed status
-  unfolding IsWritten
   IsRun-read (Ok root) told h = IsRun-answered (document (root_tree root)) told h
   IsRun-read (Err Json) told h = IsRun-answered no_json told h
   IsRun-read (Err Schema) told h = IsRun-answered no_document told h
@@ -70,7 +71,6 @@ module _ (rules : Rules) (input old new : Option (List ℕ)) (failed_before fail
   pub IsRun-either : (r : Result Root Error) → IfSome input (λ bytes. IsReadAnswer (answer bytes) r)
       → IsWritten refusal old new failed_before failed status ⊎ IsSomeAnd (reading_output rules r) (λ due. IsWritten due old new failed_before failed status)
       → IsRun rules input old new failed_before failed status
-  unfolding IsWritten
   IsRun-either r told (inl h) = IsRun-refused h
   IsRun-either r told (inr h) = IsRun-read r told h
 

@@ -32,8 +32,7 @@ pub record IsRun (rules : Rules) (input old new : Option (List ℕ)) (failed_bef
   -- the bytes' output is written
   pub answered : status ≢ 4 → (failed ≡ failed_before) × IfSome input (λ bytes. (status ≡ (output rules bytes).status) × Appends old new (output rules bytes).text)
   -- the refusal is written, or the writer failed behind a front of one of the two
-  pub refused : status ≡ 4 → IsWhole refusal old new failed_before failed status ⊎ BrokeOff refusal.text old new failed status
-      ⊎ ((failed ≡ true) × IfSome input (λ bytes. AppendsFront old new (output rules bytes).text))
+  pub refused : status ≡ 4 → IsWritten refusal old new failed_before failed status ⊎ ((failed ≡ true) × IfSome input (λ bytes. AppendsFront old new (output rules bytes).text))
 
 -- a reader that was fresh gave its end within the limits of a document
 abbrev pub IsReadWhole : Seen → Type 0

@@ -5,7 +5,7 @@ use Rattle.std.specs.Cmp.{IsTotalOrder, alike_right, Equal-is}
 use Rattle.std.specs.Map.{lookup}
 use Rattle.std.specs.Option.{option_or}
 use Rattle.std.specs.Ordering.{is_eq, match_ordering}
-use Rattle.serde_json.specs.Data.{Data, Members, no_members, member, object}
+use Rattle.serde_json.specs.Data.{Members, no_members, member, object}
 use Rattle.gltf_paths.specs.Lists.{ListName}
 use Rattle.gltf_checked.specs.Keys.{Key, key_cmp}
 use Rattle.gltf_checked.specs.Names.{key_named}

@@ -1,8 +1,7 @@
 -- Walks in loops: over the items of a list, or the entries of a map.
-use Rattle.std.proofs.Common.{◌≡◌, ℕ, suc, ◌+◌, ◌<◌, ◌≤◌, List, [], ◌∷◌, ◌++◌, length, get_or, drop, Result, Ok, Err, refl, sym, ◌∙◌, ap, subst, append_assoc, drop-cons, add-one}
+use Rattle.std.proofs.Common.{◌≡◌, ℕ, suc, ◌+◌, ◌<◌, ◌≤◌, List, [], ◌∷◌, ◌++◌, length, get_or, drop, Result, Ok, Err, refl, sym, ◌∙◌, ap, append_assoc, arith, drop-cons, add-one}
 use Rattle.std.proofs.Math.ListN.{drop_of_length-le}
 use Rattle.std.proofs.lemmas.List.{append-nil}
-use Rattle.std.proofs.lemmas.Result.{err_from_is_err_and}
 use Rattle.std.specs.Result.{IsErrAnd}
 use Rattle.arrayvec.specs.ArrayVec.{ArrayVec}
 use Rattle.gltf_paths.specs.Steps.{Step, item, steps_of}
@@ -10,61 +9,48 @@ use Rattle.gltf_paths.specs.declared.path.Step.{Step as Borrowed}
 use Rattle.gltf_paths.specs.declared.validation.Error.{Error}
 use Rattle.gltf_sinks.specs.Report.{Report, From, each_at}
 use Rattle.gltf_sinks.specs.declared.sink.Stop.{Stop}
-use Rattle.gltf_sinks.specs.Handed.{run, HandedOver, Walked}
-use Rattle.gltf_sinks.proofs.Walks.{run-append, handed-behind, handed-before}
+use Rattle.gltf_sinks.specs.Handed.{Walked}
+use Rattle.gltf_sinks.proofs.Walks.{walked_then, walked_stopped, walked_same}
 
--- a walk over all reports is under way: the sink took those before, and the rest is to come
-pub record Underway {S : Type 0} (next : S → List Step → Error → S) (path : ArrayVec Borrowed) (old : S) (all rest : From) (now : ArrayVec Borrowed) (new : S) : Type 0 where
-  pub same : now ≡ path
-  pub before : List Report
-  pub split : all (steps_of path) ≡ before ++ rest (steps_of path)
-  pub ran : new ≡ run next old before
-
-pub underway-begin : {S : Type 0} (next : S → List Step → Error → S) (p : ArrayVec Borrowed) (s : S) (all : From) → Underway next p s all all p s
-underway-begin next p s all = record { same = refl; before = []; split = refl; ran = refl }
-
--- what is to come, in other words
-pub underway-same : {S : Type 0} {next : S → List Step → Error → S} {p q : ArrayVec Borrowed} {o s : S} {all rest rest' : From}
-    → ((base : List Step) → rest base ≡ rest' base) → Underway next p o all rest q s → Underway next p o all rest' q s
-underway-same {S} {next} {p} {q} {o} {s} {all} {rest} {rest'} e h =
-    record { same = h.same; before = h.before; split = h.split ∙ ap (λ zs. h.before ++ zs) (e (steps_of p)); ran = h.ran }
+-- a walk over all reports is under way: that over those before came through, and the rest is to come
+pub record Underway {S R : Type 0} (next : S → List Step → Error → S) (refuses : S → List Step → Error → R → S → Type 0)
+    (path : ArrayVec Borrowed) (old : S) (all rest : From) (now : ArrayVec Borrowed) (new : S) : Type 0 where
+  pub before : From
+  pub split : (base : List Step) → all base ≡ before base ++ rest base
+  pub came : Walked next refuses path old before 0 (Ok tt) now new
 
 module _ {S R : Type 0} {next : S → List Step → Error → S} {refuses : S → List Step → Error → R → S → Type 0} where
+  -- nothing came yet
+  pub underway-begin : (p : ArrayVec Borrowed) (s : S) (all : From) → Underway next refuses p s all all p s
+  underway-begin p s all = record { before = λ _. []; split = λ _. refl; came = record { same = refl; handed = refl } }
+
+  -- what is to come, in other words
+  pub underway-same : {p q : ArrayVec Borrowed} {o s : S} {all rest rest' : From}
+      → ((base : List Step) → rest base ≡ rest' base) → Underway next refuses p o all rest q s → Underway next refuses p o all rest' q s
+  underway-same e h = record { before = h.before; split = λ base. h.split base ∙ ap (λ zs. h.before base ++ zs) (e base); came = h.came }
+
   -- one more walk came through
   pub underway-more : {p q q' : ArrayVec Borrowed} {o s t : S} {all : From} {n : ℕ} (f rest : From)
-      → Underway next p o all (λ base. f base ++ rest base) q s → Walked next refuses q s f n (Ok tt) q' t → Underway next p o all rest q' t
-  underway-more {p} {q} {q'} {o} {s} {t} {all} {n} f rest h w =
-      let ys = f (steps_of p) in
-      let taken : t ≡ run next s ys = subst (λ (v : ArrayVec Borrowed). t ≡ run next s (f (steps_of v))) h.same w.handed in
+      → Underway next refuses p o all (λ base. f base ++ rest base) q s → Walked next refuses q s f n (Ok tt) q' t
+      → Underway next refuses p o all rest q' t
+  underway-more f rest h w =
+      let both = walked_then h.came w in
       record {
-        same = w.same ∙ h.same;
-        before = h.before ++ ys;
-        split = h.split ∙ sym (append_assoc h.before ys (rest (steps_of p)));
-        ran = taken ∙ (ap (λ v. run next v ys) h.ran ∙ sym (run-append next o h.before ys));
+        before = λ base. h.before base ++ f base;
+        split = λ base. h.split base ∙ sym (append_assoc (h.before base) (f base) (rest base));
+        came = record { same = both.same; handed = both.handed };
       }
 
   -- nothing is to come
-  pub underway-end : {p q : ArrayVec Borrowed} {o s : S} {all : From} {n : ℕ} → Underway next p o all (λ _. []) q s → Walked next refuses p o all n (Ok tt) q s
-  underway-end {p} {q} {o} {s} {all} {n} h = record { same = h.same; handed = h.ran ∙ ap (run next o) (sym (h.split ∙ append-nil h.before)) }
+  pub underway-end : {p q : ArrayVec Borrowed} {o s : S} {all : From} {n : ℕ}
+      → Underway next refuses p o all (λ _. []) q s → Walked next refuses p o all n (Ok tt) q s
+  underway-end h = walked_same (λ base. h.split base ∙ append-nil (h.before base)) (record { same = h.came.same; handed = h.came.handed })
 
   -- one more walk stopped
   pub underway-exit : {p q q' : ArrayVec Borrowed} {o s t : S} {all : From} {n : ℕ} {stop : Stop R} {r : Result (Unit {0}) (Stop R)} (f rest : From)
-      → IsErrAnd r (λ z. z ≡ stop) → Underway next p o all (λ base. f base ++ rest base) q s → Walked next refuses q s f n (Err stop) q' t → Walked next refuses p o all n r q' t
-  underway-exit {p} {q} {q'} {o} {s} {t} {all} {n} {stop} {r} f rest j h w =
-      let ys = f (steps_of p) in
-      let zs = rest (steps_of p) in
-      let steps = length (steps_of p) + n in
-      let stopped : HandedOver next refuses s ys steps (Err stop) t =
-      subst (λ (v : ArrayVec Borrowed). HandedOver next refuses s (f (steps_of v)) (length (steps_of v) + n) (Err stop) t) h.same w.handed in
-      let behind : HandedOver next refuses o (h.before ++ (ys ++ zs)) steps (Err stop) t =
-      handed-behind next refuses o s t h.before (ys ++ zs) steps (Err stop) h.ran (handed-before next refuses s t ys zs steps stop stopped) in
-      let found = err_from_is_err_and r j in
-      let is : r ≡ Err stop = found.1 ∙ ap (λ (z : Stop R). Err z) found.2 in
-      record {
-        same = w.same ∙ h.same;
-        handed = subst (λ (v : Result (Unit {0}) (Stop R)). HandedOver next refuses o (all (steps_of p)) steps v t) (sym is)
-            (subst (λ ws. HandedOver next refuses o ws steps (Err stop) t) (sym h.split) behind);
-      }
+      → IsErrAnd r (λ z. z ≡ stop) → Underway next refuses p o all (λ base. f base ++ rest base) q s → Walked next refuses q s f n (Err stop) q' t
+      → Walked next refuses p o all n r q' t
+  underway-exit f rest j h w = walked_same h.split (walked_then h.came (walked_stopped rest j (omega arith) w))
 
 -- the items from a number on: the one there, and those behind it
 pub each_at-next : {X : Type 0} (f : X → From) (i : ℕ) (xs : List X) (x : X) → i < length xs → x ≡ get_or xs i x

@@ -1,5 +1,5 @@
 -- What a walk goes through: what stands below a place, in order, and what is wrong at the place itself.
-use Rattle.std.specs.Prelude.{ℕ, zero, suc, ◌+◌, List, [], ◌∷◌, ◌++◌, length, max, Option, Some, None}
+use Rattle.std.specs.Prelude.{ℕ, zero, suc, ◌+◌, List, [], ◌∷◌, ◌++◌, max, Option, Some, None}
 use Rattle.gltf_paths.specs.Steps.{Step}
 use Rattle.gltf_paths.specs.declared.validation.Error.{Error}
 use Rattle.gltf_sinks.specs.Report.{From, report}

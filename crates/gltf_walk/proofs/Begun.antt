@@ -1,5 +1,5 @@
 -- A walk that begins has all reports of the value to come.
-use Rattle.std.proofs.Common.{◌≡◌, ◌≤◌, List, [], ◌∷◌, None, append-nil, arith, ap, ◌∙◌}
+use Rattle.std.proofs.Common.{◌≡◌, ◌≤◌, List, [], ◌∷◌, append-nil, arith, ap, ◌∙◌}
 use Rattle.gltf_paths.specs.Steps.{Step}
 use Rattle.gltf_schema.specs.Kind.{Kind}
 use Rattle.gltf_schema.specs.Tree.{Tree, absent}

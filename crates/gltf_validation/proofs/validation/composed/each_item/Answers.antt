@@ -9,7 +9,7 @@ use Rattle.gltf_validation.proofs.validation.composed.each_item.Goals as goal
 pub loop-i-init : goal.loop-i-init
 loop-i-init g c =
     let v = g.T.Validate in
-    underway-begin g.S.Sink.next _ _ (each_at (reports_in v.kind v.tree v.own (g.C.Against.context c.args.context.now)) 0 c.args.items.now.items)
+    underway-begin _ _ (each_at (reports_in v.kind v.tree v.own (g.C.Against.context c.args.context.now)) 0 c.args.items.now.items)
 
 pub loop-i-preserved : goal.loop-i-preserved
 loop-i-preserved g c =

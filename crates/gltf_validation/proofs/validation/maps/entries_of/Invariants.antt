@@ -8,4 +8,4 @@ invariant-loop-key g l =
     let k = g.K.Validate in
     let v = g.V.Validate in
     let each = each_entry g.K.KeyStep.key_text (reports_in k.kind k.tree k.own (g.C.Against.context l.context)) (reports_in v.kind v.tree v.own (g.C.Against.context l.context)) in
-    Underway g.S.Sink.next l.fn.path (g.S.Sink.state l.fn.sink) (each l.map.entries) (each l.key-iterator) l.path (g.S.Sink.state l.sink)
+    Underway g.S.Sink.next g.S.Sink.refuses l.fn.path (g.S.Sink.state l.fn.sink) (each l.map.entries) (each l.key-iterator) l.path (g.S.Sink.state l.sink)

@@ -14,7 +14,7 @@ same_spelling (by_number m) (by_name t) e = cc
 same_spelling (by_name s) (by_number n) e = cc
 
 -- what holds of the tail of a list holds of the list
-pub Contains-cons : {X : Type 0} (y x : X) (ys : List X) → Contains ys x → Contains (y ∷ ys) x
+Contains-cons : {X : Type 0} (y x : X) (ys : List X) → Contains ys x → Contains (y ∷ ys) x
 Contains-cons y x ys (k, below, here) = (suc k, omega arith, here)
 
 -- the same of a list, where it holds of the tail

@@ -7,7 +7,7 @@ use Rattle.std.proofs.lemmas.Bool.Decides.{Decides-eqb}
 use Rattle.gltf_checked.specs.Names.{behind}
 
 -- behind a prefix that is put in front stands the rest
-pub behind-append : (p rest : List ℕ) → behind p (p ++ rest) ≡ Some rest
+behind-append : (p rest : List ℕ) → behind p (p ++ rest) ≡ Some rest
 behind-append [] rest = refl
 behind-append (c ∷ cs) rest = rw ((Decides-eqb c c).1 refl) (behind-append cs rest)
 
@@ -20,7 +20,7 @@ behind_head c d cs ds rest true h tail e =
 behind_head c d cs ds rest false h tail e = cc
 
 -- what has something behind a prefix begins with it
-pub behind-found : (p s rest : List ℕ) → behind p s ≡ Some rest → s ≡ p ++ rest
+behind-found : (p s rest : List ℕ) → behind p s ≡ Some rest → s ≡ p ++ rest
 behind-found [] s rest e = cc
 behind-found (c ∷ cs) [] rest e = cc
 behind-found (c ∷ cs) (d ∷ ds) rest e = behind_head c d cs ds rest (c == d) refl (behind-found cs ds rest) e

@@ -17,7 +17,7 @@ digit_model : IsNumeralModel IsDigits (digits_value 10)
 digit_model = numerals_by_value IsDigits tells_all_ascii_digits
 
 -- one or more digits write their value
-pub number_written-digits : (ds : List ℕ) → IsDigits ds → 0 < length ds → digits_value 10 ds < 2 ^ 32 → number_written ds ≡ Some (digits_value 10 ds)
+number_written-digits : (ds : List ℕ) → IsDigits ds → 0 < length ds → digits_value 10 ds < 2 ^ 32 → number_written ds ≡ Some (digits_value 10 ds)
 number_written-digits ds are nonempty small = grind (arith, nat_tests)
 
 -- where not all of three tests pass, there is nothing

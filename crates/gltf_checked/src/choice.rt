@@ -48,7 +48,8 @@ pub trait Choice: Copy + 'static {
         ensures { spelling_of result ≡ spelling self };
 
     // Each item that is read is the one that its own spelling means.
-    ghost reads_back: { AllByRecursion (λ x. item_spelled spelling listed (spelling x) ≡ Valid x) listed };
+    ghost reads_back: { AllByRecursion (λ x. item_spelled spelling listed (spelling x) ≡ Valid x)
+        listed };
 }
 
 /// Whether two spellings are the same: two numbers, or two names, that are equal.
@@ -77,7 +78,8 @@ pub fn item_of<T: Choice>(spelling: Spelling<'_>) -> Checked<T>
 /// Each item that is read is read back from its own spelling, and what a spelling is read as is
 /// spelled so: both for choices by number and for choices by name.
 pub fn spellings_are_read_back<T: Choice>()
-    ensures listed { AllByRecursion (λ x. item_spelled T.spelling T.listed (T.spelling x) ≡ Valid x) T.listed }
+    ensures listed { AllByRecursion (λ x. item_spelled T.spelling T.listed (T.spelling x) ≡ Valid x)
+        T.listed }
     ensures read { (s : Spelled) (x : T) → item_spelled T.spelling T.listed s ≡ Valid x
         → (T.spelling x ≡ s) × Contains T.listed x }
 {}

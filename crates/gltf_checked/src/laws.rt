@@ -41,16 +41,21 @@ pub fn items_are_before_invalid<T: Ord>()
 
 /// Keys of attributes are ordered and equal as what they mean.
 pub fn semantics_are_ordered_as_keys()
-    ensures order { (a b : Either Meaning) → ⟦<Checked<Semantic> as Ord>⟧.cmp a b ≡ key_cmp (checked_key a) (checked_key b) }
-    ensures equality { (a b : Either Meaning) → ⟦<Checked<Semantic> as PartialEq>⟧.eq a b ≡ key_eq (checked_key a) (checked_key b) }
+    ensures order { (a b : Either Meaning)
+        → ⟦<Checked<Semantic> as Ord>⟧.cmp a b ≡ key_cmp (checked_key a) (checked_key b) }
+    ensures equality { (a b : Either Meaning)
+        → ⟦<Checked<Semantic> as PartialEq>⟧.eq a b ≡ key_eq (checked_key a) (checked_key b) }
 {}
 
 /// What some names of attributes mean, computed from the definitions.
 #[tactic(auto, unfolding(crate::specs::Names::key_named))]
 pub fn worked_names()
-    ensures sets { (key_named (codes "TEXCOORD_007") ≡ tex_coords 7) × (key_named (codes "JOINTS_+0") ≡ joints 0)
+    ensures sets { (key_named (codes "TEXCOORD_007") ≡ tex_coords 7)
+        × (key_named (codes "JOINTS_+0") ≡ joints 0)
         × (key_named (codes "COLOR_4294967295") ≡ colors 4294967295) }
-    ensures no_sets { (key_named (codes "COLOR_") ≡ unknown) × (key_named (codes "COLOR_4294967296") ≡ unknown)
+    ensures no_sets { (key_named (codes "COLOR_") ≡ unknown)
+        × (key_named (codes "COLOR_4294967296") ≡ unknown)
         × (key_named (codes "JOINTS_++0") ≡ unknown) × (key_named (codes "position") ≡ unknown) }
-    ensures own_names { (key_named (codes "_") ≡ extras []) × (key_named (codes "_POSITION") ≡ extras (codes "POSITION")) }
+    ensures own_names { (key_named (codes "_") ≡ extras [])
+        × (key_named (codes "_POSITION") ≡ extras (codes "POSITION")) }
 {}

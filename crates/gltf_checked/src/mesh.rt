@@ -50,8 +50,8 @@ impl Semantic {
         }
     }
 
-    /// The attribute's name that means the semantic. [`Semantic::checked`] reads it back. `Err` comes
-    /// only where memory was refused.
+    /// The attribute's name that means the semantic. [`Semantic::checked`] reads it back. `Err`
+    /// comes only where memory was refused.
     pub fn to_string(&self, alloc: Global) -> Result<String, AllocError>
         ensures text { IfOk result (λ text. string_bytes text ≡ key_text (semantic_key self.now)) }
         ensures named { OnOk result (IsNamed (semantic_key self.now)) }
@@ -123,10 +123,11 @@ fn parse_set(text: &str) -> Option<u32>
     text.parse().ok()
 }
 
-/// Appends the text of a semantic or of none. `Err` comes only where memory was refused; part of the
-/// text may have been appended then.
+/// Appends the text of a semantic or of none. `Err` comes only where memory was refused; part of
+/// the text may have been appended then.
 pub fn write_semantic(text: &mut String, semantic: &Checked<Semantic>) -> Result<(), AllocError>
-    ensures { OnOk result (string_bytes text.new ≡ string_bytes text.old ++ key_text (checked_key semantic.now)) }
+    ensures { OnOk result (string_bytes text.new
+        ≡ string_bytes text.old ++ key_text (checked_key semantic.now)) }
 {
     match semantic {
         Checked::Valid(semantic) => write_valid(text, semantic),
@@ -135,7 +136,8 @@ pub fn write_semantic(text: &mut String, semantic: &Checked<Semantic>) -> Result
 }
 
 fn write_valid(text: &mut String, semantic: &Semantic) -> Result<(), AllocError>
-    ensures text { OnOk result (string_bytes text.new ≡ string_bytes text.old ++ key_text (semantic_key semantic.now)) }
+    ensures text { OnOk result (string_bytes text.new
+        ≡ string_bytes text.old ++ key_text (semantic_key semantic.now)) }
     ensures named { IsNamed (semantic_key semantic.now) }
 {
     match semantic {
@@ -152,7 +154,8 @@ fn write_valid(text: &mut String, semantic: &Semantic) -> Result<(), AllocError>
 
 /// Appends a prefix and the number of a set.
 fn write_set(text: &mut String, prefix: &str, set: u32) -> Result<(), AllocError>
-    ensures { OnOk result (string_bytes text.new ≡ string_bytes text.old ++ prefix.now ++ decimal set) }
+    ensures { OnOk result (string_bytes text.new
+        ≡ string_bytes text.old ++ prefix.now ++ decimal set) }
 {
     write!(text, "{prefix}{set}")
 }

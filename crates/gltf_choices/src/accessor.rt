@@ -128,7 +128,8 @@ impl Choice for GenericComponentType {
 impl GenericComponentType {
     /// The component type that a number spells; `Invalid` where it spells none.
     pub fn from_gl_enum(number: u64) -> Checked<GenericComponentType>
-        ensures { result ≡ item_spelled generic_component_type_spelling generic_component_types (by_number number) }
+        ensures { result ≡ item_spelled generic_component_type_spelling generic_component_types
+            (by_number number) }
     {
         item_of::<GenericComponentType>(Spelling::Number(number))
     }
@@ -177,7 +178,8 @@ impl Choice for IndexComponentType {
 impl IndexComponentType {
     /// The component type of indexes that a number spells; `Invalid` where it spells none.
     pub fn from_gl_enum(number: u64) -> Checked<IndexComponentType>
-        ensures { result ≡ item_spelled index_component_type_spelling index_component_types (by_number number) }
+        ensures { result ≡ item_spelled index_component_type_spelling index_component_types
+            (by_number number) }
     {
         item_of::<IndexComponentType>(Spelling::Number(number))
     }
@@ -282,11 +284,12 @@ impl AccessorType {
 
 /// The constants of this module are those that the specification lists.
 pub fn constants_are_listed()
-    ensures numbers { (BYTE ≡ 5120) × (UNSIGNED_BYTE ≡ 5121) × (SHORT ≡ 5122) × (UNSIGNED_SHORT ≡ 5123)
-        × (UNSIGNED_INT ≡ 5125) × (FLOAT ≡ 5126) }
+    ensures numbers { (BYTE ≡ 5120) × (UNSIGNED_BYTE ≡ 5121) × (SHORT ≡ 5122)
+        × (UNSIGNED_SHORT ≡ 5123) × (UNSIGNED_INT ≡ 5125) × (FLOAT ≡ 5126) }
     ensures component_types { map by_number VALID_COMPONENT_TYPES.now
         ≡ map generic_component_type_spelling generic_component_types }
     ensures index_types { map by_number VALID_INDEX_TYPES.now
         ≡ map index_component_type_spelling index_component_types }
-    ensures types { map (λ name. by_name name.now) VALID_ACCESSOR_TYPES.now ≡ map accessor_type_spelling accessor_types }
+    ensures types { map (λ name. by_name name.now) VALID_ACCESSOR_TYPES.now
+        ≡ map accessor_type_spelling accessor_types }
 {}

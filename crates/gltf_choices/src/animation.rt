@@ -149,6 +149,8 @@ impl Property {
 
 /// The constants of this module are those by which the choices are spelled.
 pub fn constants_are_listed()
-    ensures interpolations { map (λ name. by_name name.now) VALID_INTERPOLATIONS.now ≡ map interpolation_spelling interpolations }
-    ensures properties { map (λ name. by_name name.now) VALID_PROPERTIES.now ≡ map property_spelling properties }
+    ensures interpolations { map (λ name. by_name name.now) VALID_INTERPOLATIONS.now
+        ≡ map interpolation_spelling interpolations }
+    ensures properties { map (λ name. by_name name.now) VALID_PROPERTIES.now
+        ≡ map property_spelling properties }
 {}

@@ -66,5 +66,6 @@ impl CameraType {
 
 /// The constants of this module are those by which the choices are spelled.
 pub fn constants_are_listed()
-    ensures { map (λ name. by_name name.now) VALID_CAMERA_TYPES.now ≡ map camera_type_spelling camera_types }
+    ensures { map (λ name. by_name name.now) VALID_CAMERA_TYPES.now
+        ≡ map camera_type_spelling camera_types }
 {}

@@ -7,5 +7,6 @@ pub const VALID_MIME_TYPES: &[&str] = &["image/jpeg", "image/png"];
 
 /// The constants of this module are those that the specification lists.
 pub fn constants_are_listed()
-    ensures { map (λ name. name.now) VALID_MIME_TYPES.now ≡ codes "image/jpeg" ∷ codes "image/png" ∷ [] }
+    ensures { map (λ name. name.now) VALID_MIME_TYPES.now
+        ≡ codes "image/jpeg" ∷ codes "image/png" ∷ [] }
 {}

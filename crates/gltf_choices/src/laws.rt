@@ -59,16 +59,21 @@ pub fn items_are_equal_by_spelling()
 
 /// Light types are equal exactly where they hash alike.
 pub fn equal_light_types_hash_alike()
-    ensures { (a b : ALightType) → (⟦<LightType as PartialEq>⟧.eq a b ≡ true) ↔ (⟦<LightType as Hash>⟧.hash_input a ≡ ⟦<LightType as Hash>⟧.hash_input b) }
+    ensures { (a b : ALightType)
+        → (⟦<LightType as PartialEq>⟧.eq a b ≡ true)
+        ↔ (⟦<LightType as Hash>⟧.hash_input a ≡ ⟦<LightType as Hash>⟧.hash_input b) }
 {}
 
 /// What some numbers are read as, computed from the definitions.
 pub fn worked_numbers()
-    ensures component_types { (item_spelled generic_component_type_spelling generic_component_types (by_number 4294972416) ≡ Invalid)
-        × (item_spelled generic_component_type_spelling generic_component_types (by_number 5124) ≡ Invalid)
+    ensures component_types { (item_spelled generic_component_type_spelling generic_component_types
+        (by_number 4294972416) ≡ Invalid)
+        × (item_spelled generic_component_type_spelling generic_component_types (by_number 5124)
+        ≡ Invalid)
         × (item_spelled generic_component_type_spelling generic_component_types (by_number 5126)
         ≡ Valid (record { 0 = ComponentType.F32 })) }
-    ensures index_types { (item_spelled index_component_type_spelling index_component_types (by_number 5126) ≡ Invalid)
+    ensures index_types { (item_spelled index_component_type_spelling index_component_types
+        (by_number 5126) ≡ Invalid)
         × (item_spelled index_component_type_spelling index_component_types (by_number 5123)
         ≡ Valid (record { 0 = ComponentType.U16 })) }
 {}

@@ -78,5 +78,6 @@ impl AlphaMode {
 
 /// The constants of this module are those by which the choices are spelled.
 pub fn constants_are_listed()
-    ensures { map (λ name. by_name name.now) VALID_ALPHA_MODES.now ≡ map alpha_mode_spelling alpha_modes }
+    ensures { map (λ name. by_name name.now) VALID_ALPHA_MODES.now
+        ≡ map alpha_mode_spelling alpha_modes }
 {}

@@ -130,8 +130,8 @@ impl Mode {
 
 /// The constants of this module are those that the specification lists.
 pub fn constants_are_listed()
-    ensures numbers { (POINTS ≡ 0) × (LINES ≡ 1) × (LINE_LOOP ≡ 2) × (LINE_STRIP ≡ 3) × (TRIANGLES ≡ 4)
-        × (TRIANGLE_STRIP ≡ 5) × (TRIANGLE_FAN ≡ 6) }
+    ensures numbers { (POINTS ≡ 0) × (LINES ≡ 1) × (LINE_LOOP ≡ 2) × (LINE_STRIP ≡ 3)
+        × (TRIANGLES ≡ 4) × (TRIANGLE_STRIP ≡ 5) × (TRIANGLE_FAN ≡ 6) }
     ensures modes { map by_number VALID_MODES.now ≡ map mode_spelling modes }
     ensures morph_targets { map (λ name. name.now) VALID_MORPH_TARGETS.now
         ≡ codes "POSITION" ∷ codes "NORMAL" ∷ codes "TANGENT" ∷ [] }

@@ -248,9 +248,13 @@ impl WrappingMode {
 /// The constants of this module are those that the specification lists.
 pub fn constants_are_listed()
     ensures filters { (NEAREST ≡ 9728) × (LINEAR ≡ 9729) × (NEAREST_MIPMAP_NEAREST ≡ 9984)
-        × (LINEAR_MIPMAP_NEAREST ≡ 9985) × (NEAREST_MIPMAP_LINEAR ≡ 9986) × (LINEAR_MIPMAP_LINEAR ≡ 9987) }
+        × (LINEAR_MIPMAP_NEAREST ≡ 9985) × (NEAREST_MIPMAP_LINEAR ≡ 9986)
+        × (LINEAR_MIPMAP_LINEAR ≡ 9987) }
     ensures wrapping { (CLAMP_TO_EDGE ≡ 33071) × (MIRRORED_REPEAT ≡ 33648) × (REPEAT ≡ 10497) }
-    ensures mag_filters { map by_number VALID_MAG_FILTERS.now ≡ map mag_filter_spelling mag_filters }
-    ensures min_filters { map by_number VALID_MIN_FILTERS.now ≡ map min_filter_spelling min_filters }
-    ensures wrapping_modes { map by_number VALID_WRAPPING_MODES.now ≡ map wrapping_mode_spelling wrapping_modes }
+    ensures mag_filters { map by_number VALID_MAG_FILTERS.now
+        ≡ map mag_filter_spelling mag_filters }
+    ensures min_filters { map by_number VALID_MIN_FILTERS.now
+        ≡ map min_filter_spelling min_filters }
+    ensures wrapping_modes { map by_number VALID_WRAPPING_MODES.now
+        ≡ map wrapping_mode_spelling wrapping_modes }
 {}

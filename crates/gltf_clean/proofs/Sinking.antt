@@ -19,12 +19,12 @@ counts_up n [] = omega arith
 counts_up n (r ∷ rs) = omega (arith, counts_up (suc n) rs)
 
 -- a sink that took no report
-pub took_none : (rs : List Report) → run counted 0 rs ≡ 0 → rs ≡ []
+took_none : (rs : List Report) → run counted 0 rs ≡ 0 → rs ≡ []
 took_none [] none = refl
 took_none (r ∷ rs) none = absurd (omega (arith, counts_up 1 rs, none))
 
 -- a report that is refused where none was taken is the first
-pub refused_first : (all before after : List Report) (at : Report) → all ≡ before ++ at ∷ after → run counted 0 before ≡ 0
+refused_first : (all before after : List Report) (at : Report) → all ≡ before ++ at ∷ after → run counted 0 before ≡ 0
     → first_error all ≡ Some at.error
 refused_first all before after at parts none =
     ap first_error parts ∙ ap (λ rs. first_error (rs ++ at ∷ after)) (took_none before none)

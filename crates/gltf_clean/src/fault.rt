@@ -42,7 +42,8 @@ impl Sink for FirstFault {
 /// has none.
 pub(crate) fn first_fault<V: Validate>(value: &V, rules: &Rules<'_>, root: &Root) -> Option<Error>
     requires { V.depth ≤ 10 }
-    ensures { result ≡ first_error (reports_by V.kind (V.tree value.now) (V.own value.now) (under (rules_of rules.now) (root_tree root.now)) []) }
+    ensures { result ≡ first_error (reports_by V.kind (V.tree value.now) (V.own value.now)
+        (under (rules_of rules.now) (root_tree root.now)) []) }
 {
     match value.validate_with(rules, root, &mut Steps::new(), &mut FirstFault) {
         Ok(()) => None,
@@ -55,8 +56,10 @@ pub(crate) fn first_fault<V: Validate>(value: &V, rules: &Rules<'_>, root: &Root
 /// The error of the first report of the last item of a list, wherever the item is seen from; `None`
 /// where it has none.
 pub(crate) fn fault_of_last<T: Item>(rules: &Rules<'_>, root: &Root) -> Option<Error>
-    ensures { (before : List T) (item : T) (base : List Step) → T.items root.now ≡ before ++ item ∷ []
-        → result ≡ first_error (reports_by_rules (rules_of rules.now) (item_kind T.list) (T.RootItem.tree item) (root_tree root.now) base) }
+    ensures { (before : List T) (item : T) (base : List Step)
+        → T.items root.now ≡ before ++ item ∷ []
+        → result ≡ first_error (reports_by_rules (rules_of rules.now) (item_kind T.list)
+        (T.RootItem.tree item) (root_tree root.now) base) }
 {
     match T::list_of(root).last() {
         Some(item) => first_fault(item, rules, root),

@@ -35,7 +35,8 @@ pub trait Item: Validate + RootItem {
 pub trait TopLevelItem: Validate + TopLevel {
     ghost kinded: { Self.kind ≡ Some (item_kind Self.list) };
 
-    ghost seen: { (item : Self) → Self.Validate.tree item ≡ object (Self.members item) (Self.unknown item) };
+    ghost seen: { (item : Self)
+        → Self.Validate.tree item ≡ object (Self.members item) (Self.unknown item) };
 
     ghost shallow: { Self.depth ≤ 10 };
 }

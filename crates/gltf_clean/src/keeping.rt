@@ -45,8 +45,8 @@ impl<T> Display for CleanError<T> {
 impl<T: Debug + Drop> std::error::Error for CleanError<T> {}
 
 impl<'a> Clean<'a> {
-    /// The root with its rules where it has no report under them; else it is handed back. It takes no
-    /// memory.
+    /// The root with its rules where it has no report under them; else it is handed back. It takes
+    /// no memory.
     pub fn of(rules: Rules<'a>, root: Root) -> Result<Clean<'a>, Root>
         ensures { IsHeld (rules_of rules.entry) root result }
     {
@@ -73,13 +73,15 @@ impl<'a> Clean<'a> {
     }
 
     /// Appends an item to its list where it has no report there, and returns its index. It may name
-    /// items of the root and itself. Extension objects that are missing are made, as `Get::push` does.
+    /// items of the root and itself. Extension objects that are missing are made, as `Get::push`
+    /// does.
     ///
     /// `Full` comes before any memory is taken, and `Memory` before the item is looked at. An item
     /// that has a report is in the list while it is looked at, and is taken out again.
     pub fn push<T: Item>(&mut self, item: T) -> Result<Index<T>, CleanError<T>>
         ensures rules { rules_held self.new ≡ rules_held self.old }
-        ensures pushed { IsPushed (rules_held self.old) T.list item (T.RootItem.tree item) (tree_held self.old) result (tree_held self.new) }
+        ensures pushed { IsPushed (rules_held self.old) T.list item (T.RootItem.tree item)
+            (tree_held self.old) result (tree_held self.new) }
     {
         push_clean(&self.rules, &mut self.root, item)
     }
@@ -91,7 +93,8 @@ fn push_clean<T: Item>(
     root: &mut Root,
     item: T,
 ) -> Result<Index<T>, CleanError<T>>
-    ensures { IsPushed (rules_of rules.now) T.list item (T.RootItem.tree item) (root_tree root.old) result (root_tree root.new) }
+    ensures { IsPushed (rules_of rules.now) T.list item (T.RootItem.tree item)
+        (root_tree root.old) result (root_tree root.new) }
 {
     let mark = T::mark_of(root);
     match T::push_onto(root, item) {

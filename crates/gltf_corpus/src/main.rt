@@ -1,5 +1,6 @@
-//! Answers each document of `data/documents.jsonl`, one a line: the status and the output of a run over
-//! it, and what it is written as. `stdout` has what must be answered (docs/DECISIONS.md says from where).
+//! Answers each document of `data/documents.jsonl`, one a line: the status and the output of a run
+//! over it, and what it is written as. `stdout` has what must be answered (docs/DECISIONS.md says
+//! from where).
 #![tactic(auto)]
 
 use anyhow::Result;

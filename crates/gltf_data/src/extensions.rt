@@ -1,4 +1,5 @@
-//! Extension objects of accessors, buffers and images: what stands behind their member `extensions`.
+//! Extension objects of accessors, buffers and images: what stands behind their member
+//! `extensions`.
 
 pub mod accessor;
 pub mod buffer;

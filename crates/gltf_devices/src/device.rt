@@ -24,8 +24,8 @@ pub trait ByteIn {
     // What the calls so far have shown.
     ghost seen: { Self → Seen };
 
-    /// Reads bytes into the front of `buf` and returns how many. `Ok(0)` for a slice that isn't empty
-    /// is the end; `Err` comes where the device refused the call.
+    /// Reads bytes into the front of `buf` and returns how many. `Ok(0)` for a slice that isn't
+    /// empty is the end; `Err` comes where the device refused the call.
     fn read(&mut self, buf: &mut [u8]) -> Result<usize, Failed>
         ensures bound { IfOk result (λ n. n ≤ length buf.new) }
         ensures bytes { ReadConsumes (left self.old) (left self.new) result buf.new }
@@ -48,8 +48,8 @@ pub trait ByteOut {
     // Whether a call has failed.
     ghost has_failed: { Self → Bool };
 
-    /// Takes bytes from the front of `buf` and returns how many: at least one, if there is one. `Err`
-    /// comes where the device refused the call.
+    /// Takes bytes from the front of `buf` and returns how many: at least one, if there is one.
+    /// `Err` comes where the device refused the call.
     fn write(&mut self, buf: &[u8]) -> Result<usize, Failed>
         ensures bound { IfOk result (λ n. n ≤ length buf.now) }
         ensures some { 0 < length buf.now → IfOk result (λ n. 0 < n) }
@@ -67,9 +67,12 @@ pub fn read_to_end<R: ByteIn>(
     most_bytes: u64,
     most_calls: u64,
 ) -> Result<Vec<u8>, DocumentError>
-    ensures all { IfOk result (λ bytes. IsReadToEnd (R.left reader.old) (R.left reader.new) bytes.items) }
-    ensures within { IsFresh (R.seen reader.old) → OnOk result (IsWithin most_bytes most_calls (R.seen reader.new)) }
-    ensures gave_up { IfErr result (λ e. GaveUp most_bytes most_calls (R.seen reader.old) (R.seen reader.new) e) }
+    ensures all { IfOk result (λ bytes. IsReadToEnd (R.left reader.old)
+        (R.left reader.new) bytes.items) }
+    ensures within { IsFresh (R.seen reader.old)
+        → OnOk result (IsWithin most_bytes most_calls (R.seen reader.new)) }
+    ensures gave_up { IfErr result (λ e. GaveUp most_bytes most_calls (R.seen reader.old)
+        (R.seen reader.new) e) }
     ensures soon { (R.seen reader.new).calls ≤ (R.seen reader.old).calls + most_calls }
     ensures uncalled { most_calls ≡ 0 → reader.new ≡ reader.old }
 {
@@ -91,9 +94,12 @@ fn fill<R: ByteIn>(
 ) -> Result<(), DocumentError>
     requires room { 0 < length piece.old }
     requires empty { bytes.old.items ≡ [] }
-    ensures all { OnOk result (IsReadToEnd (R.left reader.old) (R.left reader.new) bytes.new.items) }
-    ensures within { IsFresh (R.seen reader.old) → OnOk result (IsWithin most_bytes most_calls (R.seen reader.new)) }
-    ensures gave_up { IfErr result (λ e. GaveUp most_bytes most_calls (R.seen reader.old) (R.seen reader.new) e) }
+    ensures all { OnOk result (IsReadToEnd (R.left reader.old)
+        (R.left reader.new) bytes.new.items) }
+    ensures within { IsFresh (R.seen reader.old)
+        → OnOk result (IsWithin most_bytes most_calls (R.seen reader.new)) }
+    ensures gave_up { IfErr result (λ e. GaveUp most_bytes most_calls (R.seen reader.old)
+        (R.seen reader.new) e) }
     ensures soon { (R.seen reader.new).calls ≤ (R.seen reader.old).calls + most_calls }
     ensures uncalled { most_calls ≡ 0 → reader.new ≡ reader.old }
 {
@@ -112,8 +118,8 @@ fn fill<R: ByteIn>(
     Err(DocumentError::TooLong)
 }
 
-/// Writes all bytes, in as many calls as the writer needs. `Err` comes where a call failed; the writer
-/// has taken a prefix of the bytes then.
+/// Writes all bytes, in as many calls as the writer needs. `Err` comes where a call failed; the
+/// writer has taken a prefix of the bytes then.
 #[tactic(auto, using(crate::proofs::WriteLemmas::writes))]
 pub fn write_all<W: ByteOut>(writer: &mut W, bytes: &[u8]) -> Result<(), Failed>
     ensures works { OnOk result (W.has_failed writer.new ≡ W.has_failed writer.old) }

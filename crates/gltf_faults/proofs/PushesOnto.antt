@@ -108,7 +108,7 @@ rule_kept enabled ListName.accessors x r base = refl
 rule_kept enabled named x r base = refl
 
 -- the reports of a document with one more item, against any document
-pub root_inserted : (named : ListName) (x : Tree) (r : Root) (context : Context)
+root_inserted : (named : ListName) (x : Tree) (r : Root) (context : Context)
     → IsInserted (reports root_kind (root_tree r) context absent []) (reports (item_kind named) x context absent (item_place named (count_in named (root_tree r))))
     (reports root_kind (pushed named x (root_tree r)) context absent [])
 root_inserted named x r context =

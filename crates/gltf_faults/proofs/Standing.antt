@@ -47,7 +47,7 @@ if_here : (b : Bool) (error : Error) (base : List Step) → AllBelow base (repor
 if_here b error base = if_below b error base [] base (sym (append-nil base))
 
 -- what stands below a further place stands below this one
-pub further_below : (base more : List Step) (rs : List Report) → AllBelow (base ++ more) rs → AllBelow base rs
+further_below : (base more : List Step) (rs : List Report) → AllBelow (base ++ more) rs → AllBelow base rs
 further_below base more rs h k d lt = let s = h k d lt in (more ++ s.0, s.1 ∙ append_assoc base more s.0)
 
 -- ---- what is wrong with a value by itself

@@ -9,11 +9,12 @@ ghost use Rattle.gltf_faults.specs.Rules.{camera_rule};
 use gltf_base::validation::Error;
 use gltf_nodes::camera::Camera;
 
-/// What is wrong with a camera's projection: `Missing`, for the camera itself, where it has neither,
-/// whatever its type.
+/// What is wrong with a camera's projection: `Missing`, for the camera itself, where it has
+/// neither, whatever its type.
 #[tactic(auto, unfolding(gltf_nodes::specs::CameraTrees::camera_members))]
 pub fn projection_fault(camera: &Camera) -> Option<Error>
-    ensures { (base : List Step) → found_at result base ≡ camera_rule (camera_members camera.now) base }
+    ensures { (base : List Step)
+        → found_at result base ≡ camera_rule (camera_members camera.now) base }
 {
     match (&camera.orthographic, &camera.perspective) {
         (None, None) => Some(Error::Missing),

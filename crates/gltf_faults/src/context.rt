@@ -15,8 +15,8 @@ pub struct Context<'a> {
     pub root: &'a Root,
 }
 
-/// What has a context. Code that only hands it on, as a walk over an object's members does, asks for
-/// this, and so need not know that a whole document stands in it.
+/// What has a context. Code that only hands it on, as a walk over an object's members does, asks
+/// for this, and so need not know that a whole document stands in it.
 pub trait Against {
     ghost context: { Self → Mathematical };
 

@@ -37,7 +37,9 @@ where
 /// `Missing`, and nothing where the rules allow it; else what is wrong with the index.
 pub fn source_fault(texture: &Texture, context: &Context<'_>) -> Option<Error>
     ensures { (base : List Step) → found_at result base
-        ≡ source_faults (context_of context.now).rules.empty_texture (count_in ListName.images (context_of context.now).root) (index_tree texture.now.source) base }
+        ≡ source_faults (context_of context.now).rules.empty_texture
+        (count_in ListName.images (context_of context.now).root)
+        (index_tree texture.now.source) base }
 {
     if texture.source != Index::new(NO_IMAGE) {
         index_fault(&texture.source, context.root)
@@ -48,11 +50,12 @@ pub fn source_fault(texture: &Texture, context: &Context<'_>) -> Option<Error>
     }
 }
 
-/// What is wrong with the sampler that a channel names: `IndexOutOfBounds` where it is past the end of
-/// the animation's own samplers.
+/// What is wrong with the sampler that a channel names: `IndexOutOfBounds` where it is past the end
+/// of the animation's own samplers.
 pub fn sampler_fault(channel: &Channel, animation: &Animation) -> Option<Error>
     ensures { (base : List Step) → found_at result base
-        ≡ index_faults (sampler_count (closed_object (animation_members animation.now))) (index_tree channel.now.sampler) base }
+        ≡ index_faults (sampler_count (closed_object (animation_members animation.now)))
+        (index_tree channel.now.sampler) base }
 {
     match sampler_of(channel, animation) {
         Some(_) => None,
@@ -62,7 +65,8 @@ pub fn sampler_fault(channel: &Channel, animation: &Animation) -> Option<Error>
 
 /// The sampler that a channel names.
 fn sampler_of<'a>(channel: &Channel, animation: &'a Animation) -> Option<&'a Sampler>
-    ensures { option_copied result ≡ slice_get animation.now.samplers.items (index_number channel.now.sampler) }
+    ensures { option_copied result
+        ≡ slice_get animation.now.samplers.items (index_number channel.now.sampler) }
 {
     animation.samplers.get(channel.sampler.value())
 }

@@ -14,7 +14,8 @@ use gltf_data::buffer::Stride;
 
 /// What is wrong with an item of a choice: `Invalid` where it is none of the choice's.
 pub fn choice_fault<T>(item: &Checked<T>) -> Option<Error>
-    ensures { (spell : T → Spelling) (base : List Step) → found_at result base ≡ choice_faults (checked_tree spell item.now) base }
+    ensures { (spell : T → Spelling) (base : List Step)
+        → found_at result base ≡ choice_faults (checked_tree spell item.now) base }
 {
     match item {
         Checked::Valid(_) => None,
@@ -25,7 +26,8 @@ pub fn choice_fault<T>(item: &Checked<T>) -> Option<Error>
 /// What is wrong with a stride: `Invalid` where it is below 4 or above 252 bytes (glTF 2.0, section
 /// 5.11.4).
 pub fn stride_fault(stride: &Stride) -> Option<Error>
-    ensures { (base : List Step) → found_at result base ≡ stride_faults (stride_tree stride.now) base }
+    ensures { (base : List Step)
+        → found_at result base ≡ stride_faults (stride_tree stride.now) base }
 {
     if MIN_BYTE_STRIDE <= stride.0 && stride.0 <= MAX_BYTE_STRIDE {
         None

@@ -36,12 +36,13 @@ pub struct PositionFaults {
     pub max: Option<Error>,
 }
 
-/// What is wrong with the positions of a primitive: `Missing` where there are none; for each bound of
-/// their accessor, where it is there, `Missing` or, for what isn't three numbers, `Invalid`.
+/// What is wrong with the positions of a primitive: `Missing` where there are none; for each bound
+/// of their accessor, where it is there, `Missing` or, for what isn't three numbers, `Invalid`.
 #[tactic(auto, unfolding(gltf_meshes::specs::MeshTrees::primitive_members))]
 pub fn position_faults(primitive: &Primitive, root: &Root) -> PositionFaults
     ensures { (base : List MathematicalStep) → found_in_positions result base
-        ≡ positions_faults (lookup is_positions (entries_in (primitive_attributes (primitive_members primitive.now)))) (root_tree root.now) base }
+        ≡ positions_faults (lookup is_positions (entries_in
+        (primitive_attributes (primitive_members primitive.now)))) (root_tree root.now) base }
 {
     match index_of_positions(&primitive.attributes) {
         Some(index) => found_at_index(index, root),
@@ -83,7 +84,8 @@ fn found_in_bounds(accessor: &Accessor) -> PositionFaults
 
 /// What is wrong with a bound of positions.
 fn bound_fault(bound: &Option<Value>) -> Option<Error>
-    ensures { (base : List MathematicalStep) → found_at result base ≡ bound_faults (tree_or_absent any_tree bound.now) base }
+    ensures { (base : List MathematicalStep)
+        → found_at result base ≡ bound_faults (tree_or_absent any_tree bound.now) base }
 {
     match bound {
         None => Some(Error::Missing),
@@ -109,7 +111,8 @@ fn is_three_numbers(value: &Value) -> bool
 fn index_of_positions(
     attributes: &BTreeMap<Checked<Semantic>, Index<Accessor>>,
 ) -> Option<Index<Accessor>>
-    ensures { option_map index_number result ≡ lookup is_positions (entries_in (attributes_tree attributes.now)) }
+    ensures { option_map index_number result
+        ≡ lookup is_positions (entries_in (attributes_tree attributes.now)) }
 {
     for (semantic, index) in attributes {
         if means_positions(semantic) {

@@ -17,7 +17,8 @@ pub struct Rules<'a> {
 
 /// The names of the extensions that a document may require where its textures may be without an
 /// image: those of `ENABLED_EXTENSIONS`, and the extensions that give a texture an image of another
-/// format. For callers that give it as `enabled` beside `empty_texture`; nothing goes by it otherwise.
+/// format. For callers that give it as `enabled` beside `empty_texture`; nothing goes by it
+/// otherwise.
 pub const ENABLED_WITH_EMPTY_TEXTURES: &[&str] = &[
     "KHR_lights_punctual",
     "KHR_materials_pbrSpecularGlossiness",
@@ -37,8 +38,8 @@ pub fn constant_is_listed()
 {}
 
 impl<'a> Rules<'a> {
-    /// The rules where nobody rules otherwise: no texture may be without an image, and a document may
-    /// require what is in `ENABLED_EXTENSIONS`.
+    /// The rules where nobody rules otherwise: no texture may be without an image, and a document
+    /// may require what is in `ENABLED_EXTENSIONS`.
     pub fn new() -> Rules<'a>
         ensures { rules_of result ≡ standard_rules }
     {

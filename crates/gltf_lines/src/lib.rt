@@ -32,8 +32,8 @@ const REFUSAL: &str = "refused: input or output\n";
 /// | 3 | `refused: not a glTF document` |
 /// | 4 | `refused: input or output`, where the reader failed, a limit of [`Root::from_reader`] was passed or memory was refused; a prefix of the output that was due, where the writer failed |
 ///
-/// The whole output is made before its first byte is written. Paths escape nothing, so a report on a
-/// name with a newline in it takes more than one line.
+/// The whole output is made before its first byte is written. Paths escape nothing, so a report on
+/// a name with a newline in it takes more than one line.
 pub fn run<R: ByteIn, W: ByteOut>(alloc: Global, reader: &mut R, writer: &mut W) -> u8
     ensures status { result ≤ 4 }
     ensures run { IsRun standard_rules (R.left reader.old) (W.taken writer.old) (W.taken writer.new)
@@ -55,8 +55,8 @@ pub fn run_with<R: ByteIn, W: ByteOut>(
     writer: &mut W,
 ) -> u8
     ensures status { result ≤ 4 }
-    ensures run { IsRun (rules_of rules.now) (R.left reader.old) (W.taken writer.old) (W.taken writer.new)
-        (W.has_failed writer.old) (W.has_failed writer.new) result }
+    ensures run { IsRun (rules_of rules.now) (R.left reader.old) (W.taken writer.old)
+        (W.taken writer.new) (W.has_failed writer.old) (W.has_failed writer.new) result }
     ensures reader_failed { IsFresh (R.seen reader.old) → (R.seen reader.new).has_failed ≡ true
         → (result ≡ 4) × AppendsFront (W.taken writer.old) (W.taken writer.new) refusal.text }
     ensures not_read { IsFresh (R.seen reader.old) → ¬ (IsReadWhole (R.seen reader.new))
@@ -77,9 +77,11 @@ fn answer<W: ByteOut>(
     ensures status { result ≤ 4 }
     ensures given_up { reading_output (rules_of rules.now) reading.now ≡ None
         → (result ≡ 4) × AppendsFront (W.taken writer.old) (W.taken writer.new) refusal.text }
-    ensures written { IsWritten refusal (W.taken writer.old) (W.taken writer.new) (W.has_failed writer.old) (W.has_failed writer.new) result
+    ensures written { IsWritten refusal (W.taken writer.old) (W.taken writer.new)
+        (W.has_failed writer.old) (W.has_failed writer.new) result
         ⊎ IsSomeAnd (reading_output (rules_of rules.now) reading.now) (λ due.
-        IsWritten due (W.taken writer.old) (W.taken writer.new) (W.has_failed writer.old) (W.has_failed writer.new) result) }
+        IsWritten due (W.taken writer.old) (W.taken writer.new)
+        (W.has_failed writer.old) (W.has_failed writer.new) result) }
 {
     match reading {
         Ok(root) => match lines_of(alloc, rules, root) {

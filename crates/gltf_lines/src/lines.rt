@@ -15,7 +15,8 @@ use std::fmt::Write;
 
 /// The lines of everything that is wrong in a document by the rules.
 pub(crate) fn lines_of(alloc: Global, rules: &Rules<'_>, root: &Root) -> Result<String, AllocError>
-    ensures { IfOk result (λ lines. string_bytes lines ≡ report_lines (document_reports (rules_of rules.now) (root_tree root.now))) }
+    ensures { IfOk result (λ lines. string_bytes lines
+        ≡ report_lines (document_reports (rules_of rules.now) (root_tree root.now))) }
 {
     let mut lines = String::new(alloc);
     let mut walk = Walk::with_rules(*rules, root);

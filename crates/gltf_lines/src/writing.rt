@@ -11,8 +11,8 @@ use gltf_devices::{ByteOut, Failed, write_all};
 pub(crate) fn write_output<W: ByteOut>(writer: &mut W, text: &str, status: u8) -> u8
     ensures status { (result ≡ status) ⊎ (result ≡ 4) }
     ensures front { AppendsFront (W.taken writer.old) (W.taken writer.new) text.now }
-    ensures written { IsWritten (record { text = text.now; status = status }) (W.taken writer.old) (W.taken writer.new)
-        (W.has_failed writer.old) (W.has_failed writer.new) result }
+    ensures written { IsWritten (record { text = text.now; status = status }) (W.taken writer.old)
+        (W.taken writer.new) (W.has_failed writer.old) (W.has_failed writer.new) result }
 {
     match write_all(writer, text.as_bytes()) {
         Ok(()) => status,

@@ -93,8 +93,8 @@ impl Object for Mesh {
 // What takes longest to drop stands last (docs/DECISIONS.md).
 #[derive(Clone, Debug, Drop)]
 pub struct Primitive {
-    /// The numbers of the vertices in drawing order; without it all vertices are drawn, in the order in
-    /// which they lie.
+    /// The numbers of the vertices in drawing order; without it all vertices are drawn, in the
+    /// order in which they lie.
     pub indices: Option<Index<Accessor>>,
     pub material: Option<Index<Material>>,
     /// What the vertices are drawn as.

@@ -7,5 +7,6 @@ use crate::scene::UnitQuaternion;
 
 /// A quaternion turns nothing by default.
 pub fn quaternions_turn_nothing_by_default()
-    ensures { (q : _) → ⟦<UnitQuaternion as Default>⟧.is_default q → unit_quaternion_tree q ≡ no_rotation }
+    ensures { (q : _) → ⟦<UnitQuaternion as Default>⟧.is_default q
+        → unit_quaternion_tree q ≡ no_rotation }
 {}

@@ -1,5 +1,5 @@
-//! The glTF 2.0 objects of scenes, their nodes and what nodes carry (cameras, skins, lights), and of a
-//! document's own description.
+//! The glTF 2.0 objects of scenes, their nodes and what nodes carry (cameras, skins, lights), and
+//! of a document's own description.
 #![tactic(auto)]
 
 pub mod asset;

@@ -20,7 +20,8 @@ use std::alloc::Global;
 // What takes longest to drop stands last (docs/DECISIONS.md).
 #[derive(Clone, Debug)]
 pub struct Skin {
-    /// The matrices that bring vertices into the space of each joint; without it each is the identity.
+    /// The matrices that bring vertices into the space of each joint; without it each is the
+    /// identity.
     pub inverse_bind_matrices: Option<Index<Accessor>>,
     /// The node that is the root of the skeleton.
     pub skeleton: Option<Index<Node>>,

@@ -1,6 +1,6 @@
-//! The glTF 2.0 objects of accessors, buffers, images, textures and materials. This crate names what
-//! `gltf_schema`, `gltf_data`, `gltf_textures`, `gltf_shading` and `gltf_materials` hold, under the
-//! modules of the format.
+//! The glTF 2.0 objects of accessors, buffers, images, textures and materials. This crate names
+//! what `gltf_schema`, `gltf_data`, `gltf_textures`, `gltf_shading` and `gltf_materials` hold,
+//! under the modules of the format.
 #![tactic(auto)]
 
 pub use gltf_schema::{Blank, Error, Object, Omittable, Reading, Schema, Unlisted, Writing};
@@ -98,5 +98,5 @@ pub mod texture {
         MagFilter, MinFilter, NEAREST, NEAREST_MIPMAP_LINEAR, NEAREST_MIPMAP_NEAREST, REPEAT,
         VALID_MAG_FILTERS, VALID_MIN_FILTERS, VALID_WRAPPING_MODES, WrappingMode,
     };
-    pub use gltf_textures::texture::{Info, Sampler, Texture};
+    pub use gltf_textures::texture::{Info, NO_IMAGE, Sampler, Texture};
 }

@@ -33,8 +33,8 @@ pub type Index<T> = IndexTo<*const T>;
 #[derive_where(Clone, Copy, PartialEq, Eq, PartialOrd, Ord, Hash)]
 pub struct IndexTo<P>(u32, PhantomData<P>);
 
-// SAFETY: An index is a number alone. `PhantomData<P>` holds no value of `P`, and no pointer is ever
-// made, so an index leads to nothing of another thread's.
+// SAFETY: An index is a number alone. `PhantomData<P>` holds no value of `P`, and no pointer is
+// ever made, so an index leads to nothing of another thread's.
 unsafe impl<P> Send for IndexTo<P> {}
 
 // SAFETY: As for `Send`: through a shared index only its number is read.
@@ -58,8 +58,8 @@ impl<T> Index<T> {
         self.0 as usize
     }
 
-    /// Appends an item to its list, and returns its index. `Full` comes for a list of 4294967295 items
-    /// or more, before any memory is taken; `Memory` where the list could not grow.
+    /// Appends an item to its list, and returns its index. `Full` comes for a list of 4294967295
+    /// items or more, before any memory is taken; `Memory` where the list could not grow.
     pub fn push(list: &mut Vec<T>, item: T) -> Result<Index<T>, PushError<T>>
         ensures pushed { IfOk result (λ index. (index_number index ≡ vec_len list.old)
             × (list.new.items ≡ list.old.items ++ item ∷ [])) }

@@ -17,16 +17,23 @@ use std::hash::Hash;
 
 /// Indexes are compared and hashed as their numbers.
 pub fn indexes_are_compared_as_numbers<P>()
-    ensures equality { (i j : AnIndex P) → ⟦<IndexTo<P> as PartialEq>⟧.eq i j ≡ (index_number i == index_number j) }
-    ensures order { (i j : AnIndex P) → ⟦<IndexTo<P> as Ord>⟧.cmp i j ≡ nat_cmp (index_number i) (index_number j) }
-    ensures partial_order { (i j : AnIndex P) → ⟦<IndexTo<P> as PartialOrd>⟧.partial_cmp i j ≡ Some (nat_cmp (index_number i) (index_number j)) }
-    ensures hash { (i : AnIndex P) → ⟦<IndexTo<P> as Hash>⟧.hash_input i ≡ ⟦<u32 as Hash>⟧.hash_input (index_number i) }
+    ensures equality { (i j : AnIndex P)
+        → ⟦<IndexTo<P> as PartialEq>⟧.eq i j ≡ (index_number i == index_number j) }
+    ensures order { (i j : AnIndex P)
+        → ⟦<IndexTo<P> as Ord>⟧.cmp i j ≡ nat_cmp (index_number i) (index_number j) }
+    ensures partial_order { (i j : AnIndex P)
+        → ⟦<IndexTo<P> as PartialOrd>⟧.partial_cmp i j
+        ≡ Some (nat_cmp (index_number i) (index_number j)) }
+    ensures hash { (i : AnIndex P)
+        → ⟦<IndexTo<P> as Hash>⟧.hash_input i ≡ ⟦<u32 as Hash>⟧.hash_input (index_number i) }
 {}
 
 /// Errors stand in the order in which they are declared.
 pub fn errors_are_ordered_by_rank()
-    ensures order { (a b : AnError) → ⟦<Error as Ord>⟧.cmp a b ≡ nat_cmp (error_rank a) (error_rank b) }
-    ensures equality { (a b : AnError) → ⟦<Error as PartialEq>⟧.eq a b ≡ (error_rank a == error_rank b) }
+    ensures order { (a b : AnError)
+        → ⟦<Error as Ord>⟧.cmp a b ≡ nat_cmp (error_rank a) (error_rank b) }
+    ensures equality { (a b : AnError)
+        → ⟦<Error as PartialEq>⟧.eq a b ≡ (error_rank a == error_rank b) }
 {}
 
 /// Sizes are equal where their numbers are.
@@ -37,8 +44,10 @@ pub fn sizes_are_compared_as_numbers()
 
 /// What some steps mean, computed from the definitions.
 pub fn worked_paths()
-    ensures { (path_text (field (codes "foo") ∷ item 0 ∷ value (codes "baz") ∷ []) ≡ codes "foo[0] = \"baz\"")
-        × (path_text (field (codes "foo") ∷ field (codes "bar") ∷ item 123 ∷ []) ≡ codes "foo.bar[123]")
+    ensures { (path_text (field (codes "foo") ∷ item 0 ∷ value (codes "baz") ∷ [])
+        ≡ codes "foo[0] = \"baz\"")
+        × (path_text (field (codes "foo") ∷ field (codes "bar") ∷ item 123 ∷ [])
+        ≡ codes "foo.bar[123]")
         × (path_text (field (codes "a") ∷ key (key_text unknown) ∷ item 2 ∷ field (codes "b") ∷ [])
         ≡ codes "a[\"<invalid semantic name>\"][2].b") }
 {}

@@ -95,28 +95,32 @@ impl Path {
 
     /// The path to a member of an object.
     pub fn field(&self, alloc: Global, name: &str) -> Result<Path, AllocError>
-        ensures { IfOk result (λ path. string_bytes path.0 ≡ text_with (string_bytes self.now.0) (field name.now)) }
+        ensures { IfOk result (λ path. string_bytes path.0
+            ≡ text_with (string_bytes self.now.0) (field name.now)) }
     {
         self.with(alloc, Step::Field(name))
     }
 
     /// The path to an item of a list.
     pub fn index(&self, alloc: Global, n: usize) -> Result<Path, AllocError>
-        ensures { IfOk result (λ path. string_bytes path.0 ≡ text_with (string_bytes self.now.0) (item n)) }
+        ensures { IfOk result (λ path. string_bytes path.0
+            ≡ text_with (string_bytes self.now.0) (item n)) }
     {
         self.with(alloc, Step::Index(n))
     }
 
     /// The path to an entry of a map. Nothing in the key is escaped.
     pub fn key(&self, alloc: Global, k: &str) -> Result<Path, AllocError>
-        ensures { IfOk result (λ path. string_bytes path.0 ≡ text_with (string_bytes self.now.0) (key k.now)) }
+        ensures { IfOk result (λ path. string_bytes path.0
+            ≡ text_with (string_bytes self.now.0) (key k.now)) }
     {
         self.with(alloc, Step::Key(k))
     }
 
     /// The path that also names the value at its end. Nothing in the value is escaped.
     pub fn value_str(&self, alloc: Global, v: &str) -> Result<Path, AllocError>
-        ensures { IfOk result (λ path. string_bytes path.0 ≡ text_with (string_bytes self.now.0) (value v.now)) }
+        ensures { IfOk result (λ path. string_bytes path.0
+            ≡ text_with (string_bytes self.now.0) (value v.now)) }
     {
         self.with(alloc, Step::Value(v))
     }
@@ -129,7 +133,8 @@ impl Path {
     }
 
     fn with(&self, alloc: Global, step: Step<'_>) -> Result<Path, AllocError>
-        ensures { IfOk result (λ path. string_bytes path.0 ≡ text_with (string_bytes self.now.0) (step_of step.entry)) }
+        ensures { IfOk result (λ path. string_bytes path.0
+            ≡ text_with (string_bytes self.now.0) (step_of step.entry)) }
     {
         let mut longer = String::from_str(alloc, self.as_str())?;
         write_step(&mut longer, step)?;
@@ -148,7 +153,8 @@ impl Display for Path {
 }
 
 fn write_step(path: &mut String, step: Step<'_>) -> Result<(), AllocError>
-    ensures { OnOk result (string_bytes path.new ≡ text_with (string_bytes path.old) (step_of step.entry)) }
+    ensures { OnOk result (string_bytes path.new
+        ≡ text_with (string_bytes path.old) (step_of step.entry)) }
 {
     match step {
         Step::Field(name) => {

@@ -1,11 +1,11 @@
 //! Accessors.
 
 use crate::next::Coming;
-use crate::object::Object;
+use crate::planned::Planned;
 use gltf_data::accessor::Accessor;
 use gltf_faults::{Against, data_fault};
 
-impl<'a, N: Coming<'a>> Object<'a, N> for Accessor {
+impl<'a, N: Coming<'a>> Planned<'a, N> for Accessor {
     #[tactic(auto, using(crate::proofs::Past::past), unfolding(gltf_data::specs::AccessorTable::accessor_rows, gltf_data::specs::AccessorTable::sparse_indices_rows, gltf_data::specs::AccessorTable::sparse_rows, gltf_data::specs::AccessorTrees::accessor_members))]
     fn next<C: Against>(&'a self, number: usize, context: &C) -> N {
         match number {

@@ -1,13 +1,13 @@
 //! Animations.
 
 use crate::next::Coming;
-use crate::object::Object;
+use crate::planned::Planned;
 use gltf_animations::animation::{Animation, Sampler, Target};
 use gltf_base::Step;
 use gltf_faults::Against;
 use gltf_visits::Part;
 
-impl<'a, N: Coming<'a>> Object<'a, N> for Target {
+impl<'a, N: Coming<'a>> Planned<'a, N> for Target {
     #[tactic(auto, using(crate::proofs::Past::past), unfolding(gltf_animations::specs::AnimationTable::animation_target_rows, gltf_animations::specs::AnimationTrees::animation_target_members))]
     fn next<C: Against>(&'a self, number: usize, context: &C) -> N {
         match number {
@@ -18,7 +18,7 @@ impl<'a, N: Coming<'a>> Object<'a, N> for Target {
     }
 }
 
-impl<'a, N: Coming<'a>> Object<'a, N> for Sampler {
+impl<'a, N: Coming<'a>> Planned<'a, N> for Sampler {
     #[tactic(auto, using(crate::proofs::Past::past), unfolding(gltf_animations::specs::AnimationTable::animation_sampler_rows, gltf_animations::specs::AnimationTrees::animation_sampler_members))]
     fn next<C: Against>(&'a self, number: usize, context: &C) -> N {
         match number {
@@ -30,7 +30,7 @@ impl<'a, N: Coming<'a>> Object<'a, N> for Sampler {
     }
 }
 
-impl<'a, N: Coming<'a>> Object<'a, N> for Animation {
+impl<'a, N: Coming<'a>> Planned<'a, N> for Animation {
     #[tactic(auto, using(crate::proofs::Past::past), unfolding(gltf_animations::specs::AnimationTable::animation_rows, gltf_animations::specs::AnimationTable::animation_channel_rows, gltf_animations::specs::AnimationTable::animation_sampler_rows, gltf_animations::specs::AnimationTrees::animation_members))]
     fn next<C: Against>(&'a self, number: usize, context: &C) -> N {
         match number {

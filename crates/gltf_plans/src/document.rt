@@ -1,7 +1,7 @@
 //! Whole documents.
 
 use crate::next::Coming;
-use crate::object::Object;
+use crate::planned::Planned;
 use gltf_base::Step;
 use gltf_faults::Against;
 use gltf_root::extensions::root as extensions;
@@ -9,7 +9,7 @@ use gltf_root::extensions::root::KhrLightsPunctual;
 use gltf_root::root::Root;
 use gltf_visits::Part;
 
-impl<'a, N: Coming<'a>> Object<'a, N> for Root {
+impl<'a, N: Coming<'a>> Planned<'a, N> for Root {
     #[tactic(auto, using(crate::proofs::Past::past), unfolding(gltf_root::specs::RootTable::root_rows, gltf_animations::specs::AnimationTable::animation_rows, gltf_animations::specs::AnimationTable::animation_sampler_rows, gltf_nodes::specs::AssetTable::asset_rows, gltf_data::specs::BufferTable::buffer_rows, gltf_data::specs::ImageTable::image_rows, gltf_root::specs::RootExtensionTable::lights_rows, gltf_materials::specs::MaterialTable::material_rows, gltf_meshes::specs::MeshTable::mesh_rows, gltf_nodes::specs::SceneTable::node_rows, gltf_root::specs::RootExtensionTable::root_extension_rows, gltf_textures::specs::TextureTable::sampler_rows, gltf_nodes::specs::SceneTable::scene_rows, gltf_nodes::specs::SceneTable::skin_rows, gltf_textures::specs::TextureTable::texture_rows, gltf_data::specs::BufferTable::view_rows, gltf_root::specs::RootTrees::root_members))]
     fn next<C: Against>(&'a self, number: usize, context: &C) -> N {
         match number {
@@ -36,7 +36,7 @@ impl<'a, N: Coming<'a>> Object<'a, N> for Root {
     }
 }
 
-impl<'a, N: Coming<'a>> Object<'a, N> for extensions::Root {
+impl<'a, N: Coming<'a>> Planned<'a, N> for extensions::Root {
     #[tactic(auto, using(crate::proofs::Past::past), unfolding(gltf_root::specs::RootExtensionTable::root_extension_rows, gltf_root::specs::RootExtensionTable::lights_rows, gltf_nodes::specs::LightTable::variant_rows, gltf_root::specs::RootExtensionTable::variants_rows, gltf_root::specs::RootExtensionTrees::root_extension_members))]
     fn next<C: Against>(&'a self, number: usize, context: &C) -> N {
         match number {
@@ -46,7 +46,7 @@ impl<'a, N: Coming<'a>> Object<'a, N> for extensions::Root {
     }
 }
 
-impl<'a, N: Coming<'a>> Object<'a, N> for KhrLightsPunctual {
+impl<'a, N: Coming<'a>> Planned<'a, N> for KhrLightsPunctual {
     #[tactic(auto, using(crate::proofs::Past::past), unfolding(gltf_root::specs::RootExtensionTable::lights_rows, gltf_root::specs::RootExtensionTrees::lights_members))]
     fn next<C: Against>(&'a self, number: usize, context: &C) -> N {
         match number {

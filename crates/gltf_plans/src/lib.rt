@@ -11,8 +11,8 @@ mod material;
 mod mesh;
 mod next;
 mod normal_texture;
-mod object;
 mod occlusion_texture;
+mod planned;
 mod scene;
 mod shading;
 mod sparse;
@@ -20,4 +20,4 @@ mod sparse_values;
 mod texture;
 
 pub use next::{Coming, Next};
-pub use object::Object;
+pub use planned::Planned;

@@ -1,11 +1,11 @@
 //! Lights.
 
 use crate::next::Coming;
-use crate::object::Object;
+use crate::planned::Planned;
 use gltf_faults::{Against, spot_fault};
 use gltf_nodes::extensions::scene::khr_lights_punctual::{KhrLightsPunctual, Light};
 
-impl<'a, N: Coming<'a>> Object<'a, N> for Light {
+impl<'a, N: Coming<'a>> Planned<'a, N> for Light {
     #[tactic(auto, using(crate::proofs::Past::past), unfolding(gltf_nodes::specs::LightTable::light_rows, gltf_nodes::specs::LightTable::spot_rows, gltf_nodes::specs::LightTrees::light_members))]
     fn next<C: Against>(&'a self, number: usize, context: &C) -> N {
         match number {
@@ -16,7 +16,7 @@ impl<'a, N: Coming<'a>> Object<'a, N> for Light {
     }
 }
 
-impl<'a, N: Coming<'a>> Object<'a, N> for KhrLightsPunctual {
+impl<'a, N: Coming<'a>> Planned<'a, N> for KhrLightsPunctual {
     #[tactic(auto, using(crate::proofs::Past::past), unfolding(gltf_nodes::specs::LightTable::light_of_node_rows, gltf_nodes::specs::LightTrees::light_of_node_members))]
     fn next<C: Against>(&'a self, number: usize, context: &C) -> N {
         match number {

@@ -1,11 +1,11 @@
 //! Materials.
 
 use crate::next::Coming;
-use crate::object::Object;
+use crate::planned::Planned;
 use gltf_faults::Against;
 use gltf_materials::material::{Material, PbrMetallicRoughness};
 
-impl<'a, N: Coming<'a>> Object<'a, N> for Material {
+impl<'a, N: Coming<'a>> Planned<'a, N> for Material {
     #[tactic(auto, using(crate::proofs::Past::past), unfolding(gltf_materials::specs::MaterialTable::material_rows, gltf_textures::specs::TextureTable::info_rows, gltf_shading::specs::MaterialExtensionTable::material_extension_rows, gltf_materials::specs::MaterialTable::normal_texture_rows, gltf_materials::specs::MaterialTable::occlusion_texture_rows, gltf_materials::specs::MaterialTable::pbr_metallic_roughness_rows, gltf_shading::specs::MaterialExtensionTable::pbr_specular_glossiness_rows, gltf_materials::specs::MaterialTrees::material_members))]
     fn next<C: Against>(&'a self, number: usize, context: &C) -> N {
         match number {
@@ -24,7 +24,7 @@ impl<'a, N: Coming<'a>> Object<'a, N> for Material {
     }
 }
 
-impl<'a, N: Coming<'a>> Object<'a, N> for PbrMetallicRoughness {
+impl<'a, N: Coming<'a>> Planned<'a, N> for PbrMetallicRoughness {
     #[tactic(auto, using(crate::proofs::Past::past), unfolding(gltf_materials::specs::MaterialTable::pbr_metallic_roughness_rows, gltf_textures::specs::TextureTable::info_rows, gltf_materials::specs::MaterialTrees::pbr_metallic_roughness_members))]
     fn next<C: Against>(&'a self, number: usize, context: &C) -> N {
         match number {

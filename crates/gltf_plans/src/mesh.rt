@@ -1,13 +1,13 @@
 //! Meshes.
 
 use crate::next::Coming;
-use crate::object::Object;
+use crate::planned::Planned;
 use gltf_base::Step;
 use gltf_faults::{Against, position_faults};
 use gltf_meshes::mesh::{Mesh, MorphTarget, Primitive};
 use gltf_visits::Part;
 
-impl<'a, N: Coming<'a>> Object<'a, N> for Mesh {
+impl<'a, N: Coming<'a>> Planned<'a, N> for Mesh {
     #[tactic(auto, using(crate::proofs::Past::past), unfolding(gltf_meshes::specs::MeshTable::mesh_rows, gltf_meshes::specs::MeshTrees::mesh_members))]
     fn next<C: Against>(&'a self, number: usize, context: &C) -> N {
         match number {
@@ -17,7 +17,7 @@ impl<'a, N: Coming<'a>> Object<'a, N> for Mesh {
     }
 }
 
-impl<'a, N: Coming<'a>> Object<'a, N> for Primitive {
+impl<'a, N: Coming<'a>> Planned<'a, N> for Primitive {
     #[tactic(auto, using(crate::proofs::Past::past), unfolding(gltf_meshes::specs::MeshTable::primitive_rows, gltf_meshes::specs::MeshTable::morph_target_rows, gltf_meshes::specs::MeshTable::primitive_extension_rows, gltf_meshes::specs::MeshTable::variant_mapping_rows, gltf_meshes::specs::MeshTable::variant_mappings_rows, gltf_meshes::specs::MeshTrees::primitive_members))]
     fn next<C: Against>(&'a self, number: usize, context: &C) -> N {
         match number {
@@ -35,7 +35,7 @@ impl<'a, N: Coming<'a>> Object<'a, N> for Primitive {
     }
 }
 
-impl<'a, N: Coming<'a>> Object<'a, N> for MorphTarget {
+impl<'a, N: Coming<'a>> Planned<'a, N> for MorphTarget {
     #[tactic(auto, using(crate::proofs::Past::past), unfolding(gltf_meshes::specs::MeshTable::morph_target_rows, gltf_meshes::specs::MeshTrees::morph_target_members))]
     fn next<C: Against>(&'a self, number: usize, context: &C) -> N {
         match number {

@@ -25,8 +25,8 @@ pub enum Next<'a> {
     Done,
 }
 
-/// What an object or a list says of what comes next in it. That is a [`Next`]; code that makes one by
-/// these calls alone need not know the parts of a whole document.
+/// What an object or a list says of what comes next in it. That is a [`Next`]; code that makes one
+/// by these calls alone need not know the parts of a whole document.
 pub trait Coming<'a>: Sized {
     ghost moved: { Mathematical → Self → Move };
 
@@ -34,11 +34,15 @@ pub trait Coming<'a>: Sized {
 
     /// A member of an object.
     fn member<T: Visited, C: Against>(name: &'static str, value: &'a T, context: &C) -> Self
-        ensures { moved (C.context context.now) result ≡ down (field name.now) (planned T.kind (T.tree value.now) (C.context context.now) absent) };
+        ensures { moved (C.context context.now) result
+            ≡ down (field name.now) (planned T.kind (T.tree value.now)
+            (C.context context.now) absent) };
 
     /// An item of a list.
     fn item<T: Visited, C: Against>(number: usize, value: &'a T, context: &C) -> Self
-        ensures { moved (C.context context.now) result ≡ down (at_number number) (planned T.kind (T.tree value.now) (C.context context.now) absent) };
+        ensures { moved (C.context context.now) result
+            ≡ down (at_number number) (planned T.kind (T.tree value.now)
+            (C.context context.now) absent) };
 
     /// What was found at a member of an object.
     fn found(name: &'static str, fault: Option<Error>) -> Self
@@ -50,7 +54,8 @@ pub trait Coming<'a>: Sized {
 
     /// A part of the document, a step down.
     fn down(step: Step<'a>, part: Part<'a>) -> Self
-        ensures { (context : _) → moved context result ≡ down (step_of step.entry) (plan_of context part.entry) };
+        ensures { (context : _)
+            → moved context result ≡ down (step_of step.entry) (plan_of context part.entry) };
 
     /// Nothing more.
     fn done() -> Self

@@ -1,13 +1,13 @@
 //! Nodes, scenes and skins.
 
 use crate::next::Coming;
-use crate::object::Object;
+use crate::planned::Planned;
 use gltf_faults::Against;
 use gltf_nodes::extensions::scene as extensions;
 use gltf_nodes::scene::{Node, Scene};
 use gltf_nodes::skin::Skin;
 
-impl<'a, N: Coming<'a>> Object<'a, N> for Node {
+impl<'a, N: Coming<'a>> Planned<'a, N> for Node {
     #[tactic(auto, using(crate::proofs::Past::past), unfolding(gltf_nodes::specs::SceneTable::node_rows, gltf_nodes::specs::LightTable::light_of_node_rows, gltf_nodes::specs::SceneTable::node_extension_rows, gltf_nodes::specs::SceneTrees::node_members))]
     fn next<C: Against>(&'a self, number: usize, context: &C) -> N {
         match number {
@@ -21,7 +21,7 @@ impl<'a, N: Coming<'a>> Object<'a, N> for Node {
     }
 }
 
-impl<'a, N: Coming<'a>> Object<'a, N> for extensions::Node {
+impl<'a, N: Coming<'a>> Planned<'a, N> for extensions::Node {
     #[tactic(auto, using(crate::proofs::Past::past), unfolding(gltf_nodes::specs::SceneTable::node_extension_rows, gltf_nodes::specs::LightTable::light_of_node_rows, gltf_nodes::specs::SceneTrees::node_extension_members))]
     fn next<C: Against>(&'a self, number: usize, context: &C) -> N {
         match number {
@@ -31,7 +31,7 @@ impl<'a, N: Coming<'a>> Object<'a, N> for extensions::Node {
     }
 }
 
-impl<'a, N: Coming<'a>> Object<'a, N> for Scene {
+impl<'a, N: Coming<'a>> Planned<'a, N> for Scene {
     #[tactic(auto, using(crate::proofs::Past::past), unfolding(gltf_nodes::specs::SceneTable::scene_rows, gltf_nodes::specs::SceneTrees::scene_members))]
     fn next<C: Against>(&'a self, number: usize, context: &C) -> N {
         match number {
@@ -41,7 +41,7 @@ impl<'a, N: Coming<'a>> Object<'a, N> for Scene {
     }
 }
 
-impl<'a, N: Coming<'a>> Object<'a, N> for Skin {
+impl<'a, N: Coming<'a>> Planned<'a, N> for Skin {
     #[tactic(auto, using(crate::proofs::Past::past), unfolding(gltf_nodes::specs::SceneTable::skin_rows, gltf_nodes::specs::SceneTrees::skin_members))]
     fn next<C: Against>(&'a self, number: usize, context: &C) -> N {
         match number {

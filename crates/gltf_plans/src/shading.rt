@@ -1,12 +1,12 @@
 //! Extensions of materials.
 
 use crate::next::Coming;
-use crate::object::Object;
+use crate::planned::Planned;
 use gltf_faults::Against;
 use gltf_shading::extensions::material as extensions;
 use gltf_shading::extensions::material::{PbrSpecularGlossiness, Specular, Transmission, Volume};
 
-impl<'a, N: Coming<'a>> Object<'a, N> for extensions::Material {
+impl<'a, N: Coming<'a>> Planned<'a, N> for extensions::Material {
     #[tactic(auto, using(crate::proofs::Past::past), unfolding(gltf_shading::specs::MaterialExtensionTable::material_extension_rows, gltf_shading::specs::MaterialExtensionTable::emissive_strength_rows, gltf_textures::specs::TextureTable::info_rows, gltf_shading::specs::MaterialExtensionTable::ior_rows, gltf_shading::specs::MaterialExtensionTable::pbr_specular_glossiness_rows, gltf_shading::specs::MaterialExtensionTable::specular_rows, gltf_shading::specs::MaterialExtensionTable::transmission_rows, gltf_shading::specs::MaterialExtensionTable::volume_rows, gltf_shading::specs::MaterialExtensionTrees::material_extension_members))]
     fn next<C: Against>(&'a self, number: usize, context: &C) -> N {
         match number {
@@ -23,7 +23,7 @@ impl<'a, N: Coming<'a>> Object<'a, N> for extensions::Material {
     }
 }
 
-impl<'a, N: Coming<'a>> Object<'a, N> for PbrSpecularGlossiness {
+impl<'a, N: Coming<'a>> Planned<'a, N> for PbrSpecularGlossiness {
     #[tactic(auto, using(crate::proofs::Past::past), unfolding(gltf_shading::specs::MaterialExtensionTable::pbr_specular_glossiness_rows, gltf_textures::specs::TextureTable::info_rows, gltf_shading::specs::MaterialExtensionTrees::pbr_specular_glossiness_members))]
     fn next<C: Against>(&'a self, number: usize, context: &C) -> N {
         match number {
@@ -38,7 +38,7 @@ impl<'a, N: Coming<'a>> Object<'a, N> for PbrSpecularGlossiness {
     }
 }
 
-impl<'a, N: Coming<'a>> Object<'a, N> for Transmission {
+impl<'a, N: Coming<'a>> Planned<'a, N> for Transmission {
     #[tactic(auto, using(crate::proofs::Past::past), unfolding(gltf_shading::specs::MaterialExtensionTable::transmission_rows, gltf_textures::specs::TextureTable::info_rows, gltf_shading::specs::MaterialExtensionTrees::transmission_members))]
     fn next<C: Against>(&'a self, number: usize, context: &C) -> N {
         match number {
@@ -48,7 +48,7 @@ impl<'a, N: Coming<'a>> Object<'a, N> for Transmission {
     }
 }
 
-impl<'a, N: Coming<'a>> Object<'a, N> for Volume {
+impl<'a, N: Coming<'a>> Planned<'a, N> for Volume {
     #[tactic(auto, using(crate::proofs::Past::past), unfolding(gltf_shading::specs::MaterialExtensionTable::volume_rows, gltf_textures::specs::TextureTable::info_rows, gltf_shading::specs::MaterialExtensionTrees::volume_members))]
     fn next<C: Against>(&'a self, number: usize, context: &C) -> N {
         match number {
@@ -58,7 +58,7 @@ impl<'a, N: Coming<'a>> Object<'a, N> for Volume {
     }
 }
 
-impl<'a, N: Coming<'a>> Object<'a, N> for Specular {
+impl<'a, N: Coming<'a>> Planned<'a, N> for Specular {
     #[tactic(auto, using(crate::proofs::Past::past), unfolding(gltf_shading::specs::MaterialExtensionTable::specular_rows, gltf_textures::specs::TextureTable::info_rows, gltf_shading::specs::MaterialExtensionTrees::specular_members))]
     fn next<C: Against>(&'a self, number: usize, context: &C) -> N {
         match number {

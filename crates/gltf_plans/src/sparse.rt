@@ -1,11 +1,11 @@
 //! Sparse storage of accessors, and its indices.
 
 use crate::next::Coming;
-use crate::object::Object;
+use crate::planned::Planned;
 use gltf_data::accessor::sparse::{Indices, Sparse};
 use gltf_faults::Against;
 
-impl<'a, N: Coming<'a>> Object<'a, N> for Sparse {
+impl<'a, N: Coming<'a>> Planned<'a, N> for Sparse {
     #[tactic(auto, using(crate::proofs::Past::past), unfolding(gltf_data::specs::AccessorTable::sparse_rows, gltf_data::specs::AccessorTable::sparse_indices_rows, gltf_data::specs::AccessorTable::sparse_values_rows, gltf_data::specs::AccessorTrees::sparse_members))]
     fn next<C: Against>(&'a self, number: usize, context: &C) -> N {
         match number {
@@ -16,7 +16,7 @@ impl<'a, N: Coming<'a>> Object<'a, N> for Sparse {
     }
 }
 
-impl<'a, N: Coming<'a>> Object<'a, N> for Indices {
+impl<'a, N: Coming<'a>> Planned<'a, N> for Indices {
     #[tactic(auto, using(crate::proofs::Past::past), unfolding(gltf_data::specs::AccessorTable::sparse_indices_rows, gltf_data::specs::AccessorTrees::sparse_indices_members))]
     fn next<C: Against>(&'a self, number: usize, context: &C) -> N {
         match number {

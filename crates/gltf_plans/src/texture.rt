@@ -1,11 +1,11 @@
 //! Textures and samplers.
 
 use crate::next::Coming;
-use crate::object::Object;
+use crate::planned::Planned;
 use gltf_faults::{Against, source_fault};
 use gltf_textures::texture::{Info, Sampler, Texture};
 
-impl<'a, N: Coming<'a>> Object<'a, N> for Sampler {
+impl<'a, N: Coming<'a>> Planned<'a, N> for Sampler {
     #[tactic(auto, using(crate::proofs::Past::past), unfolding(gltf_textures::specs::TextureTable::sampler_rows, gltf_textures::specs::TextureTrees::sampler_members))]
     fn next<C: Against>(&'a self, number: usize, context: &C) -> N {
         match number {
@@ -18,7 +18,7 @@ impl<'a, N: Coming<'a>> Object<'a, N> for Sampler {
     }
 }
 
-impl<'a, N: Coming<'a>> Object<'a, N> for Texture {
+impl<'a, N: Coming<'a>> Planned<'a, N> for Texture {
     #[tactic(auto, using(crate::proofs::Past::past), unfolding(gltf_textures::specs::TextureTable::texture_rows, gltf_textures::specs::TextureTrees::texture_members))]
     fn next<C: Against>(&'a self, number: usize, context: &C) -> N {
         match number {
@@ -29,7 +29,7 @@ impl<'a, N: Coming<'a>> Object<'a, N> for Texture {
     }
 }
 
-impl<'a, N: Coming<'a>> Object<'a, N> for Info {
+impl<'a, N: Coming<'a>> Planned<'a, N> for Info {
     #[tactic(auto, using(crate::proofs::Past::past), unfolding(gltf_textures::specs::TextureTable::info_rows, gltf_textures::specs::TextureTable::info_extension_rows, gltf_textures::specs::TextureTable::texture_transform_rows, gltf_textures::specs::TextureTrees::info_members))]
     fn next<C: Against>(&'a self, number: usize, context: &C) -> N {
         match number {

@@ -20,7 +20,8 @@ fn exit_code<R: ByteIn, W: ByteOut>(alloc: Global, reader: &mut R, writer: &mut 
     ensures status { exit_status result ≤ 4 }
     ensures run { IsRun standard_rules (R.left reader.old) (W.taken writer.old) (W.taken writer.new)
         (W.has_failed writer.old) (W.has_failed writer.new) (exit_status result) }
-    ensures within { IsFresh (R.seen reader.old) → exit_status result ≢ 4 → IsReadWhole (R.seen reader.new) }
+    ensures within { IsFresh (R.seen reader.old) → exit_status result ≢ 4
+        → IsReadWhole (R.seen reader.new) }
 {
     ExitCode::from(run(alloc, reader, writer))
 }

@@ -99,7 +99,8 @@ impl Root {
     /// text.
     #[tactic(auto, unfolding(crate::specs::RootTable::root_rows, crate::specs::RootTrees::root_members))]
     pub fn new(alloc: Global) -> Result<Root, AllocError>
-        ensures { IfOk result (λ root. root_members root ≡ root_of_asset (asset_of_version (codes "2.0"))) }
+        ensures { IfOk result (λ root. root_members root
+            ≡ root_of_asset (asset_of_version (codes "2.0"))) }
     {
         let asset = Asset::new(alloc)?;
         Ok(Root {

@@ -1,6 +1,6 @@
 //! The glTF 2.0 objects of meshes, nodes, scenes and animations, and a document's own description.
-//! This crate names what `gltf_meshes`, `gltf_nodes` and `gltf_animations` hold, under the modules of
-//! the format.
+//! This crate names what `gltf_meshes`, `gltf_nodes` and `gltf_animations` hold, under the modules
+//! of the format.
 #![tactic(auto)]
 
 /// What moves nodes over time.

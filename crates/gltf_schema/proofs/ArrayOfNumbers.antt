@@ -41,7 +41,7 @@ next None ds later = refl
 next (Some x) ds later = rw later (behind x (read_items (read Number) ds))
 
 -- the numbers of an array are its items, each read as a number
-pub numbers_are_items : (ds : Items) → all_numbers ds ≡ option_map numbers_of (read_items (read Number) ds)
+numbers_are_items : (ds : Items) → all_numbers ds ≡ option_map numbers_of (read_items (read Number) ds)
 numbers_are_items no_items = refl
 numbers_are_items (item d ds) = next (as_number d) ds (numbers_are_items ds)
 
@@ -50,7 +50,7 @@ numbers_of_reals [] = refl
 numbers_of_reals (x ∷ xs) = ap (λ ns. real_number x ∷ ns) (numbers_of_reals xs)
 
 -- reals that were read as items are the array's numbers
-pub reals_are_numbers : (ds : Items) (xs : List Real) → read_items (read Number) ds ≡ Some (trees (map real_tree xs)) → all_numbers ds ≡ Some (map real_number xs)
+reals_are_numbers : (ds : Items) (xs : List Real) → read_items (read Number) ds ≡ Some (trees (map real_tree xs)) → all_numbers ds ≡ Some (map real_number xs)
 reals_are_numbers ds xs h = numbers_are_items ds ∙ ap (option_map numbers_of) h ∙ ap Some (numbers_of_reals xs)
 
 -- an array of reals is read where they are as many as it has places

@@ -12,7 +12,7 @@ abbrev pub onto : List Tree → Option Trees → Option Trees
 onto [] r = r
 onto (t ∷ ts) r = option_map (with_tree t) (onto ts r)
 
-pub onto_push : (ts : List Tree) (t : Tree) (r : Option Trees) → onto (ts ++ t ∷ []) r ≡ onto ts (option_map (with_tree t) r)
+onto_push : (ts : List Tree) (t : Tree) (r : Option Trees) → onto (ts ++ t ∷ []) r ≡ onto ts (option_map (with_tree t) r)
 onto_push [] t r = refl
 onto_push (x ∷ ts) t r = ap (option_map (with_tree x)) (onto_push ts t r)
 

@@ -152,7 +152,7 @@ head_read None n mark kind rows ms later = refl
 head_read (Some t) n mark kind rows ms later = rw later (joined (read_rows rows ms) t _)
 
 -- rows that are taken in turn are the rows that are read
-pub taken_is_read : (rows : Rows) (ms : Members) → are_sound rows ≡ true → take_rows rows ms ≡ option_map (with_kept (others rows ms)) (read_rows rows ms)
+taken_is_read : (rows : Rows) (ms : Members) → are_sound rows ≡ true → take_rows rows ms ≡ option_map (with_kept (others rows ms)) (read_rows rows ms)
 unfolding take_rows take_member
 taken_is_read no_rows ms sound = rw others_none refl
 taken_is_read (row n mark kind rows) ms sound =

@@ -65,7 +65,8 @@ fn encode_entries<P: Names>(
     attributes: &BTreeMap<Checked<Semantic>, IndexTo<P>>,
 ) -> Result<Map<String, Value>, Error>
     ensures written { Writes (λ m. members_view m.entries) result
-        (write_entries (map entry_of attributes.now.entries) no_members) (any_unknown (map entry_of attributes.now.entries)) }
+        (write_entries (map entry_of attributes.now.entries) no_members)
+        (any_unknown (map entry_of attributes.now.entries)) }
     ensures in_order { OnOk result (are_in_order (map entry_of attributes.now.entries) ≡ true) }
 {
     let mut written = Map::new(alloc);
@@ -78,7 +79,8 @@ fn encode_entries<P: Names>(
 
 /// The name under which a key is written.
 fn name_of(alloc: Global, key: &Checked<Semantic>) -> Result<String, Error>
-    ensures { Writes string_bytes result (key_name (checked_key key.now)) (is_unknown (checked_key key.now)) }
+    ensures { Writes string_bytes result (key_name (checked_key key.now))
+        (is_unknown (checked_key key.now)) }
 {
     match key {
         Checked::Valid(semantic) => Ok(semantic.to_string(alloc)?),

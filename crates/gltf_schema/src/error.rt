@@ -6,11 +6,13 @@ use std::fmt;
 /// Why a document could not be read or written. It tells the kind alone, and not the place.
 #[derive(Debug, Drop)]
 pub enum Error {
-    /// The bytes are no JSON: a fault of syntax, an early end, nesting past 127 levels, or no UTF-8.
+    /// The bytes are no JSON: a fault of syntax, an early end, nesting past 127 levels, or no
+    /// UTF-8.
     Json,
     /// The JSON is no glTF document.
     Schema,
-    /// An item of a choice, or the key of an attribute, was to be written that is none of its values.
+    /// An item of a choice, or the key of an attribute, was to be written that is none of its
+    /// values.
     InvalidItem,
     /// The reader failed.
     Read,

@@ -16,37 +16,46 @@ ghost use Rattle.gltf_schema.specs.Write.{write};
 
 /// What a sound kind reads is plain.
 pub fn read_trees_are_plain()
-    ensures { (kind : Kind) (d : Data) (t : Tree) → is_sound kind ≡ true → read kind d ≡ Some t → is_plain kind t ≡ true }
+    ensures { (kind : Kind) (d : Data) (t : Tree) → is_sound kind ≡ true → read kind d ≡ Some t
+        → is_plain kind t ≡ true }
 {}
 
 /// What a plain tree is written as is read back as that tree.
 pub fn written_trees_are_read_back()
-    ensures { (kind : Kind) (t : Tree) (d : Data) → is_sound kind ≡ true → is_plain kind t ≡ true → write kind t ≡ Some d → read kind d ≡ Some t }
+    ensures { (kind : Kind) (t : Tree) (d : Data) → is_sound kind ≡ true → is_plain kind t ≡ true
+        → write kind t ≡ Some d → read kind d ≡ Some t }
 {}
 
 /// In what is written no item and no key is invalid.
 pub fn written_trees_hold_nothing_invalid()
-    ensures { (kind : Kind) (t : Tree) (d : Data) → write kind t ≡ Some d → holds_invalid t ≡ false }
+    ensures { (kind : Kind) (t : Tree) (d : Data) → write kind t ≡ Some d
+        → holds_invalid t ≡ false }
 {}
 
-/// What was read, by a kind whose defaults are written, is refused for writing exactly where an item
-/// or a key in it is invalid.
+/// What was read, by a kind whose defaults are written, is refused for writing exactly where an
+/// item or a key in it is invalid.
 pub fn read_trees_are_refused_where_invalid()
-    ensures { (kind : Kind) (d : Data) (t : Tree) → has_written_defaults kind ≡ true → read kind d ≡ Some t → (write kind t ≡ None) ↔ (holds_invalid t ≡ true) }
+    ensures { (kind : Kind) (d : Data) (t : Tree) → has_written_defaults kind ≡ true
+        → read kind d ≡ Some t → (write kind t ≡ None) ↔ (holds_invalid t ≡ true) }
 {}
 
 /// A tree of a kind is refused for writing exactly where an item or a key in it is invalid. So a
 /// plain one of a sound kind, in which none is, is written and read back as that tree.
 pub fn trees_of_a_kind_are_refused_where_invalid()
-    ensures { (kind : Kind) (t : Tree) → is_of_kind kind t ≡ true → (write kind t ≡ None) ↔ (holds_invalid t ≡ true) }
+    ensures { (kind : Kind) (t : Tree) → is_of_kind kind t ≡ true
+        → (write kind t ≡ None) ↔ (holds_invalid t ≡ true) }
 {}
 
-/// Attributes that were read have a key exactly where a name means it, with the index of the last such
-/// name.
+/// Attributes that were read have a key exactly where a name means it, with the index of the last
+/// such name.
 #[tactic(auto, unfolding(gltf_checked::specs::Names::key_named))]
 pub fn keys_have_the_indexes_of_their_last_names()
-    ensures last { (named : ListName) (ms : Members) (es : List (Key × ℕ)) → read (Attributes named) (object ms) ≡ Some (attributes es)
+    ensures last { (named : ListName) (ms : Members) (es : List (Key × ℕ))
+        → read (Attributes named) (object ms) ≡ Some (attributes es)
         → (key : Key) → index_at key es ≡ last_index key ms }
-    ensures worked { read (Attributes ListName.accessors) (object (member (codes "COLOR_+1") (number (unsigned 0))
-        (member (codes "COLOR_01") (number (unsigned 1)) (member (codes "COLOR_1") (number (unsigned 2)) no_members)))) ≡ Some (attributes ((colors 1, 2) ∷ [])) }
+    ensures worked { read (Attributes ListName.accessors)
+        (object (member (codes "COLOR_+1") (number (unsigned 0))
+        (member (codes "COLOR_01") (number (unsigned 1))
+        (member (codes "COLOR_1") (number (unsigned 2)) no_members))))
+        ≡ Some (attributes ((colors 1, 2) ∷ [])) }
 {}

@@ -230,7 +230,8 @@ fn decode_items<T: Schema>(alloc: Global, items: Vec<Value>) -> Result<Vec<T>, E
 /// Each item, in order.
 fn encode_items<T: Schema>(alloc: Global, items: &[T]) -> Result<Vec<Value>, Error>
     ensures { Writes (λ v. items_view v.items) result
-        (write_items (write T.kind) (trees (map T.tree items.now))) (any_holds_invalid (trees (map T.tree items.now))) }
+        (write_items (write T.kind) (trees (map T.tree items.now)))
+        (any_holds_invalid (trees (map T.tree items.now))) }
 {
     let mut written = Vec::with_capacity(alloc, items.len())?;
     for item in items {

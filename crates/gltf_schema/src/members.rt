@@ -16,7 +16,8 @@ use std::alloc::Global;
 
 /// Takes a member out.
 pub(crate) fn take(members: &mut Map<String, Value>, name: &str) -> Option<Value>
-    ensures taken { option_map view result ≡ get_member name.now (members_view members.old.entries) }
+    ensures taken { option_map view result
+        ≡ get_member name.now (members_view members.old.entries) }
     ensures left { members_view members.new.entries
         ≡ without name.now (members_view members.old.entries) }
 {
@@ -46,10 +47,10 @@ pub(crate) fn optional<T: Schema>(
     members: &mut Map<String, Value>,
     name: &str,
 ) -> Result<Option<T>, Error>
-    ensures left_out { Reads (λ x. (tree_or_absent T.tree x, members_view members.new.entries)) result
-        (take_member name.now is_optional T.kind (members_view members.old.entries)) }
-    ensures or_null { Reads (λ x. (tree_or_absent T.tree x, members_view members.new.entries)) result
-        (take_member name.now or_null T.kind (members_view members.old.entries)) }
+    ensures left_out { Reads (λ x. (tree_or_absent T.tree x, members_view members.new.entries))
+        result (take_member name.now is_optional T.kind (members_view members.old.entries)) }
+    ensures or_null { Reads (λ x. (tree_or_absent T.tree x, members_view members.new.entries))
+        result (take_member name.now or_null T.kind (members_view members.old.entries)) }
 {
     match take(members, name) {
         Some(value) => {
@@ -105,8 +106,10 @@ pub(crate) fn list<T: Schema>(
     members: &mut Map<String, Value>,
     name: &str,
 ) -> Result<Vec<T>, Error>
-    ensures { Reads (λ x. (list_tree (trees (map T.tree x.items)), members_view members.new.entries)) result
-        (take_member name.now (unless (list_tree end)) (ListOf T.kind) (members_view members.old.entries)) }
+    ensures { Reads
+        (λ x. (list_tree (trees (map T.tree x.items)), members_view members.new.entries)) result
+        (take_member name.now (unless (list_tree end)) (ListOf T.kind)
+        (members_view members.old.entries)) }
 {
     match take(members, name) {
         Some(value) => Schema::decode(alloc, value),

@@ -23,9 +23,11 @@ pub(crate) fn put_always<T: Schema>(
     value: &T,
 ) -> Result<(), Error>
     ensures required { Writes (λ _. members_view members.new.entries) result
-        (put_member name.now is_required T.kind (T.tree value.now) (members_view members.old.entries)) (holds_invalid (T.tree value.now)) }
+        (put_member name.now is_required T.kind (T.tree value.now)
+        (members_view members.old.entries)) (holds_invalid (T.tree value.now)) }
     ensures always { (default : Tree) → Writes (λ _. members_view members.new.entries) result
-        (put_member name.now (is_always default) T.kind (T.tree value.now) (members_view members.old.entries)) (holds_invalid (T.tree value.now)) }
+        (put_member name.now (is_always default) T.kind (T.tree value.now)
+        (members_view members.old.entries)) (holds_invalid (T.tree value.now)) }
 {
     let written = value.encode(alloc)?;
     serde_json::put(members, alloc, name, written)?;
@@ -41,11 +43,11 @@ pub(crate) fn put_optional<T: Schema>(
     value: &Option<T>,
 ) -> Result<(), Error>
     ensures optional { Writes (λ _. members_view members.new.entries) result
-        (put_member name.now is_optional T.kind (tree_or_absent T.tree value.now) (members_view members.old.entries))
-        (holds_invalid (tree_or_absent T.tree value.now)) }
+        (put_member name.now is_optional T.kind (tree_or_absent T.tree value.now)
+        (members_view members.old.entries)) (holds_invalid (tree_or_absent T.tree value.now)) }
     ensures sometimes { Writes (λ _. members_view members.new.entries) result
-        (put_member name.now is_sometimes T.kind (tree_or_absent T.tree value.now) (members_view members.old.entries))
-        (holds_invalid (tree_or_absent T.tree value.now)) }
+        (put_member name.now is_sometimes T.kind (tree_or_absent T.tree value.now)
+        (members_view members.old.entries)) (holds_invalid (tree_or_absent T.tree value.now)) }
 {
     match value {
         Some(value) => put_always(alloc, members, name, value),
@@ -62,8 +64,8 @@ pub(crate) fn put_or_null<T: Schema>(
     value: &Option<T>,
 ) -> Result<(), Error>
     ensures { Writes (λ _. members_view members.new.entries) result
-        (put_member name.now is_or_null T.kind (tree_or_absent T.tree value.now) (members_view members.old.entries))
-        (holds_invalid (tree_or_absent T.tree value.now)) }
+        (put_member name.now is_or_null T.kind (tree_or_absent T.tree value.now)
+        (members_view members.old.entries)) (holds_invalid (tree_or_absent T.tree value.now)) }
 {
     let written = match value {
         Some(value) => value.encode(alloc)?,
@@ -83,7 +85,8 @@ pub(crate) fn put_unless<T: Omittable>(
     default: T,
 ) -> Result<(), Error>
     ensures { Writes (λ _. members_view members.new.entries) result
-        (put_member name.now (is_unless (T.tree default)) T.kind (T.tree value.now) (members_view members.old.entries)) (holds_invalid (T.tree value.now)) }
+        (put_member name.now (is_unless (T.tree default)) T.kind (T.tree value.now)
+        (members_view members.old.entries)) (holds_invalid (T.tree value.now)) }
 {
     if value.is_default(&default) {
         return Ok(());

@@ -100,18 +100,18 @@ impl Reading {
 
     /// A list that is empty where its member is missing.
     pub fn list<T: Schema>(&mut self, name: &str) -> Vec<T>
-        ensures { ReadsMember (reading_state self.old) name.now (unless (list_tree end)) (ListOf T.kind)
-            (list_tree (trees (map T.tree result.items))) (reading_state self.new) }
+        ensures { ReadsMember (reading_state self.old) name.now (unless (list_tree end))
+            (ListOf T.kind) (list_tree (trees (map T.tree result.items))) (reading_state self.new) }
     {
         read_on!(self, list(name), Vec::new(self.alloc))
     }
 
     /// A member that is the default where it is missing, whether or not it is written then.
     pub fn or_default<T: Schema + Blank>(&mut self, name: &str, default: T) -> T
-        ensures always { ReadsMember (reading_state self.old) name.now (always (T.tree default)) T.kind
-            (T.tree result) (reading_state self.new) }
-        ensures unless { ReadsMember (reading_state self.old) name.now (unless (T.tree default)) T.kind
-            (T.tree result) (reading_state self.new) }
+        ensures always { ReadsMember (reading_state self.old) name.now
+            (always (T.tree default)) T.kind (T.tree result) (reading_state self.new) }
+        ensures unless { ReadsMember (reading_state self.old) name.now
+            (unless (T.tree default)) T.kind (T.tree result) (reading_state self.new) }
     {
         read_on!(self, or_default(name, default), T::blank(self.alloc))
     }

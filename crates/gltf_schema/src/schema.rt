@@ -24,8 +24,8 @@ pub trait Schema: Drop {
 
     ghost tree: { Self → Tree };
 
-    /// The value that a JSON value is: `Ok` exactly where the table reads it, as the table reads it,
-    /// else `Schema`; `Memory` may come in place of either where a growth was refused.
+    /// The value that a JSON value is: `Ok` exactly where the table reads it, as the table reads
+    /// it, else `Schema`; `Memory` may come in place of either where a growth was refused.
     fn decode(alloc: Global, value: Value) -> Result<Self, Error>
         ensures by_table { Reads tree result (read kind (view value)) }
         // What is no object needs no memory to be refused.
@@ -59,11 +59,12 @@ pub trait Object: Drop {
         ensures { Reads (λ x. (members x, unknown x)) result
             (take_all rows keeps (members_view found.entries)) };
 
-    /// The members of this object: each row's onto those that no row names. `InvalidItem` comes where
-    /// a row's member holds an invalid item, `Memory` where a growth was refused.
+    /// The members of this object: each row's onto those that no row names. `InvalidItem` comes
+    /// where a row's member holds an invalid item, `Memory` where a growth was refused.
     fn encode_members(&self, alloc: Global) -> Result<Map<String, Value>, Error>
         ensures { Writes (λ m. members_view m.entries) result
-            (put_rows rows (members self.now) (unknown self.now)) (some_invalid (members self.now)) };
+            (put_rows rows (members self.now) (unknown self.now))
+            (some_invalid (members self.now)) };
 
     // No two rows have one name, here and below, and each default is plain.
     ghost sound: { are_sound rows ≡ true };
@@ -77,10 +78,13 @@ impl<T: Object> Schema for T {
     ghost present = { λ _. refl };
 
     fn decode(alloc: Global, value: Value) -> Result<T, Error>
-        ensures by_table { Reads (λ x. object (T.members x) (T.unknown x)) result (read (object_kind T.named T.rows T.keeps) (view value)) }
-        ensures no_object { IsTrue (wants_object (object_kind T.named T.rows T.keeps) (view value)) → result ≡ Err Error.Schema }
+        ensures by_table { Reads (λ x. object (T.members x) (T.unknown x)) result
+            (read (object_kind T.named T.rows T.keeps) (view value)) }
+        ensures no_object { IsTrue (wants_object (object_kind T.named T.rows T.keeps) (view value))
+            → result ≡ Err Error.Schema }
         // What was read could be written and read back as it is.
-        ensures plain { IfOk result (λ x. is_plain (object_kind T.named T.rows T.keeps) (object (T.members x) (T.unknown x)) ≡ true) }
+        ensures plain { IfOk result (λ x. is_plain (object_kind T.named T.rows T.keeps)
+            (object (T.members x) (T.unknown x)) ≡ true) }
     {
         match value {
             Value::Object(found) => T::decode_members(alloc, found),
@@ -89,12 +93,16 @@ impl<T: Object> Schema for T {
     }
 
     fn encode(&self, alloc: Global) -> Result<Value, Error>
-        ensures by_table { Writes view result (write (object_kind T.named T.rows T.keeps) (object (T.members self.now) (T.unknown self.now)))
+        ensures by_table { Writes view result (write (object_kind T.named T.rows T.keeps)
+            (object (T.members self.now) (T.unknown self.now)))
             (holds_invalid (object (T.members self.now) (T.unknown self.now))) }
-        ensures valid { OnOk result (holds_invalid (object (T.members self.now) (T.unknown self.now)) ≡ false) }
+        ensures valid { OnOk result (holds_invalid (object (T.members self.now)
+            (T.unknown self.now)) ≡ false) }
         // What a plain value is written as is read back as that value.
-        ensures reads_back { IfOk result (λ v. is_plain (object_kind T.named T.rows T.keeps) (object (T.members self.now) (T.unknown self.now)) ≡ true
-            → read (object_kind T.named T.rows T.keeps) (view v) ≡ Some (object (T.members self.now) (T.unknown self.now))) }
+        ensures reads_back { IfOk result (λ v. is_plain (object_kind T.named T.rows T.keeps)
+            (object (T.members self.now) (T.unknown self.now)) ≡ true
+            → read (object_kind T.named T.rows T.keeps) (view v)
+            ≡ Some (object (T.members self.now) (T.unknown self.now))) }
     {
         Ok(Value::Object(self.encode_members(alloc)?))
     }

@@ -28,7 +28,8 @@ pub trait Unlisted: Drop {
 
     /// The members that it keeps, or `None` where it drops them all.
     fn others(&self) -> Option<&Map<String, Value>>
-        ensures { option_map_or (λ m. members_view m.now.entries) result no_members ≡ kept self.now };
+        ensures { option_map_or (λ m. members_view m.now.entries) result no_members
+            ≡ kept self.now };
 }
 
 #[tactic(auto, unfolding(crate::specs::Taken::take_all, crate::specs::Taken::take_rows, crate::specs::Put::put_rows, crate::specs::Put::some_invalid))]

@@ -49,8 +49,8 @@ impl Writing {
         }
     }
 
-    /// Begins with a copy of the members that no row names. A row's member will take the place of one
-    /// of its name.
+    /// Begins with a copy of the members that no row names. A row's member will take the place of
+    /// one of its name.
     pub fn from_others(alloc: Global, others: &Map<String, Value>) -> Writing
         ensures { BeginsWith (members_view others.now.entries) (writing_state result) }
     {
@@ -72,7 +72,8 @@ impl Writing {
     pub fn always<T: Schema>(mut self, name: &str, value: &T) -> Writing
         ensures required { WritesMember (writing_state self) name.now is_required T.kind
             (T.tree value.now) (writing_state result) }
-        ensures always { (default : Tree) → WritesMember (writing_state self) name.now (is_always default) T.kind
+        ensures always { (default : Tree)
+            → WritesMember (writing_state self) name.now (is_always default) T.kind
             (T.tree value.now) (writing_state result) }
     {
         write_on!(self, put_always(name, value))
@@ -106,7 +107,8 @@ impl Writing {
 
     /// A list that is left out where it is empty.
     pub fn list<T: Schema>(mut self, name: &str, value: &Vec<T>) -> Writing
-        ensures { WritesMember (writing_state self) name.now (is_unless (list_tree end)) (ListOf T.kind)
+        ensures { WritesMember (writing_state self) name.now (is_unless (list_tree end))
+            (ListOf T.kind)
             (list_tree (trees (map T.tree value.now.items))) (writing_state result) }
     {
         write_on!(self, put_list(name, value))
@@ -115,7 +117,8 @@ impl Writing {
 
 /// A copy of the members.
 pub(crate) fn copied(members: &Map<String, Value>) -> Result<Map<String, Value>, Error>
-    ensures { Writes (λ m. members_view m.entries) result (Some (members_view members.now.entries)) false }
+    ensures { Writes (λ m. members_view m.entries) result
+        (Some (members_view members.now.entries)) false }
 {
     Ok(members.clone()?)
 }

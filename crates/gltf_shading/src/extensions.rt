@@ -1,4 +1,4 @@
-//! Extension objects of materials and of their references to textures: what stands behind their member
-//! `extensions`.
+//! Extension objects of materials and of their references to textures: what stands behind their
+//! member `extensions`.
 
 pub mod material;

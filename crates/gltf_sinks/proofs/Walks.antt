@@ -18,7 +18,7 @@ run-append next s (x ∷ xs) ys = run-append next (next s x.steps x.error) xs ys
 
 module _ {S R : Type 0} (next : S → List Step → Error → S) (refuses : S → List Step → Error → R → S → Type 0) where
   -- reports that come after some that were taken
-  pub handed-behind : (s t u : S) (xs ys : List Report) (n : ℕ) (r : Result (Unit {0}) (Stop R))
+  handed-behind : (s t u : S) (xs ys : List Report) (n : ℕ) (r : Result (Unit {0}) (Stop R))
       → t ≡ run next s xs → HandedOver next refuses t ys n r u → HandedOver next refuses s (xs ++ ys) n r u
   handed-behind s t u xs ys n (Ok _) e h = h ∙ (ap (λ v. run next v ys) e ∙ sym (run-append next s xs ys))
   handed-behind s t u xs ys n (Err StepsFull) e h = (
@@ -39,7 +39,7 @@ module _ {S R : Type 0} (next : S → List Step → Error → S) (refuses : S �
   )
 
   -- reports before others to which a walk that stopped didn't come
-  pub handed-before : (s t : S) (xs ys : List Report) (n : ℕ) (stop : Stop R)
+  handed-before : (s t : S) (xs ys : List Report) (n : ℕ) (stop : Stop R)
       → HandedOver next refuses s xs n (Err stop) t → HandedOver next refuses s (xs ++ ys) n (Err stop) t
   handed-before s t xs ys n StepsFull h =
       (h.0, (h.1.0, h.1.1 ++ ys, ap (λ zs. zs ++ ys) h.1.2 ∙ append_assoc h.1.0 h.1.1 ys, h.1.3))

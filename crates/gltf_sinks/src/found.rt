@@ -13,7 +13,8 @@ pub fn tell<S: Sink>(
     found: Option<Error>,
     sink: &mut S,
 ) -> Result<(), Stop<S::Refusal>>
-    ensures { Walked S.next S.refuses path.now (S.state sink.old) (found_at found) 0 result path.now (S.state sink.new) }
+    ensures { Walked S.next S.refuses path.now (S.state sink.old) (found_at found) 0 result path.now
+        (S.state sink.new) }
 {
     match found {
         None => Ok(()),

@@ -26,8 +26,10 @@ pub trait Sink {
 
     /// Takes a report: what is wrong at the end of a path. Any error stops the walk.
     fn report(&mut self, path: &Steps<'_>, error: Error) -> Result<(), Self::Refusal>
-        ensures taken { OnOk result (state self.new ≡ next (state self.old) (steps_of path.now) error) }
-        ensures refused { IfErr result (λ r. refuses (state self.old) (steps_of path.now) error r (state self.new)) };
+        ensures taken { OnOk result (state self.new
+            ≡ next (state self.old) (steps_of path.now) error) }
+        ensures refused { IfErr result (λ r. refuses (state self.old) (steps_of path.now) error r
+            (state self.new)) };
 }
 
 /// Why validation stopped before its end.
@@ -39,7 +41,8 @@ pub enum Stop<R> {
     Sink(R),
 }
 
-/// A sink that counts reports. It refuses none, and stops rising at the greatest number it can hold.
+/// A sink that counts reports. It refuses none, and stops rising at the greatest number it can
+/// hold.
 #[derive(Clone, Debug, Drop)]
 pub struct Count {
     count: u64,

@@ -1,4 +1,4 @@
-//! Extension objects of textures, their samplers and the references to them: what stands behind their
-//! member `extensions`.
+//! Extension objects of textures, their samplers and the references to them: what stands behind
+//! their member `extensions`.
 
 pub mod texture;

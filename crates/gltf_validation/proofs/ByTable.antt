@@ -14,7 +14,7 @@ use Rattle.gltf_faults.specs.Reports.{reports}
 use Rattle.gltf_validation.specs.ByType.{reports_by, reports_in, checked_reports, list_reports, list_kind}
 
 -- each item by itself
-pub items-each : {X : Type 0} (kind : Kind) (tree : X → Tree) (context : Context) (animation : Tree) (i : ℕ) (xs : List X) (base : List Step)
+items-each : {X : Type 0} (kind : Kind) (tree : X → Tree) (context : Context) (animation : Tree) (i : ℕ) (xs : List X) (base : List Step)
     → items_reports (λ t. reports kind t context animation) i (trees (map tree xs)) base ≡ each_at (λ x. reports kind (tree x) context animation) i xs base
 items-each kind tree context animation i [] base = refl
 items-each kind tree context animation i (x ∷ xs) base =

@@ -31,8 +31,8 @@ pub trait Validate {
     /// The reports of a type that has no kind, against a document by rules, from a base.
     ghost own: { Self → Context → From } = { no_reports };
 
-    /// A bound on the steps from a value's place to what its walk visits: the members and the items in
-    /// which something can be wrong, and the places of its reports.
+    /// A bound on the steps from a value's place to what its walk visits: the members and the items
+    /// in which something can be wrong, and the places of its reports.
     ghost depth: { ℕ } = { 0 };
 
     /// Hands the sink what is wrong in the value by `rules`, in order, each path beginning with the
@@ -50,7 +50,9 @@ pub trait Validate {
     ) -> Result<(), Stop<S::Refusal>>
         ensures path { path.new ≡ path.old }
         ensures walked { Walked S.next S.refuses path.old (S.state sink.old)
-            (reports_by kind (tree self.now) (own self.now) (under (rules_of rules.now) (root_tree root.now))) depth result path.new (S.state sink.new) };
+            (reports_by kind (tree self.now) (own self.now)
+            (under (rules_of rules.now) (root_tree root.now))) depth result path.new
+            (S.state sink.new) };
 
     /// Hands the sink what is wrong in the value where nobody rules otherwise: `validate_with` by
     /// `Rules::new()`.
@@ -62,7 +64,8 @@ pub trait Validate {
     ) -> Result<(), Stop<S::Refusal>>
         ensures path { path.new ≡ path.old }
         ensures walked { Walked S.next S.refuses path.old (S.state sink.old)
-            (reports_by kind (tree self.now) (own self.now) (under standard_rules (root_tree root.now))) depth result path.new (S.state sink.new) }
+            (reports_by kind (tree self.now) (own self.now)
+            (under standard_rules (root_tree root.now))) depth result path.new (S.state sink.new) }
     {
         self.validate_with(&Rules::new(), root, path, sink)
     }

@@ -1,5 +1,5 @@
-//! What no clause says: that calls succeed, and the lines of documents from outside; and devices and
-//! memory that fail.
+//! What no clause says: that calls succeed, and the lines of documents from outside; and devices
+//! and memory that fail.
 
 mod devices;
 mod documents;

@@ -20,7 +20,7 @@ impl Visited for Target {
     ghost tree = { λ v. closed_object (animation_target_members v) };
 
     fn part<'a>(&'a self, _context: &Context<'_>) -> Part<'a> {
-        Part::Target(self)
+        Part::AnimationTarget(self)
     }
 }
 

@@ -48,7 +48,7 @@ impl Visited for KhrLightsPunctual {
     ghost tree = { λ v. closed_object (lights_members v) };
 
     fn part<'a>(&'a self, _context: &Context<'_>) -> Part<'a> {
-        Part::Lights(self)
+        Part::RootLights(self)
     }
 }
 

@@ -1,4 +1,5 @@
-//! What a walk over a document visits: the parts of the document, and the plan that each is walked by.
+//! What a walk over a document visits: the parts of the document, and the plan that each is walked
+//! by.
 #![tactic(auto)]
 
 mod accessor;

@@ -29,7 +29,7 @@ impl Visited for Vec<Light> {
     ghost tree = { λ v. list_tree (λ x. closed_object (light_members x)) v.items };
 
     fn part<'a>(&'a self, _context: &Context<'_>) -> Part<'a> {
-        Part::LightList(self)
+        Part::Lights(self)
     }
 }
 

@@ -80,7 +80,8 @@ impl Silent for KhrMaterialsVariants {
 
     ghost tree = { λ v. closed_object (variant_mappings_members v) };
 
-    ghost silent = { λ _ _. unfold variant_mappings_rows variant_mapping_rows variant_mappings_members in refl };
+    ghost silent = { λ _ _. unfold variant_mappings_rows variant_mapping_rows
+        variant_mappings_members in refl };
 }
 
 impl Silent for Mapping {
@@ -96,7 +97,8 @@ impl Silent for extensions::Primitive {
 
     ghost tree = { primitive_extensions };
 
-    ghost silent = { λ _ _. unfold primitive_extension_rows variant_mappings_rows variant_mapping_rows primitive_extension_members in refl };
+    ghost silent = { λ _ _. unfold primitive_extension_rows variant_mappings_rows
+        variant_mapping_rows primitive_extension_members in refl };
 }
 
 impl Silent for extensions::Mesh {

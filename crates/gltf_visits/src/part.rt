@@ -16,7 +16,7 @@ use gltf_nodes::extensions::scene::Node as NodeExtensions;
 use gltf_nodes::extensions::scene::khr_lights_punctual::{KhrLightsPunctual as NodeLight, Light};
 use gltf_nodes::scene::{Node, Scene};
 use gltf_nodes::skin::Skin;
-use gltf_root::extensions::root::{KhrLightsPunctual as Lights, Root as RootExtensions};
+use gltf_root::extensions::root::{KhrLightsPunctual as RootLights, Root as RootExtensions};
 use gltf_root::root::Root;
 use gltf_shading::extensions::material::{
     Material as MaterialExtensions, PbrSpecularGlossiness, Specular, Transmission, Volume,
@@ -24,16 +24,16 @@ use gltf_shading::extensions::material::{
 use gltf_textures::texture::{Info, Sampler, Texture};
 use std::collections::BTreeMap;
 
-/// What a walk comes to: an object, a list or a map in which something can be wrong, what an object's
-/// rule looks at, or a place with nothing below, at which something is wrong or not.
+/// What a walk comes to: an object, a list or a map in which something can be wrong, what an
+/// object's rule looks at, or a place with nothing below, at which something is wrong or not.
 #[derive(Clone, Copy, Drop)]
 pub enum Part<'a> {
     /// A place with nothing below, and what is wrong there.
     Leaf(Option<Error>),
     Root(&'a Root),
     RootExtensions(&'a RootExtensions),
-    Lights(&'a Lights),
-    LightList(&'a Vec<Light>),
+    RootLights(&'a RootLights),
+    Lights(&'a Vec<Light>),
     Light(&'a Light),
     /// The names of the extensions that a document requires, and one of them.
     RequiredExtensions(&'a Vec<String>),
@@ -48,7 +48,7 @@ pub enum Part<'a> {
     /// The channels of an animation, and one of them with the animation whose samplers it names.
     Channels(&'a Animation),
     Channel(&'a Channel, &'a Animation),
-    Target(&'a Target),
+    AnimationTarget(&'a Target),
     AnimationSamplers(&'a Vec<AnimationSampler>),
     AnimationSampler(&'a AnimationSampler),
     Views(&'a Vec<View>),

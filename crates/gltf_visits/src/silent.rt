@@ -25,7 +25,8 @@ pub trait Silent {
     ghost tree: { Self → Tree } = { λ _. absent };
 
     // A walk has nothing to go through.
-    ghost silent: { (x : Self) (context : Context) → planned kind (tree x) context absent ≡ leaf None };
+    ghost silent: { (x : Self) (context : Context)
+        → planned kind (tree x) context absent ≡ leaf None };
 }
 
 impl<T: Silent> Visited for T {

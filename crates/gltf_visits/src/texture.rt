@@ -92,7 +92,8 @@ impl Silent for extensions::Info {
 
     ghost tree = { info_extensions };
 
-    ghost silent = { λ _ _. unfold info_extension_rows texture_transform_rows info_extension_members in refl };
+    ghost silent = { λ _ _. unfold info_extension_rows texture_transform_rows info_extension_members
+        in refl };
 }
 
 impl Silent for extensions::Sampler {

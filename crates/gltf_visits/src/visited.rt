@@ -33,7 +33,8 @@ pub trait Visited {
     /// The value as a part of a document; what is wrong at a place with nothing below is found out
     /// now, by `context`.
     fn part<'a>(&'a self, context: &Context<'_>) -> Part<'a>
-        ensures { plan_of (context_of context.now) result ≡ planned kind (tree self.now) (context_of context.now) absent };
+        ensures { plan_of (context_of context.now) result
+            ≡ planned kind (tree self.now) (context_of context.now) absent };
 }
 
 impl<T: Visited> Visited for Option<T> {

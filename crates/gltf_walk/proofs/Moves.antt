@@ -18,7 +18,7 @@ use Rattle.gltf_walk.proofs.Stacks.{weight, weight_of, rest, left_further, told_
 
 -- ---- one plan
 
-pub left_none : (p : Plan) → left p 0 ≡ p
+left_none : (p : Plan) → left p 0 ≡ p
 left_none (place ps es) = refl
 
 pub left_one : (p : Plan) → left p 1 ≡ rest p
@@ -62,7 +62,7 @@ over_tells (place nothing []) base e = refl
 
 -- ---- frames
 
-pub plans_last : (context : Context) (fs gs : List Frame) (f : Frame) → fs ≡ gs ++ f ∷ [] → plans_left context fs ≡ plans_left context gs ++ plan_left context f ∷ []
+plans_last : (context : Context) (fs gs : List Frame) (f : Frame) → fs ≡ gs ++ f ∷ [] → plans_left context fs ≡ plans_left context gs ++ plan_left context f ∷ []
 plans_last context fs gs f e = ap (plans_left context) e ∙ map-append (plan_left context) gs (f ∷ [])
 
 pub popped_fits : (context : Context) (fs gs : List Frame) (f : Frame) → fs ≡ gs ++ f ∷ []

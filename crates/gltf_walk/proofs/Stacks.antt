@@ -58,7 +58,7 @@ height_by (down s p) = 1 + height p
 height_by (fault e) = 0
 height_by over = 0
 
-pub told_move : (p : Plan) (base : List Step) → told p base ≡ told_by (first p) base ++ told (rest p) base
+told_move : (p : Plan) (base : List Step) → told p base ≡ told_by (first p) base ++ told (rest p) base
 told_move (place (below s p ps) es) base = append_assoc (told p (base ++ s ∷ [])) (told_below ps base) (told_here es base)
 told_move (place nothing (e ∷ es)) base = refl
 told_move (place nothing []) base = refl

@@ -8,7 +8,8 @@ use gltf_base::mesh::Semantic;
 use gltf_base::validation::Checked;
 use gltf_visits::Part;
 
-/// A part, and where the walk stands in it: in attributes behind a key, in any other part at a number.
+/// A part, and where the walk stands in it: in attributes behind a key, in any other part at a
+/// number.
 #[derive(Clone, Copy, Drop)]
 pub(crate) struct Frame<'a> {
     pub(crate) part: Part<'a>,

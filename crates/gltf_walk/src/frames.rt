@@ -13,13 +13,16 @@ use crate::lists::{
     item_at, leaf_at, next_attribute,
 };
 use gltf_faults::{Against, Context};
-use gltf_plans::{Coming, Next, Object};
+use gltf_plans::{Coming, Next, Planned};
 use gltf_visits::Part;
 
 /// What comes next in a frame, which stands behind it then.
 pub(crate) fn next_in<'a>(frame: &mut Frame<'a>, context: &Context<'_>) -> Next<'a>
-    ensures comes { move_of (context_of context.now) result ≡ first (plan_left (context_of context.now) frame.old) }
-    ensures left { IsMore result → plan_left (context_of context.now) frame.new ≡ left (plan_left (context_of context.now) frame.old) 1 }
+    ensures comes { move_of (context_of context.now) result
+        ≡ first (plan_left (context_of context.now) frame.old) }
+    ensures left { IsMore result
+        → plan_left (context_of context.now) frame.new
+        ≡ left (plan_left (context_of context.now) frame.old) 1 }
 {
     match frame.part {
         Part::Attributes(attributes) => next_attribute(attributes, &mut frame.behind, context),
@@ -36,7 +39,8 @@ pub(crate) fn next_in<'a>(frame: &mut Frame<'a>, context: &Context<'_>) -> Next<
 /// What comes at a number in a part that is gone through by numbers.
 fn next_at<'a, N: Coming<'a>, C: Against>(part: Part<'a>, number: usize, context: &C) -> N
     requires { IsNumbered part }
-    ensures comes { N.moved (C.context context.now) result ≡ at (plan_of (C.context context.now) part.entry) number }
+    ensures comes { N.moved (C.context context.now) result
+        ≡ at (plan_of (C.context context.now) part.entry) number }
     ensures small { N.is_more result → number + 1 < 2 ^ 64 }
 {
     match part {
@@ -89,16 +93,16 @@ fn next_at<'a, N: Coming<'a>, C: Against>(part: Part<'a>, number: usize, context
         Part::Skin(object) => object.next(number, context),
         Part::Cameras(items) => item_at(items, number, context),
         Part::Camera(object) => object.next(number, context),
-        Part::LightList(items) => item_at(items, number, context),
+        Part::Lights(items) => item_at(items, number, context),
         Part::Light(object) => object.next(number, context),
         Part::NodeLight(object) => object.next(number, context),
-        Part::Target(object) => object.next(number, context),
+        Part::AnimationTarget(object) => object.next(number, context),
         Part::AnimationSamplers(items) => item_at(items, number, context),
         Part::AnimationSampler(object) => object.next(number, context),
         Part::Animations(items) => item_at(items, number, context),
         Part::Animation(object) => object.next(number, context),
         Part::Root(object) => object.next(number, context),
         Part::RootExtensions(object) => object.next(number, context),
-        Part::Lights(object) => object.next(number, context),
+        Part::RootLights(object) => object.next(number, context),
     }
 }

@@ -44,7 +44,9 @@ pub(crate) fn item_at<'a, T: Visited, N: Coming<'a>, C: Against>(
     number: usize,
     context: &C,
 ) -> N
-    ensures comes { N.moved (C.context context.now) result ≡ at (planned (ListOf T.kind) (list_tree T.tree items.now.items) (C.context context.now) absent) number }
+    ensures comes { N.moved (C.context context.now) result
+        ≡ at (planned (ListOf T.kind) (list_tree T.tree items.now.items)
+        (C.context context.now) absent) number }
     ensures small { N.is_more result → number + 1 < 2 ^ 64 }
 {
     match items.get(number) {
@@ -59,8 +61,11 @@ pub(crate) fn next_attribute<'a>(
     behind: &mut Option<&'a Checked<Semantic>>,
     context: &Context<'_>,
 ) -> Next<'a>
-    ensures comes { move_of (context_of context.now) result ≡ first (attributes_left (context_of context.now) attributes.now behind.old) }
-    ensures left { IsMore result → attributes_left (context_of context.now) attributes.now behind.new ≡ left (attributes_left (context_of context.now) attributes.now behind.old) 1 }
+    ensures comes { move_of (context_of context.now) result
+        ≡ first (attributes_left (context_of context.now) attributes.now behind.old) }
+    ensures left { IsMore result
+        → attributes_left (context_of context.now) attributes.now behind.new
+        ≡ left (attributes_left (context_of context.now) attributes.now behind.old) 1 }
 {
     match entry_behind(attributes, *behind) {
         Some((semantic, index)) => {
@@ -109,8 +114,10 @@ pub(crate) fn in_attribute<'a, N: Coming<'a>>(
 
 /// The channel of an animation at a number.
 pub(crate) fn channel_at<'a, N: Coming<'a>>(animation: &'a Animation, number: usize) -> N
-    ensures comes { (context : _) → N.moved context result ≡ at (planned (ListOf animation_channel_kind)
-        (list_tree (λ x. closed_object (animation_channel_members x)) animation.now.channels.items) context (closed_object (animation_members animation.now))) number }
+    ensures comes { (context : _)
+        → N.moved context result ≡ at (planned (ListOf animation_channel_kind)
+        (list_tree (λ x. closed_object (animation_channel_members x)) animation.now.channels.items)
+        context (closed_object (animation_members animation.now))) number }
     ensures small { N.is_more result → number + 1 < 2 ^ 64 }
 {
     match animation.channels.get(number) {
@@ -127,7 +134,8 @@ pub(crate) fn in_channel<'a, N: Coming<'a>, C: Against>(
     number: usize,
     context: &C,
 ) -> N
-    ensures comes { N.moved (C.context context.now) result ≡ at (planned animation_channel_kind (closed_object (animation_channel_members channel.now))
+    ensures comes { N.moved (C.context context.now) result
+        ≡ at (planned animation_channel_kind (closed_object (animation_channel_members channel.now))
         (C.context context.now) (closed_object (animation_members animation.now))) number }
     ensures small { N.is_more result → number + 1 < 2 ^ 64 }
 {
@@ -140,7 +148,8 @@ pub(crate) fn in_channel<'a, N: Coming<'a>, C: Against>(
 
 /// What comes at a number in the attributes of a primitive, as its rule looks at them.
 pub(crate) fn at_attributes<'a, N: Coming<'a>>(faults: PositionFaults, number: usize) -> N
-    ensures comes { (context : _) → N.moved context result ≡ at (at_positions (found_plan faults)) number }
+    ensures comes { (context : _)
+        → N.moved context result ≡ at (at_positions (found_plan faults)) number }
     ensures small { N.is_more result → number + 1 < 2 ^ 64 }
 {
     match number {
@@ -165,7 +174,10 @@ pub(crate) fn in_positions<'a, N: Coming<'a>>(faults: PositionFaults, number: us
 
 /// The required extension at a number.
 pub(crate) fn extension_at<'a, N: Coming<'a>>(names: &'a Vec<String>, number: usize) -> N
-    ensures comes { (context : _) → N.moved context result ≡ at (place (item_plans (name_plan context.rules.enabled) 0 (items_in (list_tree text_tree names.now.items))) []) number }
+    ensures comes { (context : _)
+        → N.moved context result
+        ≡ at (place (item_plans (name_plan context.rules.enabled) 0
+        (items_in (list_tree text_tree names.now.items))) []) number }
     ensures small { N.is_more result → number + 1 < 2 ^ 64 }
 {
     match names.get(number) {
@@ -180,7 +192,8 @@ pub(crate) fn in_extension<'a, N: Coming<'a>, C: Against>(
     number: usize,
     context: &C,
 ) -> N
-    ensures comes { N.moved (C.context context.now) result ≡ at (name_plan (C.context context.now).rules.enabled (text_tree name.now)) number }
+    ensures comes { N.moved (C.context context.now) result
+        ≡ at (name_plan (C.context context.now).rules.enabled (text_tree name.now)) number }
     ensures small { N.is_more result → number + 1 < 2 ^ 64 }
 {
     match number {

@@ -22,7 +22,8 @@ pub struct Descent<'a> {
     /// The parts below each other that the walk is in.
     pub(crate) frames: ArrayVec<Frame<'a>, 16>,
     pub(crate) steps: Steps<'a>,
-    ghost fits: { reach 0 (plans_left (under (rules_of rules) (root_tree root.now)) frames.items) ≤ 10 },
+    ghost fits: { reach 0 (plans_left (under (rules_of rules) (root_tree root.now)) frames.items)
+        ≤ 10 },
     ghost beside: { length frames.items ≤ suc (length steps.items) },
 }
 

@@ -34,7 +34,9 @@ impl<'a> Descent<'a> {
         base: &Steps<'a>,
     ) -> Descent<'a>
         requires { kind_height T.kind ≤ 10 }
-        ensures reports { left_of_descent result ≡ reports_by_rules (rules_of rules.entry) T.kind (T.tree value.now) (root_tree root.now) (steps_of base.now) }
+        ensures reports { left_of_descent result
+            ≡ reports_by_rules (rules_of rules.entry) T.kind (T.tree value.now) (root_tree root.now)
+            (steps_of base.now) }
         ensures base { base_count result ≡ length (steps_of base.now) }
         ensures path { path_of_descent result ≡ steps_of base.now }
         ensures depth { depth_of_descent result ≤ kind_height T.kind }
@@ -51,8 +53,9 @@ impl<'a> Descent<'a> {
         }
     }
 
-    /// The error of the next report, whose path is then in `steps`; `None` where there is none left.
-    /// `StepsFull` comes only where the first steps and those below the value are more than 16.
+    /// The error of the next report, whose path is then in `steps`; `None` where there is none
+    /// left. `StepsFull` comes only where the first steps and those below the value are more than
+    /// 16.
     pub fn next_report(&mut self) -> Result<Option<Error>, StepsFull>
         ensures next { IfOk result (λ error. IsNextOf self.old error self.new) }
         ensures depth { depth_of_descent self.new ≤ depth_of_descent self.old }
@@ -106,7 +109,8 @@ impl<'a> Walk<'a> {
 
     /// A walk over `root` by rules of the caller's that has not begun.
     pub fn with_rules(rules: Rules<'a>, root: &'a Root) -> Walk<'a>
-        ensures reports { to_come result ≡ document_reports (rules_of rules.entry) (root_tree root.now) }
+        ensures reports { to_come result
+            ≡ document_reports (rules_of rules.entry) (root_tree root.now) }
         ensures path { path_of result ≡ [] }
     {
         Walk {
@@ -114,8 +118,8 @@ impl<'a> Walk<'a> {
         }
     }
 
-    /// The error of the next report, whose path is then in `steps`; `None`, with empty `steps`, where
-    /// there is none left.
+    /// The error of the next report, whose path is then in `steps`; `None`, with empty `steps`,
+    /// where there is none left.
     pub fn next_report(&mut self) -> Option<Error>
         ensures { IsNext (to_come self.old) result (path_of self.new) (to_come self.new) }
     {

@@ -1,5 +1,5 @@
-//! The kinds of rows, and values that a member of each kind is refused for, is read from, or is read
-//! from as an invalid item.
+//! The kinds of rows, and values that a member of each kind is refused for, is read from, or is
+//! read from as an invalid item.
 
 use super::trials::{Answer, answer_to, with};
 use gltf_parts::Schema;

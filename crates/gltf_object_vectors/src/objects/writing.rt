@@ -21,8 +21,8 @@ fn is_written<T: Schema + Clone>(alloc: Global, object: &str, text: &str) -> Res
     Ok(is_encoded(alloc, &object, text)? && is_encoded(alloc, &copy, text)?)
 }
 
-/// Holds objects to their forms: a test fails by the first object that is written otherwise, or whose
-/// form isn't written as it is.
+/// Holds objects to their forms: a test fails by the first object that is written otherwise, or
+/// whose form isn't written as it is.
 pub(super) fn writes<T: Schema + Clone>(alloc: Global, forms: &[Form]) -> Result<(), Fail> {
     for (object, form) in forms {
         if !is_written::<T>(alloc, object, form)? || !is_written::<T>(alloc, form, form)? {

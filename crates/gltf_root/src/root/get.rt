@@ -58,24 +58,26 @@ pub trait Get<T> {
         ensures pushed { IfOk result (λ index. (index_number index ≡ length (listed self.old))
             × (document self.new ≡ pushed named (item_tree item) (document self.old))) }
         ensures appended { IfOk result (λ _. listed self.new ≡ listed self.old ++ item ∷ []) }
-        ensures full { (result ≡ Err (PushError.Full item)) ↔ (2 ^ 32 - 1 ≤ length (listed self.old)) }
+        ensures full { (result ≡ Err (PushError.Full item))
+            ↔ (2 ^ 32 - 1 ≤ length (listed self.old)) }
         ensures handed_back { IfErr result (IsHandedBack item) }
         ensures unchanged { OnErr result (document self.new ≡ document self.old) };
 
-    /// Which of the extension objects around the list the document has. Taken before a push, it tells
-    /// `undo_push` what the push made.
+    /// Which of the extension objects around the list the document has. Taken before a push, it
+    /// tells `undo_push` what the push made.
     fn mark(&self) -> Mark
         ensures { result ≡ mark_in named (document self.now) };
 
-    /// Takes the last item out of the list, and returns it; `None` where the list is empty, and then
-    /// nothing changes. What the mark says was missing before the push is missing again. With the
-    /// mark of the document before a push, it is that document again.
+    /// Takes the last item out of the list, and returns it; `None` where the list is empty, and
+    /// then nothing changes. What the mark says was missing before the push is missing again. With
+    /// the mark of the document before a push, it is that document again.
     fn undo_push(&mut self, mark: Mark) -> Option<T>
         ensures none { (result ≡ None) ↔ (listed self.old ≡ []) }
         ensures unchanged { IfNone result (document self.new ≡ document self.old) }
         ensures taken { IfSome result (λ item. (last_or None (listed self.old) ≡ Some item)
             × (document self.new ≡ undone named mark (document self.old))) }
-        ensures rest { mark ≡ Listed → IfSome result (λ item. listed self.old ≡ listed self.new ++ item ∷ []) };
+        ensures rest { mark ≡ Listed
+            → IfSome result (λ item. listed self.old ≡ listed self.new ++ item ∷ []) };
 }
 
 /// What a document lists: where its list stands in a root.
@@ -108,7 +110,8 @@ pub trait RootItem: Listed + Drop {
         ensures pushed { IfOk result (λ index. (index_number index ≡ length (items root.old))
             × (root_tree root.new ≡ pushed Self.list (tree item) (root_tree root.old))) }
         ensures appended { IfOk result (λ _. items root.new ≡ items root.old ++ item ∷ []) }
-        ensures full { (result ≡ Err (PushError.Full item)) ↔ (2 ^ 32 - 1 ≤ length (items root.old)) }
+        ensures full { (result ≡ Err (PushError.Full item))
+            ↔ (2 ^ 32 - 1 ≤ length (items root.old)) }
         ensures handed_back { IfErr result (IsHandedBack item) }
         ensures unchanged { OnErr result (root_tree root.new ≡ root_tree root.old) };
 
@@ -122,14 +125,17 @@ pub trait RootItem: Listed + Drop {
         ensures unchanged { IfNone result (root_tree root.new ≡ root_tree root.old) }
         ensures taken { IfSome result (λ item. (last_or None (items root.old) ≡ Some item)
             × (root_tree root.new ≡ undone Self.list mark (root_tree root.old))) }
-        ensures rest { mark ≡ Listed → IfSome result (λ item. items root.old ≡ items root.new ++ item ∷ []) };
+        ensures rest { mark ≡ Listed
+            → IfSome result (λ item. items root.old ≡ items root.new ++ item ∷ []) };
 
     // The list of the root's tree holds the trees of the items.
     ghost lists: { (r : Root) → list_in Self.list (root_tree r) ≡ trees (map tree (items r)) };
 
     // A list put in place is the root's, and all else is as it was.
     ghost puts: { (r : Root) (list : Vec Self Global) → is_there Self.list (root_tree r) ≡ true
-        → (items (put list r) ≡ list.items) × (root_tree (put list r) ≡ with_list Self.list (trees (map tree list.items)) (root_tree r)) };
+        → (items (put list r) ≡ list.items)
+        × (root_tree (put list r)
+        ≡ with_list Self.list (trees (map tree list.items)) (root_tree r)) };
 }
 
 impl<T: RootItem> Get<T> for Root {
@@ -177,7 +183,8 @@ impl Root {
     pub fn get<T>(&self, index: Index<T>) -> Option<&T>
     where
         Root: Get<T>,
-        ensures { option_copied result ≡ slice_get (⟦<Root as Get<T>>⟧.listed self.now) (index_number index) }
+        ensures { option_copied result
+            ≡ slice_get (⟦<Root as Get<T>>⟧.listed self.now) (index_number index) }
     {
         Get::<T>::get(self, index)
     }
@@ -186,12 +193,18 @@ impl Root {
     pub fn push<T>(&mut self, item: T) -> Result<Index<T>, PushError<T>>
     where
         Root: Get<T>,
-        ensures pushed { IfOk result (λ index. (index_number index ≡ length (⟦<Root as Get<T>>⟧.listed self.old))
-            × (⟦<Root as Get<T>>⟧.document self.new ≡ pushed ⟦<Root as Get<T>>⟧.named (⟦<Root as Get<T>>⟧.item_tree item) (⟦<Root as Get<T>>⟧.document self.old))) }
-        ensures appended { IfOk result (λ _. ⟦<Root as Get<T>>⟧.listed self.new ≡ ⟦<Root as Get<T>>⟧.listed self.old ++ item ∷ []) }
-        ensures full { (result ≡ Err (PushError.Full item)) ↔ (2 ^ 32 - 1 ≤ length (⟦<Root as Get<T>>⟧.listed self.old)) }
+        ensures pushed { IfOk result (λ index. (index_number index
+            ≡ length (⟦<Root as Get<T>>⟧.listed self.old))
+            × (⟦<Root as Get<T>>⟧.document self.new
+            ≡ pushed ⟦<Root as Get<T>>⟧.named (⟦<Root as Get<T>>⟧.item_tree item)
+            (⟦<Root as Get<T>>⟧.document self.old))) }
+        ensures appended { IfOk result (λ _. ⟦<Root as Get<T>>⟧.listed self.new
+            ≡ ⟦<Root as Get<T>>⟧.listed self.old ++ item ∷ []) }
+        ensures full { (result ≡ Err (PushError.Full item))
+            ↔ (2 ^ 32 - 1 ≤ length (⟦<Root as Get<T>>⟧.listed self.old)) }
         ensures handed_back { IfErr result (IsHandedBack item) }
-        ensures unchanged { OnErr result (⟦<Root as Get<T>>⟧.document self.new ≡ ⟦<Root as Get<T>>⟧.document self.old) }
+        ensures unchanged { OnErr result (⟦<Root as Get<T>>⟧.document self.new
+            ≡ ⟦<Root as Get<T>>⟧.document self.old) }
     {
         Get::<T>::push(self, item)
     }

@@ -56,11 +56,12 @@ impl Root {
     }
 
     /// The document that a reader gives up to its end, as [`Root::from_slice`]. `Read` comes where
-    /// the reader fails; `TooLong` where it gives more than 1073741824 bytes, or hasn't given its end
-    /// in 2147483648 calls. It reads 65536 bytes a call.
+    /// the reader fails; `TooLong` where it gives more than 1073741824 bytes, or hasn't given its
+    /// end in 2147483648 calls. It reads 65536 bytes a call.
     pub fn from_reader<R: ByteIn>(alloc: Global, reader: &mut R) -> Result<Root, Error>
         ensures told { IfSome (R.left reader.old) (λ bytes. IsReadAnswer (answer bytes) result) }
-        ensures fresh { IsFresh (R.seen reader.old) → IsReading byte_limit call_limit (R.seen reader.new) result }
+        ensures fresh { IsFresh (R.seen reader.old)
+            → IsReading byte_limit call_limit (R.seen reader.new) result }
         ensures refused { IfErr result IsRefusal }
         ensures soon { (R.seen reader.new).calls ≤ (R.seen reader.old).calls + call_limit }
         ensures plain { IfOk result (λ root. is_plain root_kind (root_tree root) ≡ true) }
@@ -70,8 +71,8 @@ impl Root {
 
     /// The document that a reader gives up to its end, as [`Root::from_reader`] with other limits:
     /// `TooLong` comes where it gives more than `most_bytes` bytes, or hasn't given its end in
-    /// `most_calls` calls, the call at the end among them. It reads 65536 bytes a call, so a reader may
-    /// be asked for some bytes past the limit.
+    /// `most_calls` calls, the call at the end among them. It reads 65536 bytes a call, so a reader
+    /// may be asked for some bytes past the limit.
     #[tactic(auto, using(crate::proofs::AnswerLemmas::readings))]
     pub fn from_reader_within<R: ByteIn>(
         alloc: Global,
@@ -80,7 +81,8 @@ impl Root {
         most_calls: u64,
     ) -> Result<Root, Error>
         ensures told { IfSome (R.left reader.old) (λ bytes. IsReadAnswer (answer bytes) result) }
-        ensures fresh { IsFresh (R.seen reader.old) → IsReading most_bytes most_calls (R.seen reader.new) result }
+        ensures fresh { IsFresh (R.seen reader.old)
+            → IsReading most_bytes most_calls (R.seen reader.new) result }
         ensures refused { IfErr result IsRefusal }
         ensures soon { (R.seen reader.new).calls ≤ (R.seen reader.old).calls + most_calls }
         ensures uncalled { most_calls ≡ 0 → reader.new ≡ reader.old }

@@ -20,11 +20,12 @@ use serde_json::Value;
 use std::alloc::Global;
 
 impl Root {
-    /// The JSON value that the document is written as. `InvalidItem` comes exactly where an item of a
-    /// choice or the key of an attribute is invalid; `Memory` may come in place of either where a
+    /// The JSON value that the document is written as. `InvalidItem` comes exactly where an item of
+    /// a choice or the key of an attribute is invalid; `Memory` may come in place of either where a
     /// growth was refused. Indexes are written whether or not they name anything.
     pub fn to_value(&self, alloc: Global) -> Result<Value, Error>
-        ensures by_table { Writes view result (write root_kind (root_tree self.now)) (holds_invalid (root_tree self.now)) }
+        ensures by_table { Writes view result (write root_kind (root_tree self.now))
+            (holds_invalid (root_tree self.now)) }
         ensures valid { OnOk result (holds_invalid (root_tree self.now) ≡ false) }
         // A plain document reads back as itself.
         ensures reads_back { IfOk result (λ v. is_plain root_kind (root_tree self.now) ≡ true
@@ -36,18 +37,18 @@ impl Root {
     /// The document as JSON in one line, without blanks between its tokens; errors are those of
     /// [`Root::to_value`]. A plain one reads back where it isn't nested deeper than 127 levels.
     pub fn to_vec(&self, alloc: Global) -> Result<Vec<u8>, Error>
-        ensures printed { Prints IsCompact (λ b. b.items) result (write root_kind (root_tree self.now))
-            (holds_invalid (root_tree self.now)) }
+        ensures printed { Prints IsCompact (λ b. b.items) result
+            (write root_kind (root_tree self.now)) (holds_invalid (root_tree self.now)) }
         ensures reads_back { IfOk result (λ b. IsReadBack (root_tree self.now) b.items) }
     {
         Ok(self.to_value(alloc)?.to_vec(alloc)?)
     }
 
-    /// The document as JSON in lines, two blanks deeper at each level, without a newline at the end;
-    /// errors are those of [`Root::to_value`].
+    /// The document as JSON in lines, two blanks deeper at each level, without a newline at the
+    /// end; errors are those of [`Root::to_value`].
     pub fn to_vec_pretty(&self, alloc: Global) -> Result<Vec<u8>, Error>
-        ensures printed { Prints IsPretty (λ b. b.items) result (write root_kind (root_tree self.now))
-            (holds_invalid (root_tree self.now)) }
+        ensures printed { Prints IsPretty (λ b. b.items) result
+            (write root_kind (root_tree self.now)) (holds_invalid (root_tree self.now)) }
         ensures reads_back { IfOk result (λ b. IsReadBack (root_tree self.now) b.items) }
     {
         Ok(self.to_value(alloc)?.to_vec_pretty(alloc)?)
@@ -56,8 +57,8 @@ impl Root {
     /// The text of [`Root::to_vec`].
     #[tactic(auto, using(crate::proofs::AnswerLemmas::texts))]
     pub fn to_string(&self, alloc: Global) -> Result<String, Error>
-        ensures printed { Prints IsCompact string_bytes result (write root_kind (root_tree self.now))
-            (holds_invalid (root_tree self.now)) }
+        ensures printed { Prints IsCompact string_bytes result
+            (write root_kind (root_tree self.now)) (holds_invalid (root_tree self.now)) }
         ensures reads_back { IfOk result (λ s. IsReadBack (root_tree self.now) (string_bytes s)) }
     {
         Ok(self.to_value(alloc)?.to_string(alloc)?)
@@ -74,10 +75,11 @@ impl Root {
     }
 
     /// Writes the bytes of [`Root::to_vec`], which are made before the first of them is written.
-    /// `Write` comes where the writer fails, which then has taken a prefix of them; after `InvalidItem`
-    /// or `Memory` it is as it was. Nothing is flushed.
+    /// `Write` comes where the writer fails, which then has taken a prefix of them; after
+    /// `InvalidItem` or `Memory` it is as it was. Nothing is flushed.
     pub fn to_writer<W: ByteOut>(&self, alloc: Global, writer: &mut W) -> Result<(), Error>
-        ensures taken { Takes (λ d bytes. IsCompact d bytes × IsReadBack (root_tree self.now) bytes) (W.taken writer.old) (W.taken writer.new) result
+        ensures taken { Takes (λ d bytes. IsCompact d bytes × IsReadBack (root_tree self.now) bytes)
+            (W.taken writer.old) (W.taken writer.new) result
             (write root_kind (root_tree self.now)) (holds_invalid (root_tree self.now)) }
         ensures works { OnOk result (W.has_failed writer.new ≡ W.has_failed writer.old) }
         ensures breaks { result ≡ Err Error.Write → W.has_failed writer.new ≡ true }
@@ -89,7 +91,8 @@ impl Root {
 
     /// Writes the bytes of [`Root::to_vec_pretty`], as [`Root::to_writer`].
     pub fn to_writer_pretty<W: ByteOut>(&self, alloc: Global, writer: &mut W) -> Result<(), Error>
-        ensures taken { Takes (λ d bytes. IsPretty d bytes × IsReadBack (root_tree self.now) bytes) (W.taken writer.old) (W.taken writer.new) result
+        ensures taken { Takes (λ d bytes. IsPretty d bytes × IsReadBack (root_tree self.now) bytes)
+            (W.taken writer.old) (W.taken writer.new) result
             (write root_kind (root_tree self.now)) (holds_invalid (root_tree self.now)) }
         ensures works { OnOk result (W.has_failed writer.new ≡ W.has_failed writer.old) }
         ensures breaks { result ≡ Err Error.Write → W.has_failed writer.new ≡ true }

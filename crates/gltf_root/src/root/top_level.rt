@@ -42,17 +42,22 @@ pub trait TopLevel: Listed + Object {
         ensures lent { result.now ≡ held root.old };
 
     // The list of the root's tree holds the trees of the items.
-    ghost stands: { (r : Root) → list_in Self.list (root_tree r) ≡ trees (map (λ x. object (Self.members x) (Self.unknown x)) (held r).items) };
+    ghost stands: { (r : Root)
+        → list_in Self.list (root_tree r)
+        ≡ trees (map (λ x. object (Self.members x) (Self.unknown x)) (held r).items) };
 
     // A list put in place is the root's, and all else is as it was.
     ghost puts: { (r : Root) (list : Vec Self Global) → (held (put list r) ≡ list)
-        × (root_tree (put list r) ≡ with_list Self.list (trees (map (λ x. object (Self.members x) (Self.unknown x)) list.items)) (root_tree r)) };
+        × (root_tree (put list r)
+        ≡ with_list Self.list (trees (map (λ x. object (Self.members x) (Self.unknown x))
+        list.items)) (root_tree r)) };
 
     // The list that is there changes nothing.
     ghost same: { (r : Root) → put (held r) r ≡ r };
 
     // No extension object holds the list, so none is missing before a push or goes with it.
-    ghost itself: { (root : Tree) (mark : Mark) → (is_there Self.list root ≡ true) × (mark_in Self.list root ≡ Listed)
+    ghost itself: { (root : Tree) (mark : Mark)
+        → (is_there Self.list root ≡ true) × (mark_in Self.list root ≡ Listed)
         × (undone Self.list mark root ≡ without_last_item Self.list root) };
 }
 
@@ -65,7 +70,8 @@ impl<T: TopLevel> RootItem for T {
 
     ghost lists = { T.stands };
 
-    ghost puts = { λ r list there. let put = T.puts r list in (ap (λ held. held.items) put.0, put.1) };
+    ghost puts = { λ r list there. let put = T.puts r list
+        in (ap (λ held. held.items) put.0, put.1) };
 
     fn list_of(root: &Root) -> &[T] {
         T::list_in(root).as_slice()

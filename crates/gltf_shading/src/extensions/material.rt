@@ -20,7 +20,8 @@ use std::alloc::Global;
 /// The extensions of a material.
 #[derive(Clone, Debug, Drop)]
 pub struct Material {
-    /// `KHR_materials_pbrSpecularGlossiness`: the specular-glossiness model in place of the metallic-roughness one.
+    /// `KHR_materials_pbrSpecularGlossiness`: the specular-glossiness model in place of the
+    /// metallic-roughness one.
     pub pbr_specular_glossiness: Option<PbrSpecularGlossiness>,
     /// `KHR_materials_unlit`: the surface shows its base color, whatever the light.
     pub unlit: Option<Unlit>,
@@ -285,7 +286,8 @@ impl PbrSpecularGlossiness {
     /// Parameters with every member at its default.
     #[tactic(auto, unfolding(crate::specs::MaterialExtensionTable::pbr_specular_glossiness_rows, crate::specs::MaterialExtensionTrees::pbr_specular_glossiness_members))]
     pub fn new(alloc: Global) -> PbrSpecularGlossiness
-        ensures known { pbr_specular_glossiness_members result ≡ defaults pbr_specular_glossiness_rows }
+        ensures known { pbr_specular_glossiness_members result
+            ≡ defaults pbr_specular_glossiness_rows }
         ensures unknown { members_view result.others.entries ≡ no_members }
     {
         PbrSpecularGlossiness {

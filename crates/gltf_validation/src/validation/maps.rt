@@ -19,7 +19,8 @@ impl<K: KeyStep + Validate + Ord, V: Validate> Validate for BTreeMap<K, V> {
 
     ghost tree = { λ _. absent };
 
-    ghost own = { λ m context. each_entry K.key_text (reports_in K.kind K.tree K.own context) (reports_in V.kind V.tree V.own context) m.entries };
+    ghost own = { λ m context. each_entry K.key_text (reports_in K.kind K.tree K.own context)
+        (reports_in V.kind V.tree V.own context) m.entries };
 
     ghost depth = { max K.depth V.depth + 1 };
 
@@ -44,7 +45,8 @@ fn entries_of<'a, K: KeyStep + Validate + Ord, V: Validate, C: Against, S: Sink>
     sink: &mut S,
 ) -> Result<(), Stop<S::Refusal>>
     ensures { Walked S.next S.refuses path.old (S.state sink.old)
-        (each_entry K.key_text (reports_in K.kind K.tree K.own (C.context context.now)) (reports_in V.kind V.tree V.own (C.context context.now)) map.now.entries)
+        (each_entry K.key_text (reports_in K.kind K.tree K.own (C.context context.now))
+        (reports_in V.kind V.tree V.own (C.context context.now)) map.now.entries)
         (max K.depth V.depth + 1) result path.new (S.state sink.new) }
 {
     for (key, value) in map {
@@ -62,8 +64,10 @@ fn entry<'a, K: KeyStep + Validate, V: Validate, C: Against, S: Sink>(
     sink: &mut S,
 ) -> Result<(), Stop<S::Refusal>>
     ensures { Walked S.next S.refuses path.old (S.state sink.old)
-        (λ base. reports_in K.kind K.tree K.own (C.context context.now) named.now (base ++ key (K.key_text named.now) ∷ [])
-        ++ reports_in V.kind V.tree V.own (C.context context.now) value.now (base ++ key (K.key_text named.now) ∷ []))
+        (λ base. reports_in K.kind K.tree K.own (C.context context.now) named.now
+        (base ++ key (K.key_text named.now) ∷ [])
+        ++ reports_in V.kind V.tree V.own (C.context context.now) value.now
+        (base ++ key (K.key_text named.now) ∷ []))
         (max K.depth V.depth + 1) result path.new (S.state sink.new) }
 {
     within(named, named.key_step(), context, path, sink)?;

@@ -42,8 +42,8 @@ impl<T: InTable> Validate for T {
 
     ghost depth = { T.depth };
 
-    /// Reports what is wrong in the value, member by member in the order of the table's rows, and then
-    /// what its rule says. Its indexes are looked up in `root`.
+    /// Reports what is wrong in the value, member by member in the order of the table's rows, and
+    /// then what its rule says. Its indexes are looked up in `root`.
     fn validate_with<'a, S: Sink>(
         &'a self,
         rules: &Rules<'_>,

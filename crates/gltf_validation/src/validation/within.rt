@@ -19,8 +19,8 @@ pub(crate) fn within<'a, T: Validate, C: Against, S: Sink>(
     sink: &mut S,
 ) -> Result<(), Stop<S::Refusal>>
     ensures { Walked S.next S.refuses path.old (S.state sink.old)
-        (λ base. reports_by T.kind (T.tree value.now) (T.own value.now) (C.context context.now) (base ++ step_of step.entry ∷ []))
-        (T.depth + 1) result path.new (S.state sink.new) }
+        (λ base. reports_by T.kind (T.tree value.now) (T.own value.now) (C.context context.now)
+        (base ++ step_of step.entry ∷ [])) (T.depth + 1) result path.new (S.state sink.new) }
 {
     if path.is_full() {
         return Err(Stop::StepsFull);

@@ -17,8 +17,8 @@ fn is_read(alloc: Global, document: &str, line: &str) -> Result<bool, Fail> {
     Ok(has_lines(alloc, &root, "") && is_line(alloc, &root, line)?)
 }
 
-/// Whether each front of a document, the empty one among them and the whole one not, is refused as no
-/// JSON.
+/// Whether each front of a document, the empty one among them and the whole one not, is refused as
+/// no JSON.
 fn are_fronts_refused(alloc: Global, document: &[u8]) -> bool {
     for length in 0..document.len() {
         if !is_no_json(alloc, &document[..length]) {

@@ -48,7 +48,8 @@ fn new_materials(rt: HostRuntime) -> Result<(), Fail> {
     Ok(())
 }
 
-/// Whether extras that are null are written as null, and are none in the document that is read back.
+/// Whether extras that are null are written as null, and are none in the document that is read
+/// back.
 fn is_null_lost(alloc: Global) -> Result<bool, Fail> {
     let mut root = Root::new(alloc)?;
     root.extras = Some(Value::Null);

@@ -58,8 +58,8 @@ where
     is_first(alloc, root, index, line)
 }
 
-/// Whether a push onto a new document was refused, with so many pebbles left. A test fails where the
-/// push is neither made nor refused as it should.
+/// Whether a push onto a new document was refused, with so many pebbles left. A test fails where
+/// the push is neither made nor refused as it should.
 fn is_refused<T: Schema + Debug>(
     alloc: Global,
     item: &str,

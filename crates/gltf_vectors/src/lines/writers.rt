@@ -20,8 +20,8 @@ fn due(layout: Layout) -> &'static str {
     }
 }
 
-/// How writing a new document into a writer with room for so many bytes ends, whether the writer has
-/// failed, and what it took.
+/// How writing a new document into a writer with room for so many bytes ends, whether the writer
+/// has failed, and what it took.
 type Outcome = (Result<(), Error>, bool, Vec<u8>);
 
 /// Writes a new document into a writer that takes one byte a call, and has room for so many.

@@ -56,10 +56,13 @@ struct Pair {
 impl Validate for Pair {
     // What is wrong with `left`, with `right`, and with each of the tags.
     ghost own = { λ pair context base.
-        reports_by (Some (IndexInto ListName.nodes)) (index_tree pair.left) (no_reports pair.left) context (base ++ field (codes "left") ∷ [])
-        ++ reports_by (Some (IndexInto ListName.nodes)) (index_tree pair.right) (no_reports pair.right) context (base ++ field (codes "right") ∷ [])
+        reports_by (Some (IndexInto ListName.nodes)) (index_tree pair.left)
+        (no_reports pair.left) context (base ++ field (codes "left") ∷ [])
+        ++ reports_by (Some (IndexInto ListName.nodes)) (index_tree pair.right)
+        (no_reports pair.right) context (base ++ field (codes "right") ∷ [])
         ++ each_entry (λ tag. string_bytes tag.0) (reports_in None (λ _. absent) no_reports context)
-        (reports_in (Some (IndexInto ListName.nodes)) index_tree no_reports context) pair.tags.entries (base ++ field (codes "tags") ∷ []) };
+        (reports_in (Some (IndexInto ListName.nodes)) index_tree no_reports context)
+        pair.tags.entries (base ++ field (codes "tags") ∷ []) };
 
     ghost depth = { 2 };
 
@@ -86,7 +89,8 @@ fn member<'a, T: Validate, S: Sink>(
     sink: &mut S,
 ) -> Result<(), Stop<S::Refusal>>
     ensures { Walked S.next S.refuses path.old (S.state sink.old)
-        (λ base. reports_by T.kind (T.tree value.now) (T.own value.now) (under (rules_of rules.now) (root_tree root.now)) (base ++ field name.now ∷ []))
+        (λ base. reports_by T.kind (T.tree value.now) (T.own value.now)
+        (under (rules_of rules.now) (root_tree root.now)) (base ++ field name.now ∷ []))
         (T.depth + 1) result path.new (S.state sink.new) }
 {
     if path.is_full() {

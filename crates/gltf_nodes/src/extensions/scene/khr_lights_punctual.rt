@@ -16,8 +16,8 @@ use gltf_schema::{Error, Object, Reading, Writing};
 use serde_json::{Map, Value};
 use std::alloc::Global;
 
-/// The light that a node carries. It stands at the node's origin; a directional or a spot light shines
-/// along the node's local -z axis.
+/// The light that a node carries. It stands at the node's origin; a directional or a spot light
+/// shines along the node's local -z axis.
 #[derive(Clone, Debug, Drop)]
 pub struct KhrLightsPunctual {
     pub light: Index<Light>,
@@ -142,9 +142,11 @@ impl Object for Light {
 /// The cone in which a light shines.
 #[derive(Clone, Debug, Drop)]
 pub struct Spot {
-    /// The angle from the axis to where the light begins to fall off, in radians; `None` stands for 0.
+    /// The angle from the axis to where the light begins to fall off, in radians; `None` stands for
+    /// 0.
     pub inner_cone_angle: Option<Real>,
-    /// The angle from the axis to where the light ends, in radians; `None` stands for a quarter of pi.
+    /// The angle from the axis to where the light ends, in radians; `None` stands for a quarter of
+    /// pi.
     pub outer_cone_angle: Option<Real>,
 }
 

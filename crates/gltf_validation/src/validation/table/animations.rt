@@ -10,7 +10,8 @@ use gltf_animations::extensions::animation as extensions;
 impl InTable for Animation {
     ghost depth = { 4 };
 
-    ghost shallow = { unfold animation_rows animation_sampler_rows animation_channel_rows animation_target_rows in (lit≤ tt, lit≤ tt) };
+    ghost shallow = { unfold animation_rows animation_sampler_rows animation_channel_rows
+        animation_target_rows in (lit≤ tt, lit≤ tt) };
 }
 
 impl InTable for Target {

@@ -18,7 +18,8 @@ use gltf_data::image::{Image, MimeType};
 impl InTable for Accessor {
     ghost depth = { 3 };
 
-    ghost shallow = { unfold accessor_rows sparse_rows sparse_indices_rows sparse_values_rows in (lit≤ tt, lit≤ tt) };
+    ghost shallow = { unfold accessor_rows sparse_rows sparse_indices_rows sparse_values_rows
+        in (lit≤ tt, lit≤ tt) };
 }
 
 impl InTable for extensions::Accessor {
@@ -28,7 +29,8 @@ impl InTable for extensions::Accessor {
 impl InTable for Sparse {
     ghost depth = { 2 };
 
-    ghost shallow = { unfold sparse_rows sparse_indices_rows sparse_values_rows in (lit≤ tt, lit≤ tt) };
+    ghost shallow = { unfold sparse_rows sparse_indices_rows sparse_values_rows
+        in (lit≤ tt, lit≤ tt) };
 }
 
 impl InTable for Indices {

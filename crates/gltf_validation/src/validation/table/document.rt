@@ -22,7 +22,8 @@ impl InTable for Root {
 impl InTable for extensions::Root {
     ghost depth = { 4 };
 
-    ghost shallow = { unfold root_extension_rows lights_rows light_rows spot_rows variants_rows variant_rows in (lit≤ tt, lit≤ tt) };
+    ghost shallow = { unfold root_extension_rows lights_rows light_rows spot_rows variants_rows
+        variant_rows in (lit≤ tt, lit≤ tt) };
 }
 
 impl InTable for KhrLightsPunctual {

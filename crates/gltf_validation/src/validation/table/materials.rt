@@ -16,13 +16,17 @@ use gltf_shading::material::StrengthFactor;
 impl InTable for Material {
     ghost depth = { 4 };
 
-    ghost shallow = { unfold material_rows pbr_metallic_roughness_rows info_rows info_extension_rows texture_transform_rows normal_texture_rows occlusion_texture_rows material_extension_rows pbr_specular_glossiness_rows transmission_rows volume_rows specular_rows ior_rows emissive_strength_rows in (lit≤ tt, lit≤ tt) };
+    ghost shallow = { unfold material_rows pbr_metallic_roughness_rows info_rows info_extension_rows
+        texture_transform_rows normal_texture_rows occlusion_texture_rows material_extension_rows
+        pbr_specular_glossiness_rows transmission_rows volume_rows specular_rows ior_rows
+        emissive_strength_rows in (lit≤ tt, lit≤ tt) };
 }
 
 impl InTable for PbrMetallicRoughness {
     ghost depth = { 2 };
 
-    ghost shallow = { unfold pbr_metallic_roughness_rows info_rows info_extension_rows texture_transform_rows in (lit≤ tt, lit≤ tt) };
+    ghost shallow = { unfold pbr_metallic_roughness_rows info_rows info_extension_rows
+        texture_transform_rows in (lit≤ tt, lit≤ tt) };
 }
 
 impl InTable for AlphaCutoff {

@@ -11,13 +11,15 @@ use gltf_meshes::mesh::{Mesh, MorphTarget, Primitive};
 impl InTable for Mesh {
     ghost depth = { 5 };
 
-    ghost shallow = { unfold mesh_rows primitive_rows primitive_extension_rows variant_mappings_rows variant_mapping_rows morph_target_rows in (lit≤ tt, lit≤ tt) };
+    ghost shallow = { unfold mesh_rows primitive_rows primitive_extension_rows variant_mappings_rows
+        variant_mapping_rows morph_target_rows in (lit≤ tt, lit≤ tt) };
 }
 
 impl InTable for Primitive {
     ghost depth = { 3 };
 
-    ghost shallow = { unfold primitive_rows primitive_extension_rows variant_mappings_rows variant_mapping_rows morph_target_rows in (lit≤ tt, lit≤ tt) };
+    ghost shallow = { unfold primitive_rows primitive_extension_rows variant_mappings_rows
+        variant_mapping_rows morph_target_rows in (lit≤ tt, lit≤ tt) };
 }
 
 impl InTable for MorphTarget {
@@ -35,7 +37,8 @@ impl InTable for Mapping {
 }
 
 impl InTable for extensions::Primitive {
-    ghost shallow = { unfold primitive_extension_rows variant_mappings_rows variant_mapping_rows in (lit≤ tt, lit≤ tt) };
+    ghost shallow = { unfold primitive_extension_rows variant_mappings_rows variant_mapping_rows
+        in (lit≤ tt, lit≤ tt) };
 }
 
 impl InTable for extensions::Mesh {

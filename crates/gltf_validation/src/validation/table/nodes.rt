@@ -62,7 +62,8 @@ impl InTable for Variant {
 impl InTable for Node {
     ghost depth = { 3 };
 
-    ghost shallow = { unfold node_rows node_extension_rows light_of_node_rows in (lit≤ tt, lit≤ tt) };
+    ghost shallow = { unfold node_rows node_extension_rows light_of_node_rows
+        in (lit≤ tt, lit≤ tt) };
 }
 
 impl InTable for Scene {

@@ -16,31 +16,37 @@ use gltf_shading::extensions::material::{
 impl InTable for extensions::Material {
     ghost depth = { 3 };
 
-    ghost shallow = { unfold material_extension_rows pbr_specular_glossiness_rows info_rows info_extension_rows texture_transform_rows transmission_rows volume_rows specular_rows ior_rows emissive_strength_rows in (lit≤ tt, lit≤ tt) };
+    ghost shallow = { unfold material_extension_rows pbr_specular_glossiness_rows info_rows
+        info_extension_rows texture_transform_rows transmission_rows volume_rows specular_rows
+        ior_rows emissive_strength_rows in (lit≤ tt, lit≤ tt) };
 }
 
 impl InTable for PbrSpecularGlossiness {
     ghost depth = { 2 };
 
-    ghost shallow = { unfold pbr_specular_glossiness_rows info_rows info_extension_rows texture_transform_rows in (lit≤ tt, lit≤ tt) };
+    ghost shallow = { unfold pbr_specular_glossiness_rows info_rows info_extension_rows
+        texture_transform_rows in (lit≤ tt, lit≤ tt) };
 }
 
 impl InTable for Transmission {
     ghost depth = { 2 };
 
-    ghost shallow = { unfold transmission_rows info_rows info_extension_rows texture_transform_rows in (lit≤ tt, lit≤ tt) };
+    ghost shallow = { unfold transmission_rows info_rows info_extension_rows texture_transform_rows
+        in (lit≤ tt, lit≤ tt) };
 }
 
 impl InTable for Volume {
     ghost depth = { 2 };
 
-    ghost shallow = { unfold volume_rows info_rows info_extension_rows texture_transform_rows in (lit≤ tt, lit≤ tt) };
+    ghost shallow = { unfold volume_rows info_rows info_extension_rows texture_transform_rows
+        in (lit≤ tt, lit≤ tt) };
 }
 
 impl InTable for Specular {
     ghost depth = { 2 };
 
-    ghost shallow = { unfold specular_rows info_rows info_extension_rows texture_transform_rows in (lit≤ tt, lit≤ tt) };
+    ghost shallow = { unfold specular_rows info_rows info_extension_rows texture_transform_rows
+        in (lit≤ tt, lit≤ tt) };
 }
 
 impl InTable for Unlit {

@@ -25,7 +25,8 @@ impl InTable for Texture {
 impl InTable for Info {
     ghost depth = { 1 };
 
-    ghost shallow = { unfold info_rows info_extension_rows texture_transform_rows in (lit≤ tt, lit≤ tt) };
+    ghost shallow = { unfold info_rows info_extension_rows texture_transform_rows
+        in (lit≤ tt, lit≤ tt) };
 }
 
 impl InTable for TextureTransform {

@@ -8,7 +8,7 @@ use Rattle.gltf_schema.specs.Tree.{absent}
 use Rattle.gltf_visits.specs.Plan.{place, down}
 use Rattle.gltf_visits.specs.Planned.{planned}
 use Rattle.gltf_plans.proofs.Items.{items_same}
-use Rattle.gltf_plans.proofs.animation.AnimationObject.next.Goals as goal
+use Rattle.gltf_plans.proofs.animation.AnimationPlanned.next.Goals as goal
 
 pub returns-in-0-clause-comes : goal.returns-in-0-clause-comes
 unfolding animation_rows animation_sampler_rows animation_members animation_sampler_members

@@ -6,7 +6,7 @@ use Rattle.gltf_paths.specs.Steps.{field}
 use Rattle.gltf_faults.specs.Rules.{accessor_rule}
 use Rattle.gltf_visits.specs.Plan.{down}
 use Rattle.gltf_plans.proofs.Leaves.{found_leaf}
-use Rattle.gltf_plans.proofs.accessor.AccessorObject.next.Goals as goal
+use Rattle.gltf_plans.proofs.accessor.AccessorPlanned.next.Goals as goal
 
 pub returns-in-4-clause-comes : goal.returns-in-4-clause-comes
 unfolding accessor_rows sparse_rows sparse_indices_rows accessor_members

@@ -6,7 +6,7 @@ use Rattle.gltf_paths.specs.Steps.{field}
 use Rattle.gltf_faults.specs.Rules.{light_rule}
 use Rattle.gltf_visits.specs.Plan.{down}
 use Rattle.gltf_plans.proofs.Leaves.{found_leaf}
-use Rattle.gltf_plans.proofs.light.LightObject.next.Goals as goal
+use Rattle.gltf_plans.proofs.light.LightPlanned.next.Goals as goal
 
 pub returns-in-1-clause-comes : goal.returns-in-1-clause-comes
 unfolding light_rows spot_rows light_members

@@ -1,6 +1,6 @@
 //! Roots without reports, and pushes that leave them so.
 
-ghost use Rattle.std.specs.Prelude.{◌≡◌, [], None, Some};
+ghost use Rattle.std.specs.Prelude.{◌≡◌, [], ◌∷◌, ◌++◌, None, Some, IfOk};
 ghost use Rattle.std.specs.List.{last_or};
 ghost use Rattle.gltf_root.specs.RootTrees.{root_tree};
 ghost use Rattle.gltf_root.specs.Undone.{undone};
@@ -76,12 +76,15 @@ impl<'a> Clean<'a> {
     /// items of the root and itself. Extension objects that are missing are made, as `Get::push`
     /// does.
     ///
-    /// `Full` comes before any memory is taken, and `Memory` before the item is looked at. An item
-    /// that has a report is in the list while it is looked at, and is taken out again.
+    /// `Full` comes before any memory is taken, and `Memory` before the item is looked at; `Faulty`
+    /// comes where the item has a report. Such an item is in the list while it is looked at, and is
+    /// taken out again. Each refusal leaves the root as it was.
     pub fn push<T: Item>(&mut self, item: T) -> Result<Index<T>, CleanError<T>>
         ensures rules { rules_held self.new ≡ rules_held self.old }
         ensures pushed { IsPushed (rules_held self.old) T.list item (T.RootItem.tree item)
             (tree_held self.old) result (tree_held self.new) }
+        ensures appended { IfOk result (λ _. T.items (root_held self.new)
+            ≡ T.items (root_held self.old) ++ item ∷ []) }
     {
         push_clean(&self.rules, &mut self.root, item)
     }
@@ -93,8 +96,9 @@ fn push_clean<T: Item>(
     root: &mut Root,
     item: T,
 ) -> Result<Index<T>, CleanError<T>>
-    ensures { IsPushed (rules_of rules.now) T.list item (T.RootItem.tree item)
+    ensures pushed { IsPushed (rules_of rules.now) T.list item (T.RootItem.tree item)
         (root_tree root.old) result (root_tree root.new) }
+    ensures appended { IfOk result (λ _. T.items root.new ≡ T.items root.old ++ item ∷ []) }
 {
     let mark = T::mark_of(root);
     match T::push_onto(root, item) {

@@ -115,7 +115,9 @@ pub struct View {
     pub byte_length: USize64,
     /// The offset into the buffer, in bytes.
     pub byte_offset: Option<USize64>,
-    /// The distance from one element to the next, in bytes.
+    /// The distance from one element to the next, in bytes; without it elements lie one behind
+    /// another. A 0 that is written doesn't mean that: it is reported, as is all below 4 and above
+    /// 252.
     pub byte_stride: Option<Stride>,
     /// What the data is bound to.
     pub target: Option<Checked<Target>>,

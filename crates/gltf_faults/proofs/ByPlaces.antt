@@ -1,5 +1,6 @@
 -- The reports of a tree are the faults of its places.
-use Rattle.std.proofs.Common.{◌≡◌, ℕ, suc, Bool, List, [], ◌∷◌, ◌++◌, refl, sym, ◌∙◌, ap, append_assoc}
+use Rattle.std.proofs.Common.{◌≡◌, ℕ, suc, Bool, List, [], ◌∷◌, ◌++◌, refl, sym, ◌∙◌}
+use Rattle.std.proofs.lemmas.Grind.{flat_map-append}
 use Rattle.std.proofs.lemmas.List.{append-nil}
 use Rattle.std.specs.List.{flat_map}
 use Rattle.gltf_checked.specs.Keys.{Key, key_text}
@@ -8,7 +9,7 @@ use Rattle.gltf_paths.specs.Lists.{ListName}
 use Rattle.gltf_paths.specs.Steps.{Step, field, item, key}
 use Rattle.gltf_schema.specs.Tree as tree
 use Rattle.gltf_schema.specs.Tree.{Tree, absent, Trees, end, with_tree, items_in, members_in, entries_in}
-use Rattle.gltf_schema.specs.Kind.{Kind, IndexInto, SourceImage, ChannelSampler, U32, U64, Stride, Number, Numbers, Text, Truth, Any, Choice, Attributes, ListOf, Object, ObjectName, Rows, no_rows, row}
+use Rattle.gltf_schema.specs.Kind.{Kind, IndexInto, Attributes, ListOf, Object, ObjectName, Rows, no_rows, row}
 use Rattle.gltf_root.specs.Lists.{count_in}
 use Rattle.gltf_sinks.specs.Report.{From}
 use Rattle.gltf_faults.specs.Context.{Rules, Context, under}
@@ -18,38 +19,16 @@ use Rattle.gltf_faults.specs.Reports.{animation_below, reports, member_reports, 
 use Rattle.gltf_faults.specs.Places.{Place, place_of, object_place, key_kind, key_tree, entry_places, item_places, places, member_places, kind_faults, faults, reports_by_places}
 use Rattle.gltf_faults.proofs.Joining.{joined}
 
-over-append : {A B : Type 0} (f : A → List B) (xs ys : List A) → flat_map f (xs ++ ys) ≡ flat_map f xs ++ flat_map f ys
-over-append f [] ys = refl
-over-append f (x ∷ xs) ys = ap (λ zs. f x ++ zs) (over-append f xs ys) ∙ sym (append_assoc (f x) (flat_map f xs) (flat_map f ys))
-
 -- a leaf has one place, or none where nothing is wrong
 leaf : (kind : Kind) (t : Tree) (context : Context) (animation : Tree) (base : List Step) → kind_faults kind absent context animation base ≡ []
     → flat_map (faults context) (place_of kind t animation base) ≡ kind_faults kind t context animation base
 leaf kind absent context animation base none = sym none
-leaf kind (tree.whole n) context animation base none = append-nil _
-leaf kind (tree.number x) context animation base none = append-nil _
-leaf kind (tree.numbers xs) context animation base none = append-nil _
-leaf kind (tree.text s) context animation base none = append-nil _
-leaf kind (tree.truth b) context animation base none = append-nil _
-leaf kind (tree.any d) context animation base none = append-nil _
-leaf kind (tree.chosen s) context animation base none = append-nil _
-leaf kind tree.invalid context animation base none = append-nil _
-leaf kind (tree.index n) context animation base none = append-nil _
-leaf kind (tree.list ts) context animation base none = append-nil _
-leaf kind (tree.attributes es) context animation base none = append-nil _
-leaf kind (tree.object ts others) context animation base none = append-nil _
+leaf kind t context animation base none = append-nil _
 
 -- a key is told as a choice is
 key_told : (k : Key) (base : List Step) → choice_faults (key_tree k) base ≡ key_faults k base
-key_told (keys.extras name) base = refl
-key_told keys.positions base = refl
-key_told keys.normals base = refl
-key_told keys.tangents base = refl
-key_told (keys.colors set) base = refl
-key_told (keys.tex_coords set) base = refl
-key_told (keys.joints set) base = refl
-key_told (keys.weights set) base = refl
 key_told keys.unknown base = refl
+key_told k base = refl
 
 entries_by_places : (named : ListName) (es : List (Key × ℕ)) (context : Context) (animation : Tree) (base : List Step)
     → flat_map (faults context) (entry_places named es animation base) ≡ entries_faults (count_in named context.root) es base
@@ -58,9 +37,9 @@ entries_by_places named (e ∷ es) context animation base =
     let at = base ++ key (key_text e.0) ∷ [] in
     let first = place_of key_kind (key_tree e.0) animation at in
     let second = place_of (IndexInto named) (tree.index e.1) animation at in
-    over-append (faults context) (first ++ second) (entry_places named es animation base)
+    flat_map-append (faults context) (first ++ second) (entry_places named es animation base)
     ∙ joined
-    (over-append (faults context) first second
+    (flat_map-append (faults context) first second
     ∙ joined (leaf key_kind (key_tree e.0) context animation at refl ∙ key_told e.0 at) (leaf (IndexInto named) (tree.index e.1) context animation at refl))
     (entries_by_places named es context animation base)
 
@@ -68,51 +47,29 @@ items_by_places : (context : Context) (f : Tree → List Step → List Place) (g
     → (i : ℕ) (ts : Trees) (base : List Step) → flat_map (faults context) (item_places f i ts base) ≡ items_reports g i ts base
 items_by_places context f g each i end base = refl
 items_by_places context f g each i (with_tree t ts) base =
-    over-append (faults context) (f t (base ++ item i ∷ [])) (item_places f (suc i) ts base)
+    flat_map-append (faults context) (f t (base ++ item i ∷ [])) (item_places f (suc i) ts base)
     ∙ joined (each t (base ++ item i ∷ [])) (items_by_places context f g each (suc i) ts base)
 
 own_place : (named : ObjectName) (rows : Rows) (keeps : Bool) (t : Tree) (context : Context) (animation : Tree) (base : List Step)
     → flat_map (faults context) (object_place (Object named rows keeps) t animation base) ≡ object_faults t named context base
-own_place named rows keeps absent context animation base = refl
-own_place named rows keeps (tree.whole n) context animation base = refl
-own_place named rows keeps (tree.number x) context animation base = refl
-own_place named rows keeps (tree.numbers xs) context animation base = refl
-own_place named rows keeps (tree.text s) context animation base = refl
-own_place named rows keeps (tree.truth b) context animation base = refl
-own_place named rows keeps (tree.any d) context animation base = refl
-own_place named rows keeps (tree.chosen s) context animation base = refl
-own_place named rows keeps tree.invalid context animation base = refl
-own_place named rows keeps (tree.index n) context animation base = refl
-own_place named rows keeps (tree.list ts) context animation base = refl
-own_place named rows keeps (tree.attributes es) context animation base = refl
 own_place named rows keeps (tree.object ts others) context animation base = append-nil _
+own_place named rows keeps t context animation base = refl
 
 mutual
   by_places : (kind : Kind) (t : Tree) (context : Context) (animation : Tree) (base : List Step) → flat_map (faults context) (places kind t animation base) ≡ reports kind t context animation base
-  by_places (IndexInto named) t context animation base = leaf (IndexInto named) t context animation base refl
-  by_places SourceImage t context animation base = leaf SourceImage t context animation base refl
-  by_places ChannelSampler t context animation base = leaf ChannelSampler t context animation base refl
-  by_places U32 t context animation base = leaf U32 t context animation base refl
-  by_places U64 t context animation base = leaf U64 t context animation base refl
-  by_places Stride t context animation base = leaf Stride t context animation base refl
-  by_places Number t context animation base = leaf Number t context animation base refl
-  by_places (Numbers n) t context animation base = leaf (Numbers n) t context animation base refl
-  by_places Text t context animation base = leaf Text t context animation base refl
-  by_places Truth t context animation base = leaf Truth t context animation base refl
-  by_places Any t context animation base = leaf Any t context animation base refl
-  by_places (Choice form listed) t context animation base = leaf (Choice form listed) t context animation base refl
   by_places (Attributes named) t context animation base = entries_by_places named (entries_in t) context animation base
   by_places (ListOf kind) t context animation base =
       items_by_places context (λ x. places kind x animation) (λ x. reports kind x context animation) (λ x at. by_places kind x context animation at) 0 (items_in t) base
   by_places (Object named rows keeps) t context animation base =
-      over-append (faults context) (member_places (members_in t) rows (animation_below named t animation) base) (object_place (Object named rows keeps) t animation base)
+      flat_map-append (faults context) (member_places (members_in t) rows (animation_below named t animation) base) (object_place (Object named rows keeps) t animation base)
       ∙ joined (members_by_places (members_in t) rows context (animation_below named t animation) base) (own_place named rows keeps t context animation base)
+  by_places kind t context animation base = leaf kind t context animation base refl
 
   members_by_places : (ts : Trees) (rows : Rows) (context : Context) (animation : Tree) (base : List Step) → flat_map (faults context) (member_places ts rows animation base) ≡ member_reports ts rows context animation base
   members_by_places end rows context animation base = refl
   members_by_places (with_tree t ts) no_rows context animation base = refl
   members_by_places (with_tree t ts) (row n mark kind rows) context animation base =
-      over-append (faults context) (places kind t animation (base ++ field n ∷ [])) (member_places ts rows animation base)
+      flat_map-append (faults context) (places kind t animation (base ++ field n ∷ [])) (member_places ts rows animation base)
       ∙ joined (by_places kind t context animation (base ++ field n ∷ [])) (members_by_places ts rows context animation base)
 
 -- the law, for a value by itself

@@ -7,8 +7,8 @@ use Rattle.gltf_paths.specs.Lists.{ListName}
 use Rattle.gltf_paths.specs.Steps.{Step, field, item, key}
 use Rattle.gltf_paths.specs.declared.validation.Error.TheVariants.{IndexOutOfBounds, Missing}
 use Rattle.gltf_schema.specs.Tree as tree
-use Rattle.gltf_schema.specs.Tree.{Tree, absent, Trees, end, with_tree, items_in, members_in, entries_in}
-use Rattle.gltf_schema.specs.Kind.{Kind, IndexInto, SourceImage, ChannelSampler, U32, U64, Stride, Number, Numbers, Text, Truth, Any, Choice, Attributes, ListOf, Object, Rows, no_rows, row}
+use Rattle.gltf_schema.specs.Tree.{Tree, Trees, end, with_tree, items_in, members_in, entries_in}
+use Rattle.gltf_schema.specs.Kind.{Kind, IndexInto, SourceImage, ChannelSampler, Choice, Attributes, ListOf, Object, Rows, no_rows, row}
 use Rattle.gltf_textures.specs.TextureTable.{no_image}
 use Rattle.gltf_root.specs.Lists.{count_in, sampler_count}
 use Rattle.gltf_sinks.specs.Report.{From, report}
@@ -17,14 +17,7 @@ use Rattle.gltf_faults.specs.Faults.{report_if, number_faults, index_faults, sou
 use Rattle.gltf_faults.specs.Rules.{object_faults}
 use Rattle.gltf_faults.specs.Reports.{animation_below, reports, member_reports}
 use Rattle.gltf_faults.specs.Closed.{NamesItem, NamesImage, IsListed, IsKnown, EntriesClosed, EachTree, IsClosed, MembersClosed}
-
-pub first_none : {A : Type 0} (xs ys : List A) → xs ++ ys ≡ [] → xs ≡ []
-first_none [] ys h = refl
-first_none (x ∷ xs) ys h = absurd cc
-
-pub second_none : {A : Type 0} (xs ys : List A) → xs ++ ys ≡ [] → ys ≡ []
-second_none [] ys h = h
-second_none (x ∷ xs) ys h = absurd cc
+use Rattle.gltf_faults.proofs.Joining.{first_none, second_none}
 
 below_at : (b : Bool) (n count : ℕ) (base : List Step) → nat_lt n count ≡ b → cond (not b) (report base IndexOutOfBounds ∷ []) [] ≡ [] → n < count
 below_at true n count base is h = ltb-true n count is
@@ -34,19 +27,8 @@ below : (count n : ℕ) (base : List Step) → number_faults count n base ≡ []
 below count n base h = below_at _ n count base refl h
 
 index_named : (count : ℕ) (t : Tree) (base : List Step) → index_faults count t base ≡ [] → NamesItem count t
-index_named count absent base h = tt
-index_named count (tree.whole n) base h = tt
-index_named count (tree.number x) base h = tt
-index_named count (tree.numbers xs) base h = tt
-index_named count (tree.text s) base h = tt
-index_named count (tree.truth b) base h = tt
-index_named count (tree.any d) base h = tt
-index_named count (tree.chosen s) base h = tt
-index_named count tree.invalid base h = tt
 index_named count (tree.index n) base h = below count n base h
-index_named count (tree.list ts) base h = tt
-index_named count (tree.attributes es) base h = tt
-index_named count (tree.object ts others) base h = tt
+index_named count t base h = tt
 
 source_at : (may_be_empty is_none : Bool) (count n : ℕ) (base : List Step) → nat_eq n no_image ≡ is_none
     → cond is_none (report_if (not may_be_empty) Missing base) (number_faults count n base) ≡ [] → NamesImage may_be_empty count (tree.index n)
@@ -56,44 +38,15 @@ source_at may_be_empty false count n base is h = inr (below count n base h)
 
 source_named : (may_be_empty : Bool) (count : ℕ) (t : Tree) (base : List Step) → source_faults may_be_empty count t base ≡ [] → NamesImage may_be_empty count t
 source_named may_be_empty count (tree.index n) base h = source_at may_be_empty _ count n base refl h
-source_named may_be_empty count absent base h = inr tt
-source_named may_be_empty count (tree.whole n) base h = inr tt
-source_named may_be_empty count (tree.number x) base h = inr tt
-source_named may_be_empty count (tree.numbers xs) base h = inr tt
-source_named may_be_empty count (tree.text s) base h = inr tt
-source_named may_be_empty count (tree.truth b) base h = inr tt
-source_named may_be_empty count (tree.any d) base h = inr tt
-source_named may_be_empty count (tree.chosen s) base h = inr tt
-source_named may_be_empty count tree.invalid base h = inr tt
-source_named may_be_empty count (tree.list ts) base h = inr tt
-source_named may_be_empty count (tree.attributes es) base h = inr tt
-source_named may_be_empty count (tree.object ts others) base h = inr tt
+source_named may_be_empty count t base h = inr tt
 
 choice_listed : (t : Tree) (base : List Step) → choice_faults t base ≡ [] → IsListed t
-choice_listed absent base h = tt
-choice_listed (tree.whole n) base h = tt
-choice_listed (tree.number x) base h = tt
-choice_listed (tree.numbers xs) base h = tt
-choice_listed (tree.text s) base h = tt
-choice_listed (tree.truth b) base h = tt
-choice_listed (tree.any d) base h = tt
-choice_listed (tree.chosen s) base h = tt
 choice_listed tree.invalid base h = absurd cc
-choice_listed (tree.index n) base h = tt
-choice_listed (tree.list ts) base h = tt
-choice_listed (tree.attributes es) base h = tt
-choice_listed (tree.object ts others) base h = tt
+choice_listed t base h = tt
 
 key_known : (k : Key) (base : List Step) → key_faults k base ≡ [] → IsKnown k
-key_known (keys.extras name) base h = tt
-key_known keys.positions base h = tt
-key_known keys.normals base h = tt
-key_known keys.tangents base h = tt
-key_known (keys.colors set) base h = tt
-key_known (keys.tex_coords set) base h = tt
-key_known (keys.joints set) base h = tt
-key_known (keys.weights set) base h = tt
 key_known keys.unknown base h = absurd cc
+key_known k base h = tt
 
 entries_closed : (count : ℕ) (es : List (Key × ℕ)) (base : List Step) → entries_faults count es base ≡ [] → EntriesClosed count es
 entries_closed count [] base h = tt
@@ -119,14 +72,6 @@ mutual
   clean_is_closed (IndexInto named) t context animation base h = index_named (count_in named context.root) t base h
   clean_is_closed SourceImage t context animation base h = source_named context.rules.empty_texture (count_in ListName.images context.root) t base h
   clean_is_closed ChannelSampler t context animation base h = index_named (sampler_count animation) t base h
-  clean_is_closed U32 t context animation base h = tt
-  clean_is_closed U64 t context animation base h = tt
-  clean_is_closed Stride t context animation base h = tt
-  clean_is_closed Number t context animation base h = tt
-  clean_is_closed (Numbers n) t context animation base h = tt
-  clean_is_closed Text t context animation base h = tt
-  clean_is_closed Truth t context animation base h = tt
-  clean_is_closed Any t context animation base h = tt
   clean_is_closed (Choice form listed) t context animation base h = choice_listed t base h
   clean_is_closed (Attributes named) t context animation base h = entries_closed (count_in named context.root) (entries_in t) base h
   clean_is_closed (ListOf kind) t context animation base h =
@@ -134,6 +79,7 @@ mutual
   clean_is_closed (Object named rows keeps) t context animation base h =
       members_closed (members_in t) rows context (animation_below named t animation) base
       (first_none (member_reports (members_in t) rows context (animation_below named t animation) base) (object_faults t named context base) h)
+  clean_is_closed kind t context animation base h = tt
 
   members_closed : (ts : Trees) (rows : Rows) (context : Context) (animation : Tree) (base : List Step) → member_reports ts rows context animation base ≡ [] → MembersClosed ts rows context animation
   members_closed end rows context animation base h = tt

@@ -89,7 +89,6 @@ pub grown : (named : ListName) (x : Tree) (r : Root) → list_in named (pushed n
 unfolding root_members
 grown ListName.lights x r = lights_extended x r.extensions
 grown ListName.variants x r = variants_extended x r.extensions
-grown ListName.accessors x r = refl
 grown named x r = refl
 
 same_elsewhere : (other named : ListName) (x old new : Tree) → other ≢ named → GrowsAt other named x old new → list_in other new ≡ list_in other old

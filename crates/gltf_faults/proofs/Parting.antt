@@ -19,9 +19,8 @@ use Rattle.gltf_faults.specs.Inserted.{IsInserted}
 use Rattle.gltf_faults.specs.Naming.{Avoids}
 use Rattle.gltf_faults.specs.Reports.{document_reports, reports_by_rules}
 use Rattle.gltf_faults.specs.Standing.{same_step, begin_with, is_below}
-use Rattle.gltf_faults.proofs.CleanIsClosed.{first_none, second_none}
 use Rattle.gltf_faults.proofs.Elsewhere.{StandsElsewhere, root_elsewhere}
-use Rattle.gltf_faults.proofs.Joining.{joined}
+use Rattle.gltf_faults.proofs.Joining.{joined, first_none, second_none}
 use Rattle.gltf_faults.proofs.PushesOnto.{inserted}
 use Rattle.gltf_faults.proofs.Standing.{StandsBelow, reports_below}
 

@@ -26,7 +26,8 @@ use Rattle.gltf_faults.specs.RowNames.{name_at}
 use Rattle.gltf_faults.specs.Rules.{root_rule}
 use Rattle.gltf_faults.proofs.Growing.{with_extension_item, with_extended_item, grows}
 use Rattle.gltf_faults.proofs.Pushes.{reports_same}
-use Rattle.gltf_faults.proofs.CleanIsClosed.{first_none, second_none, clean_is_closed}
+use Rattle.gltf_faults.proofs.CleanIsClosed.{clean_is_closed}
+use Rattle.gltf_faults.proofs.Joining.{first_none, second_none}
 use Rattle.gltf_faults.proofs.ClosedAvoids.{root_listed, closed_avoids}
 use Rattle.gltf_faults.proofs.Inserting.{ahead, list_inserted, kind_at, are_at, member_inserted}
 

@@ -1,5 +1,5 @@
 -- Indexes that name an item, and those that don't.
-use Rattle.std.proofs.Common.{◌≡◌, ℕ, ◌<◌, List, [], ◌∷◌, Some, None, length, slice_get, nat_lt, Bool, true, false, refl, sym, ◌∙◌, ap, map, arith}
+use Rattle.std.proofs.Common.{◌≡◌, ℕ, suc, ◌<◌, List, [], ◌∷◌, Some, None, length, slice_get, nat_lt, Bool, true, false, refl, sym, ◌∙◌, ap, map, arith}
 use Rattle.std.proofs.lemmas.Bool.{ltb-true, lt-ltb}
 use Rattle.std.proofs.lemmas.Option.{slice_get_within, slice_get-get_or}
 use Rattle.gltf_paths.specs.Lists.{ListName}
@@ -8,8 +8,12 @@ use Rattle.gltf_paths.specs.declared.validation.Error.TheVariants.{IndexOutOfBou
 use Rattle.gltf_schema.specs.Tree.{Tree, count_of, trees}
 use Rattle.gltf_faults.specs.Faults.{number_faults}
 use Rattle.gltf_sinks.specs.Report.{found_at}
-use Rattle.gltf_root.specs.ItemTrees.{count_of-trees}
 use Rattle.gltf_root.specs.Lists.{list_in, count_in}
+
+-- a list of trees is as long as the list that it is of
+pub count_of-trees : {X : Type 0} (tree : X → Tree) (xs : List X) → count_of (trees (map tree xs)) ≡ length xs
+count_of-trees tree [] = refl
+count_of-trees tree (x ∷ xs) = ap (λ n. suc n) (count_of-trees tree xs)
 
 -- a list of a document holds as many items as its tree
 pub count_in-items : {X : Type 0} (named : ListName) (root : Tree) (tree : X → Tree) (xs : List X)

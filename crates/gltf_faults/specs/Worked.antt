@@ -103,7 +103,7 @@ in_extension extension steps = field (codes "extensions") ∷ field extension �
 abbrev pub requiring : List ℕ → Data
 requiring name = with_asset (member (codes "extensionsRequired") (one (text name)) no_members)
 
--- a light without a range, an extension object of one variant, and a node with one child
+-- a point light, an extension object of one variant, and a node with one child
 abbrev pub point_light : Data
 point_light = object (member (codes "type") (text (codes "point")) no_members)
 

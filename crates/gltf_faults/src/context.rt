@@ -1,7 +1,7 @@
 //! What values are validated against.
 
 ghost use Rattle.std.specs.Prelude.{◌≡◌};
-ghost use Rattle.gltf_faults.specs.Context.{Context as Mathematical, context_of};
+ghost use Rattle.gltf_faults.specs.Context.{Context as MathematicalContext, context_of};
 
 use crate::rules::Rules;
 use gltf_root::root::Root;
@@ -18,7 +18,7 @@ pub struct Context<'a> {
 /// What has a context. Code that only hands it on, as a walk over an object's members does, asks
 /// for this, and so need not know that a whole document stands in it.
 pub trait Against {
-    ghost context: { Self → Mathematical };
+    ghost context: { Self → MathematicalContext };
 
     /// The document and the rules.
     fn context(&self) -> Context<'_>

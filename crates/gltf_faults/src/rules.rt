@@ -32,7 +32,8 @@ pub const ENABLED_WITH_EMPTY_TEXTURES: &[&str] = &[
     "MSFT_texture_dds",
 ];
 
-/// `ENABLED_WITH_EMPTY_TEXTURES` holds these names, in this order.
+/// `ENABLED_WITH_EMPTY_TEXTURES` holds the names that the table lists as enabled with it, in their
+/// order.
 pub fn constant_is_listed()
     ensures { map (λ name. name.now) ENABLED_WITH_EMPTY_TEXTURES.now ≡ enabled_with_empty_textures }
 {}

@@ -20,6 +20,9 @@ use serde_json::Value;
 use std::alloc::Global;
 use std::test::Fail;
 
+/// Members that no row names.
+const UNKNOWN_MEMBERS: &str = r#"{"EXT_x":{"a":[1,0.5,null]},"zz":null}"#;
+
 /// What a JSON text is read as.
 pub(super) fn read<T: Schema>(alloc: Global, text: &str) -> Result<T, Fail> {
     let value = Value::from_str(alloc, text)?;

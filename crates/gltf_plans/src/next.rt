@@ -3,7 +3,7 @@
 ghost use Rattle.std.specs.Prelude.{◌≡◌};
 ghost use Rattle.gltf_paths.specs.Steps.{field, item as at_number, step_of};
 ghost use Rattle.gltf_schema.specs.Tree.{absent};
-ghost use Rattle.gltf_faults.specs.Context.{Context as Mathematical};
+ghost use Rattle.gltf_faults.specs.Context.{Context as MathematicalContext};
 ghost use Rattle.gltf_visits.specs.Parts.{plan_of};
 ghost use Rattle.gltf_visits.specs.Plan.{Move, down, first, leaf, over};
 ghost use Rattle.gltf_visits.specs.Planned.{planned};
@@ -28,7 +28,7 @@ pub enum Next<'a> {
 /// What an object or a list says of what comes next in it. That is a [`Next`]; code that makes one
 /// by these calls alone need not know the parts of a whole document.
 pub trait Coming<'a>: Sized {
-    ghost moved: { Mathematical → Self → Move };
+    ghost moved: { MathematicalContext → Self → Move };
 
     ghost is_more: { Self → Type 0 };
 

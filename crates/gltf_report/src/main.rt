@@ -4,8 +4,9 @@
 
 ghost use Rattle.std.specs.Prelude.{◌≡◌, ◌≢◌, ◌≤◌};
 ghost use Rattle.std.specs.Process.{exit_status};
-ghost use Rattle.gltf_devices.specs.Device.{IsFresh};
+ghost use Rattle.gltf_devices.specs.Device.{IsFresh, AppendsFront};
 ghost use Rattle.gltf_faults.specs.Context.{standard_rules};
+ghost use Rattle.gltf_lines.specs.Output.{refusal};
 ghost use Rattle.gltf_lines.specs.Run.{IsReadWhole, IsRun};
 
 use gltf_devices::{ByteIn, ByteOut, Watched};
@@ -20,6 +21,9 @@ fn exit_code<R: ByteIn, W: ByteOut>(alloc: Global, reader: &mut R, writer: &mut 
     ensures status { exit_status result ≤ 4 }
     ensures run { IsRun standard_rules (R.left reader.old) (W.taken writer.old) (W.taken writer.new)
         (W.has_failed writer.old) (W.has_failed writer.new) (exit_status result) }
+    ensures not_read { IsFresh (R.seen reader.old) → ¬ (IsReadWhole (R.seen reader.new))
+        → (exit_status result ≡ 4)
+        × AppendsFront (W.taken writer.old) (W.taken writer.new) refusal.text }
     ensures within { IsFresh (R.seen reader.old) → exit_status result ≢ 4
         → IsReadWhole (R.seen reader.new) }
 {

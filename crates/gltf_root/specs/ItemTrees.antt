@@ -1,11 +1,11 @@
 -- That the lists in the extensions of a document stand in its tree where the table lists them, also
 -- where another is put there: what the implementations for lights and variants promise.
-use Rattle.std.proofs.Common.{◌≡◌, List, [], ◌∷◌, true, not, length, suc, map, option_map, Option, Some, None, refl, ap}
+use Rattle.std.proofs.Common.{◌≡◌, List, true, not, map, option_map, Option, Some, None, refl, ap}
 use Rattle.std.specs.declared.alloc.Global.{Global}
 use Rattle.std.specs.declared.vec.Vec.{Vec}
 use Rattle.serde_json.specs.View.{members_view}
 use Rattle.gltf_paths.specs.Lists.{ListName}
-use Rattle.gltf_schema.specs.Tree.{Tree, Trees, absent, is_absent, object, count_of, end, trees, tree_at, tree_or_absent, members_in}
+use Rattle.gltf_schema.specs.Tree.{Tree, Trees, absent, is_absent, object, end, trees, tree_at, tree_or_absent, members_in}
 use Rattle.gltf_schema.specs.Fields.{closed_object}
 use Rattle.gltf_nodes.specs.LightTrees.{light_members, variant_members}
 use Rattle.gltf_nodes.specs.declared.extensions.scene.khr_lights_punctual.Light.{Light}
@@ -19,11 +19,6 @@ use Rattle.gltf_root.specs.declared.root.Root.{Root}
 use Rattle.gltf_root.specs.declared.extensions.root.KhrLightsPunctual.{KhrLightsPunctual}
 use Rattle.gltf_root.specs.declared.extensions.root.KhrMaterialsVariants.{KhrMaterialsVariants}
 use Rattle.gltf_root.specs.declared.extensions.root.Root.{Root as RootExtensions}
-
--- a list of trees is as long as the list that it is of
-pub count_of-trees : {X : Type 0} (tree : X → Tree) (xs : List X) → count_of (trees (map tree xs)) ≡ length xs
-count_of-trees tree [] = refl
-count_of-trees tree (x ∷ xs) = ap (λ n. suc n) (count_of-trees tree xs)
 
 -- ---- where they stand
 

@@ -2,8 +2,7 @@
 use Rattle.std.proofs.Common.{◌≡◌, ◌≢◌, ℕ, Bool, false, nat_eq, length, List, [], ◌∷◌, map, Option, Some, None, option_map, Result, Ok, Err, refl, sym, ap, subst, ◌∙◌, if◌then◌else◌}
 use Rattle.std.proofs.lemmas.Bool.{eq-eqb, ne_eqb}
 use Rattle.std.proofs.lemmas.List.{length-map}
-use Rattle.std.specs.Option.{ok_or}
-use Rattle.std.specs.Result.{MatchResult, result_ok}
+use Rattle.std.specs.Result.{IsErrAnd, MatchResult}
 use Rattle.serde_json.specs.Data.{Num, unsigned, array, Items, no_items, item}
 use Rattle.serde_json.specs.Data as json
 use Rattle.serde_json.specs.Find.{as_number}
@@ -54,10 +53,12 @@ reals_are_numbers : (ds : Items) (xs : List Real) → read_items (read Number) d
 reals_are_numbers ds xs h = numbers_are_items ds ∙ ap (option_map numbers_of) h ∙ ap Some (numbers_of_reals xs)
 
 -- an array of reals is read where they are as many as it has places
-pub array_filled : {W : Type 0} (r : Result (List Real) W) (xs : List Real) (n : ℕ) (w : W) → MatchResult r (λ ys. (ys ≡ xs) × (length xs ≡ n)) (λ v. (v ≡ w) × (length xs ≢ n))
-    → Reads reals_tree (ok_or (result_ok r) errors.Schema) (if nat_eq (length xs) n then Some (reals_tree xs) else None)
-array_filled (Ok ys) xs n w h = rw (h.0, eq-eqb (length xs) n h.1) refl
-array_filled (Err v) xs n w h = rw (ne_eqb (length xs) n h.1) refl
+pub array_filled : {W : Type 0} (Made : W → Error → Type 0) (r : Result (List Real) W) (s : Result (List Real) Error) (xs : List Real) (n : ℕ) (w : W) → ((v : W) (e : Error) → Made v e → e ≡ errors.Schema)
+    → MatchResult r (λ ys. (ys ≡ xs) × (length xs ≡ n)) (λ v. (v ≡ w) × (length xs ≢ n)) → MatchResult r (λ ys. s ≡ Ok ys) (λ v. IsErrAnd s (Made v))
+    → Reads reals_tree s (if nat_eq (length xs) n then Some (reals_tree xs) else None)
+array_filled Made (Ok ys) s xs n w schema h made = rw (made, h.0, eq-eqb (length xs) n h.1) refl
+array_filled Made (Err v) (Ok zs) xs n w schema h made = absurd made
+array_filled Made (Err v) (Err e) xs n w schema h made = rw (schema v e made, ne_eqb (length xs) n h.1) refl
 
 -- so is the array's kind
 pub array_read : (r : Result (List Real) Error) (ds : Items) (xs : List Real) (n : ℕ) → read_items (read Number) ds ≡ Some (trees (map real_tree xs))

@@ -1,7 +1,7 @@
 -- Attributes that were written are read back.
 use Rattle.std.proofs.Common.{◌≡◌, ℕ, ◌^◌, List, [], ◌∷◌, Bool, true, false, cond, nat_lt, nat_cmp, Option, Some, None, refl, sym, ap, ◌∙◌, subst, Ordering, Less, Equal, Greater, true≢false}
 use Rattle.std.specs.Prelude.{⊤}
-use Rattle.std.proofs.lemmas.Bool.{false≢true, ltb-true}
+use Rattle.std.proofs.lemmas.Bool.{false≢true, ltb-true, and_parts}
 use Rattle.std.specs.BTreeMap.{insert_entry}
 use Rattle.std.specs.Cmp.{IsTotalOrder, alike_right, tied_itself, on_total}
 use Rattle.std.specs.Cmp.Lexicographic.{slice_cmp, nat_list_cmp_total}
@@ -12,8 +12,7 @@ use Rattle.gltf_checked.specs.Names.{key_named, IsNamed}
 use Rattle.gltf_checked.proofs.KeyLemmas.{key_named-key_text}
 use Rattle.gltf_schema.specs.Maybe.{◌>>=◌}
 use Rattle.gltf_schema.specs.Read.{read_entries, small_number}
-use Rattle.gltf_schema.specs.Write.{write_entries, are_in_order, is_less, is_named, key_name, small_data}
-use Rattle.gltf_schema.proofs.TakingOut.{first_of_both, second_of_both}
+use Rattle.gltf_schema.specs.Write.{write_entries, are_in_order, is_named, key_name, small_data}
 use Rattle.gltf_schema.proofs.ReadPlain.{bound}
 use Rattle.gltf_schema.proofs.PuttingIn.{same_name}
 
@@ -154,17 +153,17 @@ abbrev inserted_all : List (Key × ℕ) → List (Key × ℕ)
 inserted_all [] = []
 inserted_all (e ∷ es) = insert_entry key_cmp (inserted_all es) e.0 e.1
 
-is_less_from : (o : Ordering) → is_less o ≡ true → o ≡ Less
-is_less_from Less h = refl
-is_less_from Equal h = absurd (false≢true h)
-is_less_from Greater h = absurd (false≢true h)
+is_lt_from : (o : Ordering) → is_lt o ≡ true → o ≡ Less
+is_lt_from Less h = refl
+is_lt_from Equal h = absurd (false≢true h)
+is_lt_from Greater h = absurd (false≢true h)
 
 in_order : (es : List (Key × ℕ)) → are_in_order es ≡ true → inserted_all es ≡ es
 in_order [] h = refl
 in_order (e ∷ []) h = refl
 in_order (e ∷ f ∷ es) h =
-    let less = is_less_from (key_cmp e.0 f.0) (first_of_both _ (are_in_order (f ∷ es)) h) in
-    ap (λ l. insert_entry key_cmp l e.0 e.1) (in_order (f ∷ es) (second_of_both (is_less (key_cmp e.0 f.0)) _ h)) ∙ rw less refl
+    let less = is_lt_from (key_cmp e.0 f.0) (and_parts _ (are_in_order (f ∷ es)) h).0 in
+    ap (λ l. insert_entry key_cmp l e.0 e.1) (in_order (f ∷ es) (and_parts (is_lt (key_cmp e.0 f.0)) _ h).1) ∙ rw less refl
 
 -- the first key is behind those of the members
 abbrev StandBefore : Members → List (Key × ℕ) → Type 0
@@ -174,12 +173,12 @@ StandBefore ms (e ∷ es) = AllBefore e.0 ms
 next_before : (e : Key × ℕ) (es : List (Key × ℕ)) (n : List ℕ) (d : Data) (ms : Members) → are_in_order (e ∷ es) ≡ true → key_named n ≡ e.0 → AllBefore e.0 ms → StandBefore (put n d ms) es
 next_before e [] n d ms ordered named before = tt
 next_before e (f ∷ es) n d ms ordered named before =
-    let less = is_less_from (key_cmp e.0 f.0) (first_of_both _ (are_in_order (f ∷ es)) ordered) in
+    let less = is_lt_from (key_cmp e.0 f.0) (and_parts _ (are_in_order (f ∷ es)) ordered).0 in
     before_put f.0 n d ms (ap (λ k. key_cmp k f.0) named ∙ less) (before_later e.0 f.0 ms less before)
 
 pub tail_in_order : (e : Key × ℕ) (es : List (Key × ℕ)) → are_in_order (e ∷ es) ≡ true → are_in_order es ≡ true
 tail_in_order e [] ordered = refl
-tail_in_order e (f ∷ es) ordered = second_of_both (is_less (key_cmp e.0 f.0)) _ ordered
+tail_in_order e (f ∷ es) ordered = (and_parts (is_lt (key_cmp e.0 f.0)) _ ordered).1
 
 entries_back : (es : List (Key × ℕ)) (old new : Members) → are_in_order es ≡ true → StandBefore old es → write_entries es old ≡ Some new
     → read_entries [] new ≡ read_entries (inserted_all es) old

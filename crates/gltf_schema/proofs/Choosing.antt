@@ -1,21 +1,12 @@
 -- An item of a choice, and the tree of its spelling.
-use Rattle.std.proofs.Common.{◌≡◌, Bool, true, false, ◌||◌, List, [], ◌∷◌, map, refl, ap}
-use Rattle.std.proofs.lemmas.Bool.{eqb-true}
-use Rattle.std.proofs.lemmas.Slice.Eq.{bytes_eq-Decides}
+use Rattle.std.proofs.Common.{◌≡◌, Bool, true, false, cond, ◌||◌, List, [], ◌∷◌, map, refl, ap}
 use Rattle.std.specs.List.{list_any}
-use Rattle.std.proofs.Common.{cond}
-use Rattle.gltf_checked.specs.Spelling.{Spelling, by_number, by_name, is_spelled, item_spelled}
+use Rattle.gltf_checked.specs.Spelling.{Spelling, is_spelled, item_spelled}
 use Rattle.gltf_checked.specs.declared.validation.Checked.TheVariants.{Valid}
+use Rattle.gltf_checked.proofs.ItemLemmas.{same_spelling}
 use Rattle.gltf_schema.specs.Tree.{chosen, invalid}
 use Rattle.gltf_schema.specs.Read.{choice_among}
 use Rattle.gltf_schema.specs.Leaves.{checked_tree}
-
--- spellings that are found the same are the same
-pub same_spelling : (s t : Spelling) → is_spelled s t ≡ true → s ≡ t
-same_spelling (by_number m) (by_number n) h = ap by_number (eqb-true m n h)
-same_spelling (by_number m) (by_name t) h = absurd cc
-same_spelling (by_name s) (by_number n) h = absurd cc
-same_spelling (by_name s) (by_name t) h = ap by_name ((bytes_eq-Decides s t).0 h)
 
 chosen_at : {X : Type 0} (b : Bool) (spell : X → Spelling) (x : X) (xs : List X) (s : Spelling) → is_spelled (spell x) s ≡ b
     → checked_tree spell (item_spelled spell xs s) ≡ choice_among (map spell xs) s

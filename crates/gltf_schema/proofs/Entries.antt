@@ -1,17 +1,18 @@
 -- Entries of attributes, read in turn.
 use Rattle.std.proofs.Common.{◌≡◌, ℕ, List, [], ◌∷◌, map, true, Option, Some, None, option_map, refl, sym, ap, ◌∙◌, subst, Ordering, Less, Equal, Greater}
+use Rattle.std.proofs.lemmas.Bool.{and_from}
 use Rattle.std.specs.BTreeMap.{insert_entry}
 use Rattle.std.specs.List.Sorted.{IsStrictlySortedBy}
-use Rattle.std.specs.Ordering.{match_ordering}
+use Rattle.std.specs.Ordering.{match_ordering, is_lt}
 use Rattle.serde_json.specs.Data.{Data, Members, member}
 use Rattle.gltf_checked.specs.Keys.{Key, key_cmp}
 use Rattle.gltf_checked.specs.Names.{key_named}
 use Rattle.gltf_schema.specs.declared.error.Error.{Error}
 use Rattle.gltf_schema.specs.Tree.{Tree, index}
 use Rattle.gltf_schema.specs.Read.{read_entries, small_number}
-use Rattle.gltf_schema.specs.Write.{are_in_order, is_less}
+use Rattle.gltf_schema.specs.Write.{are_in_order}
 use Rattle.gltf_schema.specs.Outcome.{Refuses}
-use Rattle.gltf_schema.proofs.TakingOut.{refused, both}
+use Rattle.gltf_schema.proofs.TakingOut.{refused}
 use Rattle.gltf_schema.proofs.RowByRow.{refused_then}
 
 -- entries by what their keys and values mean
@@ -39,8 +40,8 @@ unfolding IsStrictlySortedBy
 in_order cmp key value same [] h = refl
 in_order cmp key value same (e ∷ []) h = refl
 in_order cmp key value same (e ∷ f ∷ es) h =
-    both (is_less (key_cmp (key e.0) (key f.0))) (are_in_order (meant key value (f ∷ es)))
-    (ap is_less (sym (same e.0 f.0) ∙ h.0.0))
+    and_from (is_lt (key_cmp (key e.0) (key f.0))) (are_in_order (meant key value (f ∷ es)))
+    (ap is_lt (sym (same e.0 f.0) ∙ h.0.0))
     (in_order cmp key value same (f ∷ es) h.1)
 
 abbrev number_in : Tree → ℕ

@@ -1,11 +1,11 @@
 -- Items, entries and members written in turn.
-use Rattle.std.proofs.lemmas.Bool.{lt-ltb, false≢true}
+use Rattle.std.proofs.lemmas.Bool.{lt-ltb, false≢true, or_left, or_right}
 use Rattle.std.specs.List.{AllZip}
 use Rattle.std.specs.declared.alloc.Global.{Global}
 use Rattle.serde_json.specs.declared.value.Value.{Value}
 use Rattle.std.proofs.Common.{◌≡◌, ℕ, zero, suc, drop, ◌^◌, Bool, true, false, if◌then◌else◌, String, string_bytes, nat_eq, length, List, [], ◌∷◌, ◌++◌, Option, Some, None, option_map, map, refl, ap, ◌∙◌}
 use Rattle.serde_json.specs.Data as json
-use Rattle.serde_json.specs.Data.{Data, Items, Members, put}
+use Rattle.serde_json.specs.Data.{Data, Members, put}
 use Rattle.serde_json.specs.View.{items_of, view, members_view}
 use Rattle.gltf_checked.specs.Keys.{Key, extras, positions, normals, tangents, colors, tex_coords, joints, weights, unknown, key_text}
 use Rattle.gltf_checked.specs.Names.{IsNamed}
@@ -17,7 +17,7 @@ use Rattle.gltf_schema.specs.Invalid.{is_unknown, any_unknown, holds_invalid, an
 use Rattle.gltf_schema.specs.Tree.{Tree, list, end, trees}
 use Rattle.gltf_schema.specs.Kind.{required, unless}
 use Rattle.gltf_schema.specs.Write.{write_items, write_member, write_entries, key_name, small_data}
-use Rattle.gltf_schema.proofs.PuttingIn.{or_left, or_right}
+use Rattle.gltf_schema.proofs.Items.{onto, onto_push, onto_none}
 
 -- what is made of something withheld
 pub withheld_through : {A B : Type 0} (e : Error) (w : Option A) (v : Option B) (b c : Bool)
@@ -43,30 +43,18 @@ withheld e f written b h = withheld_through e written (option_map f written) b b
 pub withheld_anyway : {A B : Type 0} (e : Error) (v : Option A) (written : Option B) (b : Bool) → Withholds e v false → Withholds e written b
 withheld_anyway e v written b h = withheld_through e v written false b (λ g. absurd (false≢true g.1)) h
 
--- what is written, behind what was written before
-abbrev pub behind : List Data → Option Items → Option Items
-behind [] r = r
-behind (d ∷ ds) r = option_map (json.item d) (behind ds r)
+-- no item comes behind
+pub onto_no_items : (ds : List Data) → onto json.item ds (Some json.no_items) ≡ Some (items_of ds)
+onto_no_items [] = refl
+onto_no_items (x ∷ ds) = ap (option_map (json.item x)) (onto_no_items ds)
 
-behind_push : (ds : List Data) (d : Data) (r : Option Items) → behind (ds ++ d ∷ []) r ≡ behind ds (option_map (json.item d) r)
-behind_push [] d r = refl
-behind_push (x ∷ ds) d r = ap (option_map (json.item x)) (behind_push ds d r)
-
-pub behind_end : (ds : List Data) → behind ds (Some json.no_items) ≡ Some (items_of ds)
-behind_end [] = refl
-behind_end (x ∷ ds) = ap (option_map (json.item x)) (behind_end ds)
-
-behind_none : (ds : List Data) → behind ds None ≡ None
-behind_none [] = refl
-behind_none (x ∷ ds) = ap (option_map (json.item x)) (behind_none ds)
-
-pub write_next : (f : Tree → Option Data) (ds : List Data) (d : Data) (t : Tree) (ts : List Tree) → f t ≡ Some d → behind (ds ++ d ∷ []) (write_items f (trees ts)) ≡ behind ds (write_items f (trees (t ∷ ts)))
-write_next f ds d t ts h = behind_push ds d (write_items f (trees ts)) ∙ ap (behind ds) (rw h refl)
+pub write_next : (f : Tree → Option Data) (ds : List Data) (d : Data) (t : Tree) (ts : List Tree) → f t ≡ Some d → onto json.item (ds ++ d ∷ []) (write_items f (trees ts)) ≡ onto json.item ds (write_items f (trees (t ∷ ts)))
+write_next f ds d t ts h = onto_push json.item ds d (write_items f (trees ts)) ∙ ap (onto json.item ds) (rw h refl)
 
 pub write_stops : (e : Error) (f : Tree → Option Data) (ds : List Data) (t : Tree) (ts : List Tree) (b c : Bool) → (b ≡ true → c ≡ true)
-    → Withholds e (f t) b → Withholds e (behind ds (write_items f (trees (t ∷ ts)))) c
+    → Withholds e (f t) b → Withholds e (onto json.item ds (write_items f (trees (t ∷ ts)))) c
 write_stops e f ds t ts b c wider h =
-    withheld_through e (f t) (behind ds (write_items f (trees (t ∷ ts)))) b c (λ g. (ap (behind ds) (rw (g.0) refl) ∙ behind_none ds, wider g.1)) h
+    withheld_through e (f t) (onto json.item ds (write_items f (trees (t ∷ ts)))) b c (λ g. (ap (onto json.item ds) (rw (g.0) refl) ∙ onto_none json.item ds, wider g.1)) h
 
 -- what is invalid in an item behind others is invalid in the list
 pub some_behind : {X : Type 0} (f : X → Tree) (i : ℕ) (xs : List X) → any_holds_invalid (trees (map f (drop i xs))) ≡ true → any_holds_invalid (trees (map f xs)) ≡ true

@@ -1,5 +1,6 @@
 -- What is read is plain.
 use Rattle.std.proofs.Common.{◌≡◌, ℕ, List, [], Bool, true, false, ◌||◌, not, cond, Option, Some, None, option_map, is_some, refl, length, nat_eq, Result, Ok, Err, IfOk}
+use Rattle.std.proofs.lemmas.Bool.{and_from}
 use Rattle.std.specs.List.{list_any}
 use Rattle.serde_json.specs.Data.{Num, Data, null, boolean, number, string, array, object as json_object, Items, no_items, item, Members, no_members, member}
 use Rattle.serde_json.specs.Find.{get_member, as_null, as_bool, as_number, as_str, as_array, as_object}
@@ -14,7 +15,7 @@ use Rattle.gltf_schema.specs.Tree.{Tree, Trees, end, with_tree}
 use Rattle.gltf_schema.specs.Kind.{Mark, required, optional, always, unless, sometimes, or_null, Kind, IndexInto, SourceImage, ChannelSampler, U32, U64, Stride, Number, Numbers, Text, Truth, Any, Choice, Attributes, ListOf, Object, Rows, no_rows, row, has_row}
 use Rattle.gltf_schema.specs.Read.{read, read_rows, read_items, read_member, read_entries, choice_among, spelling_in, small_number, whole_number, all_numbers, others, kept}
 use Rattle.gltf_schema.specs.Plain.{is_of_form, is_plain, are_plain, none_named, are_none, all_trees, is_null, is_null_kept, is_sound, are_sound, has_plain_default}
-use Rattle.gltf_schema.proofs.TakingOut.{sound_row, both}
+use Rattle.gltf_schema.proofs.TakingOut.{sound_row}
 
 -- ---- what an optional step gave
 
@@ -130,7 +131,7 @@ items_plain f p each no_items ts h = let e : end ≡ ts = cc in rw (← e) refl
 items_plain f p each (item d ds) ts h =
     let first = bound (f d) _ ts h in
     let later = mapped (with_tree first.0) (read_items f ds) ts first.2 in
-    rw (← later.2) (both _ _ (each d first.0 first.1) (items_plain f p each ds later.0 later.1))
+    rw (← later.2) (and_from _ _ (each d first.0 first.1) (items_plain f p each ds later.0 later.1))
 
 -- a member that is read is plain, and no null that is kept
 record IsPlainMember (mark : Mark) (kind : Kind) (t : Tree) : Type 0 where
@@ -187,7 +188,7 @@ mutual
   read_plain (Object named rows keeps) d t sound h =
       let ms = bound (as_object d) _ t h in
       let ts = mapped (λ us. tree.object us (kept keeps rows ms.0)) (read_rows rows ms.0) t ms.2 in
-      rw (← ts.2) (both _ _ (both _ _ (rows_plain rows ms.0 ts.0 sound ts.1) (kept_unnamed keeps rows ms.0)) (kept_or_none keeps rows ms.0))
+      rw (← ts.2) (and_from _ _ (and_from _ _ (rows_plain rows ms.0 ts.0 sound ts.1) (kept_unnamed keeps rows ms.0)) (kept_or_none keeps rows ms.0))
 
   rows_plain : (rows : Rows) (ms : Members) (ts : Trees) → are_sound rows ≡ true → read_rows rows ms ≡ Some ts → are_plain rows ts ≡ true
   rows_plain no_rows ms ts sound h = refl
@@ -196,7 +197,7 @@ mutual
       let first = bound (read_member mark (read kind) (get_member n ms)) _ ts h in
       let later = mapped (with_tree first.0) (read_rows rows ms) ts first.2 in
       let member = member_plain mark kind (get_member n ms) first.0 line.default (λ d t e. read_plain kind d t line.inner e) first.1 in
-      rw (← later.2) (both _ _ (both _ _ member.seen member.plain) (rows_plain rows ms later.0 line.rest later.1))
+      rw (← later.2) (and_from _ _ (and_from _ _ member.seen member.plain) (rows_plain rows ms later.0 line.rest later.1))
 
 -- an object that was read is plain
 pub decoded_plain : {X : Type 0} (kind : Kind) (tree : X → Tree) (r : Result X Error) (d : Data) → is_sound kind ≡ true → Reads tree r (read kind d) → IfOk r (λ x. is_plain kind (tree x) ≡ true)

@@ -1,6 +1,7 @@
 -- What was read is refused for writing exactly where something in it is invalid.
 use Rattle.std.proofs.Common.{◌≡◌, ◌↔◌, ℕ, List, [], ◌∷◌, length, Bool, true, false, ◌||◌, ◌&&◌, cond, nat_eq, Option, Some, None, option_map, is_some, refl, sym, ap, ◌∙◌, true≢false}
-use Rattle.std.proofs.lemmas.Bool.{false≢true}
+use Rattle.std.proofs.lemmas.Bool.{false≢true, and_parts, or_parts, or_from, or_right}
+use Rattle.std.proofs.lemmas.Option.{same_Some}
 use Rattle.std.specs.List.{list_any}
 use Rattle.serde_json.specs.Data.{Data, array, object as json_object, Items, no_items, item, Members, no_members, put}
 use Rattle.serde_json.specs.Find.{get_member, as_null, as_bool, as_number, as_str, as_array, as_object}
@@ -14,16 +15,11 @@ use Rattle.gltf_schema.specs.Kind.{Mark, required, optional, always, unless, som
 use Rattle.gltf_schema.specs.Read.{read, read_rows, read_items, read_member, read_entries, all_numbers, spelling_in, choice_among, small_number, whole_number, kept}
 use Rattle.gltf_schema.specs.Write.{write, write_rows, write_items, write_member, write_entries, written, leaves_out, is_default, is_named, key_name, small_data, are_in_order}
 use Rattle.gltf_schema.specs.Invalid.{is_unknown, any_unknown, holds_invalid, any_holds_invalid, has_written_default, has_written_defaults, have_written_defaults}
-use Rattle.gltf_schema.proofs.TakingOut.{first_of_both, second_of_both, neither}
-use Rattle.gltf_schema.proofs.PuttingIn.{or_right}
 use Rattle.gltf_schema.proofs.ReadPlain.{mapped, bound}
-use Rattle.gltf_schema.proofs.ReadBack.{inside, allowed, absent_is}
+use Rattle.gltf_schema.proofs.ReadBack.{allowed, absent_is}
 use Rattle.gltf_schema.proofs.AttributesRead.{small_is, attributes_written}
 
 -- ---- what is written holds nothing invalid
-
-neither_of : (a b : Bool) → a ≡ false → b ≡ false → (a || b) ≡ false
-neither_of a b first second = rw (first, second) refl
 
 named_known : (k : Key) → is_named k ≡ true → is_unknown k ≡ false
 named_known unknown h = absurd (false≢true h)
@@ -35,7 +31,7 @@ entries_known (e ∷ es) old new h =
     let name = bound (key_name e.0) (λ n. small_data e.1 >>= λ d. write_entries es (put n d old)) new h in
     let value = bound (small_data e.1) (λ d. write_entries es (put name.0 d old)) new name.2 in
     let named = allowed (is_named e.0) _ name.0 name.1 in
-    neither_of (is_unknown e.0) _ (named_known e.0 named.0) (entries_known es (put name.0 value.0 old) new value.2)
+    or_from (is_unknown e.0) _ (named_known e.0 named.0) (entries_known es (put name.0 value.0 old) new value.2)
 
 items_valid : (write : Tree → Option Data) → ((t : Tree) (d : Data) → write t ≡ Some d → holds_invalid t ≡ false)
     → (ts : Trees) (ds : Items) → write_items write ts ≡ Some ds → any_holds_invalid ts ≡ false
@@ -43,7 +39,7 @@ items_valid write each end ds h = refl
 items_valid write each (with_tree t ts) ds h =
     let first = bound (write t) (λ d. option_map (item d) (write_items write ts)) ds h in
     let later = mapped (item first.0) (write_items write ts) ds first.2 in
-    neither_of (holds_invalid t) _ (each t first.0 first.1) (items_valid write each ts later.0 later.1)
+    or_from (holds_invalid t) _ (each t first.0 first.1) (items_valid write each ts later.0 later.1)
 
 default_valid : (x t : Tree) → is_default x t ≡ true → holds_invalid t ≡ false
 default_valid (tree.truth true) (tree.truth b) h = refl
@@ -92,7 +88,7 @@ mutual
   rows_valid no_rows end old new h = refl
   rows_valid (row n mark kind rows) (with_tree t ts) old new h =
       let mid = bound (write_member n mark (write kind) t old) (write_rows rows ts) new h in
-      neither_of (holds_invalid t) _ (member_valid _ n mark (write kind) t old mid.0 (λ d g. written_valid kind t d g) refl mid.1) (rows_valid rows ts mid.0 new mid.2)
+      or_from (holds_invalid t) _ (member_valid _ n mark (write kind) t old mid.0 (λ d g. written_valid kind t d g) refl mid.1) (rows_valid rows ts mid.0 new mid.2)
   rows_valid _ _ old new h = absurd cc
 
 -- ---- what was read is written where it holds nothing invalid
@@ -107,11 +103,11 @@ some_bound f (Some x) h each = each x
 
 items_written : (read : Data → Option Tree) (write : Tree → Option Data) → ((d : Data) (t : Tree) → read d ≡ Some t → holds_invalid t ≡ false → is_some (write t) ≡ true)
     → (ds : Items) (ts : Trees) → read_items read ds ≡ Some ts → any_holds_invalid ts ≡ false → is_some (write_items write ts) ≡ true
-items_written read write each no_items ts h valid = rw (← inside end ts h) refl
+items_written read write each no_items ts h valid = rw (← same_Some end ts h) refl
 items_written read write each (item d ds) ts h valid =
     let first = bound (read d) _ ts h in
     let later = mapped (with_tree first.0) (read_items read ds) ts first.2 in
-    let apart = neither (holds_invalid first.0) (any_holds_invalid later.0) (ap any_holds_invalid later.2 ∙ valid) in
+    let apart = or_parts (holds_invalid first.0) (any_holds_invalid later.0) (ap any_holds_invalid later.2 ∙ valid) in
     rw (← later.2) (some_bound (λ e. option_map (item e) (write_items write later.0)) (write first.0) (each d first.0 first.1 apart.0)
     (λ e. some_mapped (item e) (write_items write later.0) (items_written read write each ds later.0 later.1 apart.1)))
 
@@ -126,19 +122,19 @@ done_written mark write t h = or_right (leaves_out mark t) _ h
 -- where null is read as absent
 present_done : (b : Bool) (mark : Mark) (write : Tree → Option Data) (r : Option Tree) (t : Tree) → is_done mark write tree.absent ≡ true → (r ≡ Some t → is_some (write t) ≡ true)
     → cond b (Some tree.absent) r ≡ Some t → is_done mark write t ≡ true
-present_done true mark write r t absent each h = rw (← inside tree.absent t h) absent
+present_done true mark write r t absent each h = rw (← same_Some tree.absent t h) absent
 present_done false mark write r t absent each h = done_written mark write t (each h)
 
 -- a member that was read
 member_done : (mark : Mark) (kind : Kind) (m : Option Data) (t : Tree) → has_written_default mark kind ≡ true → ((d : Data) → read kind d ≡ Some t → is_some (write kind t) ≡ true)
     → read_member mark (read kind) m ≡ Some t → is_done mark (write kind) t ≡ true
 member_done required kind None t default each h = absurd cc
-member_done optional kind None t default each h = rw (← inside tree.absent t h) refl
+member_done optional kind None t default each h = rw (← same_Some tree.absent t h) refl
 member_done optional kind (Some d) t default each h = present_done (is_some (as_null d)) optional (write kind) (read kind d) t refl (each d) h
-member_done (always x) kind None t default each h = rw (← inside x t h) default
-member_done (unless x) kind None t default each h = rw (← inside x t h) (done_written (unless x) (write kind) x default)
-member_done sometimes kind None t default each h = rw (← inside tree.absent t h) refl
-member_done or_null kind None t default each h = rw (← inside tree.absent t h) refl
+member_done (always x) kind None t default each h = rw (← same_Some x t h) default
+member_done (unless x) kind None t default each h = rw (← same_Some x t h) (done_written (unless x) (write kind) x default)
+member_done sometimes kind None t default each h = rw (← same_Some tree.absent t h) refl
+member_done or_null kind None t default each h = rw (← same_Some tree.absent t h) refl
 member_done or_null kind (Some d) t default each h = present_done (is_some (as_null d)) or_null (write kind) (read kind d) t refl (each d) h
 member_done mark kind (Some d) t default each h = done_written mark (write kind) t (each d h)
 
@@ -168,10 +164,10 @@ mutual
       let ds = bound (as_array d) _ t h in
       let xs = bound (all_numbers ds.0) _ t ds.2 in
       let w = allowed (nat_eq (length xs.0) n) _ t xs.2 in
-      rw (← inside (tree.numbers xs.0) t w.1, w.0) refl
+      rw (← same_Some (tree.numbers xs.0) t w.1, w.0) refl
   valid_written Text d t defaults h valid = let s = mapped tree.text (as_str d) t h in rw (← s.2) refl
   valid_written Truth d t defaults h valid = let b = mapped tree.truth (as_bool d) t h in rw (← b.2) refl
-  valid_written Any d t defaults h valid = rw (← inside (tree.any d) t h) refl
+  valid_written Any d t defaults h valid = rw (← same_Some (tree.any d) t h) refl
   valid_written (Choice f listed) d t defaults h valid =
       let s = mapped (choice_among listed) (spelling_in f d) t h in
       rw (← s.2) (choice_written (list_any (λ u. is_spelled u s.0) listed) f listed s.0 (ap holds_invalid s.2 ∙ valid))
@@ -192,15 +188,15 @@ mutual
       (rows_written rows ms.0 ts.0 defaults ts.1 (ap holds_invalid ts.2 ∙ valid) (kept keeps rows ms.0)))
 
   rows_written : (rows : Rows) (ms : Members) (ts : Trees) → have_written_defaults rows ≡ true → read_rows rows ms ≡ Some ts → any_holds_invalid ts ≡ false → (old : Members) → is_some (write_rows rows ts old) ≡ true
-  rows_written no_rows ms ts defaults h valid old = rw (← inside end ts h) refl
+  rows_written no_rows ms ts defaults h valid old = rw (← same_Some end ts h) refl
   rows_written (row n mark kind rows) ms ts defaults h valid old =
       let first = bound (read_member mark (read kind) (get_member n ms)) _ ts h in
       let later = mapped (with_tree first.0) (read_rows rows ms) ts first.2 in
-      let apart = neither (holds_invalid first.0) (any_holds_invalid later.0) (ap any_holds_invalid later.2 ∙ valid) in
-      let two = first_of_both (has_written_default mark kind && has_written_defaults kind) (have_written_defaults rows) defaults in
-      let inner = second_of_both (has_written_default mark kind) (has_written_defaults kind) two in
-      let rest = second_of_both (has_written_default mark kind && has_written_defaults kind) (have_written_defaults rows) defaults in
-      let done = member_done mark kind (get_member n ms) first.0 (first_of_both (has_written_default mark kind) (has_written_defaults kind) two) (λ d g. valid_written kind d first.0 inner g apart.0) first.1 in
+      let apart = or_parts (holds_invalid first.0) (any_holds_invalid later.0) (ap any_holds_invalid later.2 ∙ valid) in
+      let two = (and_parts (has_written_default mark kind && has_written_defaults kind) (have_written_defaults rows) defaults).0 in
+      let inner = (and_parts (has_written_default mark kind) (has_written_defaults kind) two).1 in
+      let rest = (and_parts (has_written_default mark kind && has_written_defaults kind) (have_written_defaults rows) defaults).1 in
+      let done = member_done mark kind (get_member n ms) first.0 (and_parts (has_written_default mark kind) (has_written_defaults kind) two).0 (λ d g. valid_written kind d first.0 inner g apart.0) first.1 in
       rw (← later.2) (some_bound (write_rows rows later.0) (write_member n mark (write kind) first.0 old)
       (done_put (leaves_out mark first.0) n (written mark (write kind) first.0) old done)
       (λ new. rows_written rows ms later.0 rest later.1 apart.1 new))

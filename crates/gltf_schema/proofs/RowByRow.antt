@@ -3,26 +3,19 @@ use Rattle.std.proofs.Common.{◌≡◌, ℕ, List, Option, Some, None, option_m
 use Rattle.serde_json.specs.Data.{Data, Members, no_members}
 use Rattle.serde_json.specs.Find.{get_member}
 use Rattle.gltf_schema.specs.declared.error.Error.{Error}
-use Rattle.gltf_schema.specs.declared.error.Error.TheVariants as errors
 use Rattle.gltf_schema.specs.Outcome.{Reads, Refuses}
 use Rattle.gltf_schema.specs.Maybe.{◌>>=◌}
 use Rattle.gltf_schema.specs.Tree.{Tree, whole, index, Trees, end, with_tree}
 use Rattle.gltf_paths.specs.Lists.{images}
 use Rattle.gltf_schema.specs.Kind.{Mark, required, Kind, IndexInto, SourceImage, ChannelSampler, U32, Rows, no_rows, row}
-use Rattle.gltf_schema.specs.Read.{read, read_member, small_number}
-use Rattle.gltf_schema.specs.Taken.{without, take_member, take_rows, take_all, left}
+use Rattle.gltf_schema.specs.Read.{read, read_member, small_number, left}
+use Rattle.gltf_schema.specs.Taken.{without, take_member, take_rows, take_all}
 use Rattle.gltf_schema.specs.Readings.{MemberFrom, OthersFrom, FinishFrom, ReadsMember, TakesOthers, Finishes}
-use Rattle.gltf_schema.proofs.TakingOut.{refused}
+use Rattle.gltf_schema.proofs.TakingOut.{refused_through, refused}
 
 -- a step that is refused refuses what comes after it
 pub refused_then : {A B : Type 0} (e : Error) (f : A → Option B) (read : Option A) → Refuses e read → Refuses e (read >>= f)
-refused_then (errors.Memory e) f read h = tt
-refused_then errors.Schema f read h = ap (λ o. o >>= f) h
-refused_then errors.Json f read h = h
-refused_then errors.InvalidItem f read h = h
-refused_then errors.Read f read h = h
-refused_then errors.Write f read h = h
-refused_then errors.TooLong f read h = h
+refused_then e f read h = refused_through e read (read >>= f) (ap (λ o. o >>= f)) h
 
 none_taken : (ms : Members) → take_rows no_rows ms ≡ Some (end, ms)
 unfolding take_rows

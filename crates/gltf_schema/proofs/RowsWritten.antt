@@ -1,5 +1,6 @@
 -- Rows written one after another, by a state that goes on or stays failed.
-use Rattle.std.proofs.Common.{◌≡◌, ℕ, Bool, List, String, Option, Some, option_map, Result, Ok, Err, refl, sym, ap, ◌∙◌, subst}
+use Rattle.std.proofs.Common.{◌≡◌, ℕ, Bool, true, false, List, String, Option, Some, option_map, Result, Ok, Err, refl, sym, ap, ◌∙◌, subst}
+use Rattle.std.proofs.lemmas.Bool.{or_left, or_right}
 use Rattle.std.specs.BTreeMap.{BTreeMap}
 use Rattle.std.specs.declared.alloc.Global.{Global}
 use Rattle.serde_json.specs.Data.{object as json_object, Members}
@@ -17,9 +18,8 @@ use Rattle.gltf_schema.specs.Write.{write_rows}
 use Rattle.gltf_schema.specs.Invalid.{holds_invalid, any_holds_invalid}
 use Rattle.gltf_schema.specs.Put.{put_member, put_rows, some_invalid}
 use Rattle.gltf_schema.specs.Readings.{members_or_error}
-use Rattle.gltf_schema.specs.Writings.{BeginsWith, MemberOnto, WritesMember}
+use Rattle.gltf_schema.specs.Writings.{BeginFrom, BeginsWith, MemberOnto, WritesMember}
 use Rattle.gltf_schema.proofs.Putting.{withheld_through, withheld_then, withheld_anyway}
-use Rattle.gltf_schema.proofs.PuttingIn.{or_left, or_right}
 
 none_put : (ms : Members) → put_rows no_rows end ms ≡ Some ms
 unfolding put_rows
@@ -77,8 +77,13 @@ pub write_row : {before mid after : Result Members Error} {n : List ℕ} {mark :
 write_row {before} {mid} {after} {n} {mark} {kind} {rows} {t} {ts} h k =
     record { is = both_onto before mid after n mark kind rows t ts h.is k.is }
 
+-- members that are there as they are serve as a copy of them
+begun : (copied : Bool) (others : Members) (s : Result Members Error) → BeginFrom copied others s → BeginFrom true others s
+begun true others s first = first
+begun false others s first = rw first refl
+
 rows_written : (s s' : Result Members Error) (rows : Rows) (ts : Trees) (others : Members)
-    → BeginsWith others s → RowsOnto s rows ts s' → Writes (λ m. m) s' (put_rows rows ts others) (some_invalid ts)
+    → BeginFrom true others s → RowsOnto s rows ts s' → Writes (λ m. m) s' (put_rows rows ts others) (some_invalid ts)
 rows_written (Ok ms) s' rows ts others first h = let same : ms ≡ others = cc in subst (λ (m : Members). Writes (λ x. x) s' (put_rows rows ts m) (some_invalid ts)) same h
 rows_written (Err e) s' rows ts others first h = subst (λ (r : Result Members Error). Writes (λ x. x) r (put_rows rows ts others) (some_invalid ts)) (sym h) (withheld_anyway e (Some others) _ _ first)
 
@@ -88,10 +93,10 @@ members_written (Ok m) written b h = h
 members_written (Err e) written b h = h
 
 -- each row was written onto the others
-pub all_written : (others : Members) (r : Result (BTreeMap (String Global) Value) Error) {s s' : Result Members Error} {rows : Rows} {ts : Trees}
-    → BeginsWith others s → WritesRows s rows ts s' → members_or_error r ≡ s' → Writes (λ (m : BTreeMap (String Global) Value). members_view m.entries) r (put_rows rows ts others) (some_invalid ts)
-all_written others r {s} {s'} {rows} {ts} first h ended =
-    members_written r _ _ (subst (λ (x : Result Members Error). Writes (λ m. m) x (put_rows rows ts others) (some_invalid ts)) (sym ended) (rows_written s s' rows ts others first h.is))
+pub all_written : (others : Members) (r : Result (BTreeMap (String Global) Value) Error) {s s' : Result Members Error} {rows : Rows} {ts : Trees} {copied : Bool}
+    → BeginsWith copied others s → WritesRows s rows ts s' → members_or_error r ≡ s' → Writes (λ (m : BTreeMap (String Global) Value). members_view m.entries) r (put_rows rows ts others) (some_invalid ts)
+all_written others r {s} {s'} {rows} {ts} {copied} first h ended =
+    members_written r _ _ (subst (λ (x : Result Members Error). Writes (λ m. m) x (put_rows rows ts others) (some_invalid ts)) (sym ended) (rows_written s s' rows ts others (begun copied others s first.is) h.is))
 
 -- members are an object's value
 pub object_written : (members : BTreeMap (String Global) Value) (written : Option Members)

@@ -1,6 +1,6 @@
 -- A member taken out of an object, and rows that take theirs out one after another.
 use Rattle.std.proofs.Common.{◌≡◌, ℕ, List, [], ◌∷◌, Bool, true, false, ◌&&◌, ◌||◌, not, cond, Option, Some, None, option_map, String, Global, string_bytes, bytes_eq, is_eq, nat_cmp, refl, sym, ap, ◌∙◌, true≢false, subst, Ordering, Less, Equal, Greater, Result, Ok, Err}
-use Rattle.std.proofs.lemmas.Bool.{false≢true}
+use Rattle.std.proofs.lemmas.Bool.{and_parts, or_parts, not-true}
 use Rattle.std.specs.Ordering.{match_ordering}
 use Rattle.gltf_schema.specs.declared.error.Error.{Error}
 use Rattle.gltf_schema.specs.declared.error.Error.TheVariants as errors
@@ -18,9 +18,9 @@ use Rattle.serde_json.proofs.Views.{Entry, view-lookup}
 use Rattle.gltf_schema.specs.Tree.{Tree, object, Trees, with_tree}
 use Rattle.gltf_schema.specs.Kind.{Mark, Kind, Rows, no_rows, row, has_row}
 use Rattle.gltf_schema.specs.Maybe.{◌>>=◌}
-use Rattle.gltf_schema.specs.Read.{read, read_member, read_rows, others, kept}
+use Rattle.gltf_schema.specs.Read.{read, read_member, read_rows, others, left, kept}
 use Rattle.gltf_schema.specs.Plain.{are_sound, has_plain_default, is_sound}
-use Rattle.gltf_schema.specs.Taken.{without, left, take_member, take_rows, take_all}
+use Rattle.gltf_schema.specs.Taken.{without, take_member, take_rows, take_all}
 
 abbrev finds : List ℕ → String Global → Bool
 finds name = is_at (λ k. slice_cmp nat_cmp name (string_bytes k))
@@ -32,6 +32,7 @@ gone_at false name e es is h later =
     let apart : bytes_eq name (string_bytes e.0) ≡ false = sym (is_eq-slice_cmp name (string_bytes e.0)) ∙ is in
     rw apart (ap (member (string_bytes e.0) (view e.1)) (later h))
 
+-- taking out a name that no entry has changes nothing
 gone : (name : List ℕ) (es : List Entry) → lookup (finds name) es ≡ None → without name (members_view es) ≡ members_view es
 gone name [] h = refl
 gone name (e ∷ es) h = gone_at _ name e es refl h (gone name es)
@@ -47,20 +48,24 @@ removed_at false name e es is h later =
     let missed : cond (is_eq (slice_cmp nat_cmp name (string_bytes e.0))) (Some e.1) (lookup (finds name) (remove_entry (finds name) es)) ≡ None = h in
     rw apart (ap (member (string_bytes e.0) (view e.1)) (later (rw is at missed)))
 
+-- a map without the name's entry has the members without the name
 pub removed : (name : List ℕ) (es : List Entry) → lookup (finds name) (remove_entry (finds name) es) ≡ None → members_view (remove_entry (finds name) es) ≡ without name (members_view es)
 removed name [] h = refl
 removed name (e ∷ es) h = removed_at _ name e es refl h (removed name es)
 
+-- the value that is found under a name is the member of that name
 pub looked_up : (name : List ℕ) (es : List Entry) (r : Option Value) → r ≡ lookup (finds name) es → option_map view r ≡ get_member name (members_view es)
 looked_up name es r is = ap (option_map view) is ∙ view-lookup name es
 
 -- ---- rows
 
+-- where two names differ, it is the same whichever comes first
 either : (o : Ordering) (a b : Option Data) → is_eq o ≡ false → match_ordering o a b a ≡ a
 either Less a b e = refl
 either Equal a b e = absurd (true≢false e)
 either Greater a b e = refl
 
+-- a member of another name is not the one that is looked for
 pub skips : (q m : List ℕ) (d : Data) (ms : Members) → bytes_eq q m ≡ false → get_member q (member m d ms) ≡ get_member q ms
 skips q m d ms apart = either (slice_cmp nat_cmp q m) _ _ (is_eq-slice_cmp q m ∙ apart)
 
@@ -75,25 +80,6 @@ get_without : (q n : List ℕ) (ms : Members) → bytes_eq q n ≡ false → get
 get_without q n no_members apart = refl
 get_without q n (member m d ms) apart = get_without_at _ q n m d ms refl apart (get_without q n ms apart)
 
-pub neither : (a b : Bool) → (a || b) ≡ false → (a ≡ false) × (b ≡ false)
-neither true b h = absurd (true≢false h)
-neither false b h = (refl, h)
-
-pub first_of_both : (a b : Bool) → (a && b) ≡ true → a ≡ true
-first_of_both true b h = refl
-first_of_both false b h = h
-
-pub second_of_both : (a b : Bool) → (a && b) ≡ true → b ≡ true
-second_of_both true b h = h
-second_of_both false b h = absurd (false≢true h)
-
-pub both : (a b : Bool) → a ≡ true → b ≡ true → (a && b) ≡ true
-both a b first second = rw (first, second) refl
-
-pub not_true : (b : Bool) → not b ≡ true → b ≡ false
-not_true true h = absurd (false≢true h)
-not_true false h = refl
-
 -- what a sound line of the table says
 pub record IsSoundRow (n : List ℕ) (mark : Mark) (kind : Kind) (rows : Rows) : Type 0 where
   pub apart : has_row n rows ≡ false
@@ -101,21 +87,22 @@ pub record IsSoundRow (n : List ℕ) (mark : Mark) (kind : Kind) (rows : Rows) :
   pub inner : is_sound kind ≡ true
   pub rest : are_sound rows ≡ true
 
+-- each line of a sound table says it
 pub sound_row : (n : List ℕ) (mark : Mark) (kind : Kind) (rows : Rows) → are_sound (row n mark kind rows) ≡ true → IsSoundRow n mark kind rows
 sound_row n mark kind rows h =
-    let three = first_of_both _ (are_sound rows) h in
-    let two = first_of_both _ (is_sound kind) three in
+    let three = (and_parts _ (are_sound rows) h).0 in
+    let two = (and_parts _ (is_sound kind) three).0 in
     record {
-      apart = not_true _ (first_of_both _ (has_plain_default mark kind) two);
-      default = second_of_both (not (has_row n rows)) _ two;
-      inner = second_of_both (not (has_row n rows) && has_plain_default mark kind) _ three;
-      rest = second_of_both (not (has_row n rows) && has_plain_default mark kind && is_sound kind) _ h;
+      apart = not-true _ (and_parts _ (has_plain_default mark kind) two).0;
+      default = (and_parts (not (has_row n rows)) _ two).1;
+      inner = (and_parts (not (has_row n rows) && has_plain_default mark kind) _ three).1;
+      rest = (and_parts (not (has_row n rows) && has_plain_default mark kind && is_sound kind) _ h).1;
     }
 
 rows_without : (rows : Rows) (n : List ℕ) (ms : Members) → has_row n rows ≡ false → read_rows rows (without n ms) ≡ read_rows rows ms
 rows_without no_rows n ms h = refl
 rows_without (row m mark kind rows) n ms h =
-    let apart = neither (bytes_eq m n) (has_row n rows) h in
+    let apart = or_parts (bytes_eq m n) (has_row n rows) h in
     rw (get_without m n ms apart.0, rows_without rows n ms apart.1) refl
 
 others_none : (ms : Members) → others no_rows ms ≡ ms
@@ -160,30 +147,31 @@ taken_is_read (row n mark kind rows) ms sound =
     let later = taken_is_read rows (without n ms) line.rest ∙ rw (rows_without rows n ms line.apart, others_without n mark kind rows ms) refl in
     head_read (read_member mark (read kind) (get_member n ms)) n mark kind rows ms later
 
-left_others : (keeps : Bool) (rows : Rows) (ms : Members) → left keeps (others rows ms) ≡ kept keeps rows ms
-left_others true rows ms = refl
-left_others false rows ms = refl
-
 left_kept : (keeps : Bool) (read : Option Trees) (ms : Members) → option_map (λ (r : Trees × Members). (r.0, left keeps r.1)) (option_map (with_kept ms) read) ≡ option_map (with_kept (left keeps ms)) read
 left_kept keeps None ms = refl
 left_kept keeps (Some ts) ms = refl
 
 all_is_read : (rows : Rows) (keeps : Bool) (ms : Members) → are_sound rows ≡ true → take_all rows keeps ms ≡ option_map (with_kept (kept keeps rows ms)) (read_rows rows ms)
 unfolding take_all
-all_is_read rows keeps ms sound = rw (taken_is_read rows ms sound, left_kept keeps (read_rows rows ms) (others rows ms), left_others keeps rows ms) refl
+all_is_read rows keeps ms sound = rw (taken_is_read rows ms sound, left_kept keeps (read_rows rows ms) (others rows ms)) refl
 
 made : (read : Option Trees) (ms : Members) → option_map (λ ts. object ts ms) read ≡ option_map (λ p. object p.0 p.1) (option_map (with_kept ms) read)
 made None ms = refl
 made (Some ts) ms = refl
 
+-- what is made of something refused is refused
+pub refused_through : {A B : Type 0} (e : Error) (r : Option A) (s : Option B) → (r ≡ None → s ≡ None) → Refuses e r → Refuses e s
+refused_through (errors.Memory e) r s through h = tt
+refused_through errors.Schema r s through h = through h
+refused_through errors.Json r s through h = h
+refused_through errors.InvalidItem r s through h = h
+refused_through errors.Read r s through h = h
+refused_through errors.Write r s through h = h
+refused_through errors.TooLong r s through h = h
+
+-- so is what a function makes of it
 pub refused : {A B : Type 0} (e : Error) (f : A → B) (read : Option A) → Refuses e read → Refuses e (option_map f read)
-refused (errors.Memory e) f read h = tt
-refused errors.Schema f read h = ap (option_map f) h
-refused errors.Json f read h = h
-refused errors.InvalidItem f read h = h
-refused errors.Read f read h = h
-refused errors.Write f read h = h
-refused errors.TooLong f read h = h
+refused e f read h = refused_through e read (option_map f read) (ap (option_map f)) h
 
 -- an object is read as its rows are taken
 pub decoded : {X : Type 0} (r : Result X Error) (f : X → Trees) (g : X → Members) (rows : Rows) (keeps : Bool) (ms : Members) → are_sound rows ≡ true

@@ -1,6 +1,6 @@
 -- A tree of a kind is refused for writing exactly where something in it is invalid.
 use Rattle.std.proofs.Common.{◌≡◌, ◌↔◌, Bool, true, false, ◌||◌, ◌&&◌, Option, None, option_map, is_some, refl}
-use Rattle.std.proofs.lemmas.Bool.{false≢true}
+use Rattle.std.proofs.lemmas.Bool.{false≢true, and_parts, or_parts}
 use Rattle.std.specs.List.{list_all}
 use Rattle.serde_json.specs.Data.{Data, array, object as json_object, item, Members, no_members}
 use Rattle.gltf_schema.specs.Tree as tree
@@ -10,7 +10,6 @@ use Rattle.gltf_schema.specs.Write.{write, write_rows, write_items, write_member
 use Rattle.gltf_schema.specs.Plain.{are_none, all_trees}
 use Rattle.gltf_schema.specs.Invalid.{holds_invalid, any_holds_invalid}
 use Rattle.gltf_schema.specs.OfKind.{is_attribute, may_be_absent, is_of_kind, are_of_kinds}
-use Rattle.gltf_schema.proofs.TakingOut.{first_of_both, second_of_both, neither}
 use Rattle.gltf_schema.proofs.ReadBack.{absent_is}
 use Rattle.gltf_schema.proofs.AttributesRead.{entries_written}
 use Rattle.gltf_schema.proofs.RefusedWhereInvalid.{written_valid, some_mapped, some_bound, is_done, done_written, done_put, refused_at, invalid_at}
@@ -21,9 +20,9 @@ all_written : (p : Tree → Bool) (write : Tree → Option Data) → ((t : Tree)
     → (ts : Trees) → all_trees p ts ≡ true → any_holds_invalid ts ≡ false → is_some (write_items write ts) ≡ true
 all_written p write each end all valid = refl
 all_written p write each (with_tree t ts) all valid =
-    let apart = neither (holds_invalid t) (any_holds_invalid ts) valid in
-    some_bound (λ d. option_map (item d) (write_items write ts)) (write t) (each t (first_of_both (p t) (all_trees p ts) all) apart.0)
-    (λ d. some_mapped (item d) (write_items write ts) (all_written p write each ts (second_of_both (p t) (all_trees p ts) all) apart.1))
+    let apart = or_parts (holds_invalid t) (any_holds_invalid ts) valid in
+    some_bound (λ d. option_map (item d) (write_items write ts)) (write t) (each t (and_parts (p t) (all_trees p ts) all).0 apart.0)
+    (λ d. some_mapped (item d) (write_items write ts) (all_written p write each ts (and_parts (p t) (all_trees p ts) all).1 apart.1))
 
 -- a member that is absent
 absent_done : (mark : Mark) (write : Tree → Option Data) (t : Tree) → (may_be_absent mark && is_absent t) ≡ true → is_done mark write t ≡ true
@@ -53,20 +52,20 @@ mutual
   of_kind_written Any (tree.any d) of_kind valid = refl
   of_kind_written (Choice form listed) (tree.chosen s) of_kind valid = refl
   of_kind_written (Attributes named) (tree.attributes es) of_kind valid =
-      rw (first_of_both (are_in_order es) (list_all is_attribute es) of_kind) (some_mapped json_object (write_entries es no_members)
-      (entries_written es no_members (second_of_both (are_in_order es) (list_all is_attribute es) of_kind) valid))
+      rw (and_parts (are_in_order es) (list_all is_attribute es) of_kind).0 (some_mapped json_object (write_entries es no_members)
+      (entries_written es no_members (and_parts (are_in_order es) (list_all is_attribute es) of_kind).1 valid))
   of_kind_written (ListOf kind) (tree.list ts) of_kind valid =
       some_mapped array (write_items (write kind) ts) (all_written (is_of_kind kind) (write kind) (λ t all fine. of_kind_written kind t all fine) ts of_kind valid)
   of_kind_written (Object named rows keeps) (tree.object ts others) of_kind valid =
-      some_mapped json_object (write_rows rows ts others) (of_kinds_written rows ts (first_of_both (are_of_kinds rows ts) (keeps || are_none others) of_kind) valid others)
+      some_mapped json_object (write_rows rows ts others) (of_kinds_written rows ts (and_parts (are_of_kinds rows ts) (keeps || are_none others) of_kind).0 valid others)
   of_kind_written _ _ of_kind valid = absurd cc
 
   of_kinds_written : (rows : Rows) (ts : Trees) → are_of_kinds rows ts ≡ true → any_holds_invalid ts ≡ false → (old : Members) → is_some (write_rows rows ts old) ≡ true
   of_kinds_written no_rows end of_kind valid old = refl
   of_kinds_written (row n mark kind rows) (with_tree t ts) of_kind valid old =
-      let apart = neither (holds_invalid t) (any_holds_invalid ts) valid in
-      let first = first_of_both (may_be_absent mark && is_absent t || is_of_kind kind t) (are_of_kinds rows ts) of_kind in
-      let rest = second_of_both (may_be_absent mark && is_absent t || is_of_kind kind t) (are_of_kinds rows ts) of_kind in
+      let apart = or_parts (holds_invalid t) (any_holds_invalid ts) valid in
+      let first = (and_parts (may_be_absent mark && is_absent t || is_of_kind kind t) (are_of_kinds rows ts) of_kind).0 in
+      let rest = (and_parts (may_be_absent mark && is_absent t || is_of_kind kind t) (are_of_kinds rows ts) of_kind).1 in
       let done = either_done _ (is_of_kind kind t) mark (write kind) t refl first (λ one. of_kind_written kind t one apart.0) in
       some_bound (write_rows rows ts) (write_member n mark (write kind) t old)
       (done_put (leaves_out mark t) n (written mark (write kind) t) old done)

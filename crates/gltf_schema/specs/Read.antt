@@ -1,5 +1,5 @@
 -- Which JSON each kind reads, and as which tree.
-use Rattle.std.specs.Prelude.{ℕ, ◌^◌, ◌==◌, List, [], ◌∷◌, length, Bool, true, false, is_some, nat_lt, Option, Some, None, option_map, option_and_then, if◌then◌else◌}
+use Rattle.std.specs.Prelude.{ℕ, ◌^◌, ◌==◌, List, [], ◌∷◌, length, Bool, true, false, is_some, nat_lt, Option, Some, None, option_map, if◌then◌else◌}
 use Rattle.std.specs.List.{list_any}
 use Rattle.std.specs.BTreeMap.{insert_entry}
 use Rattle.serde_json.specs.Data.{Num, Data, Items, no_items, item, Members, no_members, member}
@@ -14,7 +14,7 @@ use Rattle.gltf_schema.specs.Tree.{Tree, absent, whole, number, numbers, text, t
 use Rattle.gltf_schema.specs.Kind.{Mark, required, optional, always, unless, sometimes, or_null, Kind, IndexInto, SourceImage, ChannelSampler, U32, U64, Stride, Number, Numbers, Text, Truth, Any, Choice, Attributes, ListOf, Object, Rows, no_rows, row, has_row}
 
 abbrev pub whole_number : Data → Option ℕ
-whole_number d = option_and_then as_u64 (as_number d)
+whole_number d = as_number d >>= as_u64
 
 -- a whole number of 32 bits
 abbrev pub small_number : Data → Option ℕ
@@ -57,9 +57,13 @@ abbrev pub others : Rows → Members → Members
 others rows no_members = no_members
 others rows (member n d ms) = if has_row n rows then others rows ms else member n d (others rows ms)
 
+-- the members left are an object's others, or are dropped
+abbrev pub left : Bool → Members → Members
+left true ms = ms
+left false ms = no_members
+
 abbrev pub kept : Bool → Rows → Members → Members
-kept true rows ms = others rows ms
-kept false rows ms = no_members
+kept keeps rows ms = left keeps (others rows ms)
 
 -- the entries, and then those of the members, whose names stand in byte order: a key has the index of its last name
 abbrev pub read_entries : List (Key × ℕ) → Members → Option (List (Key × ℕ))

@@ -1,4 +1,5 @@
 -- What each method of Reading gives: the members that are left, or the error that was met.
+-- Each definition stays folded in a record, so that an object's chain of rows isn't computed.
 use Rattle.std.specs.Prelude.{◌≡◌, ℕ, List, String, Result, Ok, Err}
 use Rattle.serde_json.specs.Data.{Members, no_members}
 use Rattle.serde_json.specs.View.{members_view}

@@ -1,7 +1,6 @@
 -- The JSON that each tree is written as: none where an item or a key is invalid, and none where the tree is no value's.
 use Rattle.std.specs.Prelude.{ℕ, ◌^◌, ◌==◌, nat_lt, length, List, [], ◌∷◌, Bool, true, false, not, ◌&&◌, Option, Some, None, option_map, if◌then◌else◌}
-use Rattle.std.specs.declared.cmp.Ordering.{Ordering}
-use Rattle.std.specs.declared.cmp.Ordering.TheVariants.{Less}
+use Rattle.std.specs.Ordering.{is_lt}
 use Rattle.serde_json.specs.Data as json
 use Rattle.serde_json.specs.Data.{Num, unsigned, Data, Items, Members, no_members, put}
 use Rattle.gltf_checked.specs.Keys.{Key, colors, tex_coords, joints, weights, unknown, key_text, key_cmp}
@@ -40,15 +39,11 @@ abbrev pub write_entries : List (Key × ℕ) → Members → Option Members
 write_entries [] ms = Some ms
 write_entries (e ∷ es) ms = key_name e.0 >>= λ n. small_data e.1 >>= λ d. write_entries es (put n d ms)
 
-abbrev pub is_less : Ordering → Bool
-is_less Less = true
-is_less _ = false
-
 -- the keys stand in their order, each once, as a map holds them
 abbrev pub are_in_order : List (Key × ℕ) → Bool
 are_in_order [] = true
 are_in_order (e ∷ []) = true
-are_in_order (e ∷ f ∷ es) = is_less (key_cmp e.0 f.0) && are_in_order (f ∷ es)
+are_in_order (e ∷ f ∷ es) = is_lt (key_cmp e.0 f.0) && are_in_order (f ∷ es)
 
 -- each item, in order
 abbrev pub write_items : (Tree → Option Data) → Trees → Option Items

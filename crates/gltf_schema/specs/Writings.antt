@@ -1,5 +1,6 @@
 -- What each method of Writing gives: the members that are written so far, or the error that was met.
-use Rattle.std.specs.Prelude.{◌≡◌, ℕ, List, false, Some, Result, Ok, Err}
+-- Each definition stays folded in a record, so that an object's chain of rows isn't computed.
+use Rattle.std.specs.Prelude.{◌≡◌, ℕ, List, Bool, true, false, Some, Result, Ok, Err}
 use Rattle.serde_json.specs.Data.{Members}
 use Rattle.gltf_schema.specs.declared.error.Error.{Error}
 use Rattle.gltf_schema.specs.declared.writing.Writing.{Writing}
@@ -14,9 +15,14 @@ use Rattle.gltf_schema.specs.Kind.{Mark, Kind}
 abbrev pub writing_state : Writing → Result Members Error
 writing_state w = members_or_error w.state
 
--- the members that were there at first
-abbrev pub BeginsWith : Members → Result Members Error → Type 0
-BeginsWith ms state = Writes (λ m. m) state (Some ms) false
+-- the members that were there at first; a copy of them may want memory
+abbrev pub BeginFrom : Bool → Members → Result Members Error → Type 0
+BeginFrom true ms state = Writes (λ m. m) state (Some ms) false
+BeginFrom false ms state = state ≡ Ok ms
+
+-- writing begins with the members, copied or as they are
+pub record BeginsWith (copied : Bool) (ms : Members) (state : Result Members Error) : Type 0 where
+  pub is : BeginFrom copied ms state
 
 -- the members with a row's; what failed before stays
 abbrev pub MemberOnto : Result Members Error → List ℕ → Mark → Kind → Tree → Result Members Error → Type 0

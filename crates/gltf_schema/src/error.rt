@@ -20,7 +20,8 @@ pub enum Error {
     Write,
     /// A growth was refused.
     Memory(AllocError),
-    /// The reader gave more bytes, or took more calls, than the limits allow.
+    /// The reader gave more bytes than the limits allow, or not its end in the calls that they
+    /// allow.
     TooLong,
 }
 

@@ -95,7 +95,7 @@ impl<const N: usize> Schema for [Real; N] {
             return Err(Error::Schema);
         };
         let found: Vec<Real> = decode_items(alloc, items)?;
-        <[Real; N]>::try_from(found).ok().ok_or(Error::Schema)
+        <[Real; N]>::try_from(found).map_err(|_| Error::Schema)
     }
 
     fn encode(&self, alloc: Global) -> Result<Value, Error> {
@@ -167,14 +167,14 @@ impl<T: Choice> Schema for Checked<T> {
 
     fn decode(_alloc: Global, value: Value) -> Result<Checked<T>, Error> {
         match T::form() {
-            Form::Number => match value.as_u64() {
-                Some(n) => Ok(item_of(Spelling::Number(n))),
-                None => Err(Error::Schema),
-            },
-            Form::Name => match value.as_str() {
-                Some(name) => Ok(item_of(Spelling::Name(name))),
-                None => Err(Error::Schema),
-            },
+            Form::Number => {
+                let n = value.as_u64().ok_or(Error::Schema)?;
+                Ok(item_of(Spelling::Number(n)))
+            }
+            Form::Name => {
+                let name = value.as_str().ok_or(Error::Schema)?;
+                Ok(item_of(Spelling::Name(name)))
+            }
         }
     }
 

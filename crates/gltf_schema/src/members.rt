@@ -1,11 +1,11 @@
 //! A row's member taken out of an object and read, by the row's mark. Its value moves; nothing is
 //! cloned.
 
-ghost use Rattle.std.specs.Prelude.{◌≡◌, option_map, map};
+ghost use Rattle.std.specs.Prelude.{◌≡◌, option_map};
 ghost use Rattle.serde_json.specs.Find.{get_member};
 ghost use Rattle.serde_json.specs.View.{view, members_view};
-ghost use Rattle.gltf_schema.specs.Tree.{tree_or_absent, trees, list as list_tree, end};
-ghost use Rattle.gltf_schema.specs.Kind.{required as is_required, optional as is_optional, always, unless, sometimes as is_sometimes, or_null, ListOf};
+ghost use Rattle.gltf_schema.specs.Tree.{tree_or_absent};
+ghost use Rattle.gltf_schema.specs.Kind.{required as is_required, optional as is_optional, always, unless, sometimes as is_sometimes, or_null};
 ghost use Rattle.gltf_schema.specs.Taken.{take_member, without};
 ghost use Rattle.gltf_schema.specs.Outcome.{Reads};
 
@@ -15,7 +15,7 @@ use serde_json::{Map, Value};
 use std::alloc::Global;
 
 /// Takes a member out.
-pub(crate) fn take(members: &mut Map<String, Value>, name: &str) -> Option<Value>
+fn take(members: &mut Map<String, Value>, name: &str) -> Option<Value>
     ensures taken { option_map view result
         ≡ get_member name.now (members_view members.old.entries) }
     ensures left { members_view members.new.entries
@@ -96,23 +96,5 @@ pub(crate) fn or_default<T: Schema>(
     match take(members, name) {
         Some(value) => T::decode(alloc, value),
         None => Ok(default),
-    }
-}
-
-/// A list that is empty where its member is missing.
-#[tactic(auto, unfolding(crate::specs::Taken::take_member))]
-pub(crate) fn list<T: Schema>(
-    alloc: Global,
-    members: &mut Map<String, Value>,
-    name: &str,
-) -> Result<Vec<T>, Error>
-    ensures { Reads
-        (λ x. (list_tree (trees (map T.tree x.items)), members_view members.new.entries)) result
-        (take_member name.now (unless (list_tree end)) (ListOf T.kind)
-        (members_view members.old.entries)) }
-{
-    match take(members, name) {
-        Some(value) => Schema::decode(alloc, value),
-        None => Ok(Vec::new(alloc)),
     }
 }

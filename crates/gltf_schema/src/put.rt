@@ -1,6 +1,6 @@
 //! A row's member written and put into an object, by the row's mark.
 
-ghost use Rattle.std.specs.Prelude.{◌≡◌, map};
+ghost use Rattle.std.specs.Prelude.{map};
 ghost use Rattle.serde_json.specs.View.{members_view};
 ghost use Rattle.gltf_schema.specs.Tree.{Tree, tree_or_absent, trees, list as list_tree, end};
 ghost use Rattle.gltf_schema.specs.Kind.{required as is_required, optional as is_optional, always as is_always, unless as is_unless, sometimes as is_sometimes, or_null as is_or_null, ListOf};

@@ -8,7 +8,7 @@ ghost use Rattle.gltf_schema.specs.Readings.{reading_state, ReadsMember, TakesOt
 
 use crate::blank::Blank;
 use crate::error::Error;
-use crate::members::{list, optional, or_default, required, sometimes};
+use crate::members::{optional, or_default, required, sometimes};
 use crate::schema::Schema;
 use serde_json::{Map, Value};
 use std::alloc::Global;
@@ -66,10 +66,7 @@ impl Reading {
     pub fn finish<T: Drop>(self, object: T) -> Result<T, Error>
         ensures { Finishes (reading_state self) object result }
     {
-        match self.state {
-            Ok(_) => Ok(object),
-            Err(e) => Err(e),
-        }
+        self.state.map(|_| object)
     }
 
     /// A member that has to be there.
@@ -103,7 +100,8 @@ impl Reading {
         ensures { ReadsMember (reading_state self.old) name.now (unless (list_tree end))
             (ListOf T.kind) (list_tree (trees (map T.tree result.items))) (reading_state self.new) }
     {
-        read_on!(self, list(name), Vec::new(self.alloc))
+        let empty: Vec<T> = Vec::new(self.alloc);
+        self.or_default(name, empty)
     }
 
     /// A member that is the default where it is missing, whether or not it is written then.

@@ -60,7 +60,7 @@ pub trait Object: Drop {
             (take_all rows keeps (members_view found.entries)) };
 
     /// The members of this object: each row's onto those that no row names. `InvalidItem` comes
-    /// where a row's member holds an invalid item, `Memory` where a growth was refused.
+    /// where a row's member holds an invalid item or key, `Memory` where a growth was refused.
     fn encode_members(&self, alloc: Global) -> Result<Map<String, Value>, Error>
         ensures { Writes (λ m. members_view m.entries) result
             (put_rows rows (members self.now) (unknown self.now))

@@ -6,7 +6,7 @@ ghost use Rattle.serde_json.specs.Data.{Members, no_members};
 ghost use Rattle.serde_json.specs.View.{members_view};
 ghost use Rattle.gltf_schema.specs.Tree.{end};
 ghost use Rattle.gltf_schema.specs.Kind.{ObjectName, extensions_of, no_rows};
-ghost use Rattle.gltf_schema.specs.Taken.{left};
+ghost use Rattle.gltf_schema.specs.Read.{left};
 
 use crate::error::Error;
 use crate::schema::Object;

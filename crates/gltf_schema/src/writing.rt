@@ -1,6 +1,6 @@
 //! An object's members as they are written, row by row.
 
-ghost use Rattle.std.specs.Prelude.{◌≡◌, false, Some, map};
+ghost use Rattle.std.specs.Prelude.{◌≡◌, true, false, Some, map};
 ghost use Rattle.serde_json.specs.Data.{no_members};
 ghost use Rattle.serde_json.specs.View.{members_view};
 ghost use Rattle.gltf_schema.specs.Tree.{Tree, tree_or_absent, trees, list as list_tree, end};
@@ -41,7 +41,7 @@ macro_rules! write_on {
 impl Writing {
     /// Begins to write the members of an object.
     pub fn new(alloc: Global) -> Writing
-        ensures { BeginsWith no_members (writing_state result) }
+        ensures { BeginsWith false no_members (writing_state result) }
     {
         Writing {
             alloc,
@@ -52,7 +52,7 @@ impl Writing {
     /// Begins with a copy of the members that no row names. A row's member will take the place of
     /// one of its name.
     pub fn from_others(alloc: Global, others: &Map<String, Value>) -> Writing
-        ensures { BeginsWith (members_view others.now.entries) (writing_state result) }
+        ensures { BeginsWith true (members_view others.now.entries) (writing_state result) }
     {
         Writing {
             alloc,

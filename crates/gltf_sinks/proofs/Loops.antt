@@ -10,7 +10,7 @@ use Rattle.gltf_paths.specs.declared.validation.Error.{Error}
 use Rattle.gltf_sinks.specs.Report.{From, each_at}
 use Rattle.gltf_sinks.specs.declared.sink.Stop.{Stop}
 use Rattle.gltf_sinks.specs.Handed.{Walked}
-use Rattle.gltf_sinks.proofs.Walks.{walked_then, walked_stopped, walked_same}
+use Rattle.gltf_sinks.proofs.Walks.{walked_then, walked_stopped, walked_same, walked_wider}
 
 -- a walk over all reports is under way: that over those before came through, and the rest is to come
 pub record Underway {S R : Type 0} (next : S → List Step → Error → S) (refuses : S → List Step → Error → R → S → Type 0)
@@ -44,7 +44,7 @@ module _ {S R : Type 0} {next : S → List Step → Error → S} {refuses : S �
   -- nothing is to come
   pub underway-end : {p q : ArrayVec Borrowed} {o s : S} {all : From} {n : ℕ}
       → Underway next refuses p o all (λ _. []) q s → Walked next refuses p o all n (Ok tt) q s
-  underway-end h = walked_same (λ base. h.split base ∙ append-nil (h.before base)) (record { same = h.came.same; handed = h.came.handed })
+  underway-end h = walked_same (λ base. h.split base ∙ append-nil (h.before base)) (walked_wider (omega arith) h.came)
 
   -- one more walk stopped
   pub underway-exit : {p q q' : ArrayVec Borrowed} {o s t : S} {all : From} {n : ℕ} {stop : Stop R} {r : Result (Unit {0}) (Stop R)} (f rest : From)

@@ -1,3 +1,4 @@
 pub mod Report
 pub mod Handed
 pub mod Sinks
+pub mod Stops

@@ -7,6 +7,7 @@ ghost use Rattle.gltf_sinks.specs.Sinks.{reports_counted, one_more};
 
 use gltf_base::Steps;
 use gltf_base::validation::Error;
+use std::fmt::{self, Debug, Display, Formatter, Write};
 
 /// What takes reports.
 pub trait Sink {
@@ -40,6 +41,21 @@ pub enum Stop<R> {
     /// The sink refused a report.
     Sink(R),
 }
+
+impl<R: Display> Display for Stop<R> {
+    ghost use Rattle.gltf_sinks.specs.Stops.{stop_text};
+
+    ghost output = { stop_text R.output };
+
+    fn fmt<W: Write>(&self, f: &mut Formatter<W>) -> fmt::Result {
+        match self {
+            Stop::StepsFull => f.write_str("Path is full"),
+            Stop::Sink(refusal) => Display::fmt(refusal, f),
+        }
+    }
+}
+
+impl<R: Debug + Display + Drop> std::error::Error for Stop<R> {}
 
 /// A sink that counts reports. It refuses none, and stops rising at the greatest number it can
 /// hold.

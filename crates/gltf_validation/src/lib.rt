@@ -1,4 +1,4 @@
-//! What validation hands to a sink, object by object.
+//! What validation hands to a sink, place by place.
 #![tactic(auto)]
 
 pub mod validation;

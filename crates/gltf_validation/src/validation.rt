@@ -1,4 +1,4 @@
-//! What is wrong in a document, place by place.
+//! What is wrong in a value, told to a sink.
 
 ghost use Rattle.std.specs.Prelude.{◌≡◌, ℕ, Option, None};
 ghost use Rattle.gltf_schema.specs.Tree.{Tree, absent};

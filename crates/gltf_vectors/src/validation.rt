@@ -8,7 +8,7 @@ use crate::documents::{FAULTY, SIX, SIX_LINES};
 use crate::reading::{WAYS, Way, read_by};
 use gltf_base::{Step, Steps};
 use gltf_json::buffer::{Stride, View};
-use gltf_json::validation::{Count, Error, Sink, USize64, Validate};
+use gltf_json::validation::{Count, Error, Sink, Stop, USize64, Validate};
 use gltf_json::{Index, Path, Root};
 use std::alloc::{AllocError, Global};
 use std::fmt::Write;
@@ -19,9 +19,11 @@ const NO_VIEW_AND_NO_TYPE: &str =
     r#"{"asset":{"version":"2.0"},"accessors":[{"count":1,"componentType":5126,"type":"foo"}]}"#;
 
 /// Why a bounded sink refuses a report.
-const FULL: u8 = 7;
-
-const NO_MEMORY: u8 = 8;
+#[derive(Clone, Copy, Debug, Drop)]
+enum Refusal {
+    Full,
+    NoMemory,
+}
 
 /// A sink that takes so many reports, each as a line, and refuses the next.
 #[derive(Drop)]
@@ -33,7 +35,7 @@ struct Bounded {
 }
 
 impl Sink for Bounded {
-    type Refusal = u8;
+    type Refusal = Refusal;
 
     ghost State = { ℕ };
 
@@ -43,14 +45,14 @@ impl Sink for Bounded {
 
     ghost refuses = { λ _ _ _ _ _. ⊤ };
 
-    fn report(&mut self, path: &Steps<'_>, error: Error) -> Result<(), u8> {
+    fn report(&mut self, path: &Steps<'_>, error: Error) -> Result<(), Refusal> {
         if self.taken >= self.limit {
-            return Err(FULL);
+            return Err(Refusal::Full);
         }
         self.taken += 1;
         match write_line(self.alloc, &mut self.lines, path, error) {
             Ok(()) => Ok(()),
-            Err(_) => Err(NO_MEMORY),
+            Err(_) => Err(Refusal::NoMemory),
         }
     }
 }
@@ -97,10 +99,10 @@ pub(super) fn bounded_lines(
 type Limit = (u32, &'static str);
 
 const LIMITS: [Limit; 3] = [
-    (0, "Err(Sink(7)), 0 steps\n"),
+    (0, "Err(Sink(Full)), 0 steps\n"),
     (
         1,
-        "accessors[0].type: Invalid value\nErr(Sink(7)), 0 steps\n",
+        "accessors[0].type: Invalid value\nErr(Sink(Full)), 0 steps\n",
     ),
     (
         2,
@@ -148,7 +150,7 @@ fn holds_first(alloc: Global, limit: u32, ended: &str) -> Result<bool, gltf_json
 fn holds_the_first_of_six(rt: HostRuntime) -> Result<(), Fail> {
     for limit in 0..6 {
         assert!(rt;
-            holds_first(rt.alloc(), limit, "Err(Sink(7)), 0 steps\n")?,
+            holds_first(rt.alloc(), limit, "Err(Sink(Full)), 0 steps\n")?,
             "{limit}"
         );
     }
@@ -218,6 +220,17 @@ const FROM_SEVEN: [&str; 3] = [
 fn ends_from_seven(alloc: Global, way: Way) -> Result<bool, gltf_json::Error> {
     let ended = count_from(alloc, way, FAULTY, 7)?;
     Ok(FROM_SEVEN.contains(&ended.as_str()))
+}
+
+#[test]
+fn stops_are_printed(rt: HostRuntime) -> Result<(), Fail> {
+    let full: Stop<Error> = Stop::StepsFull;
+    let refused = Stop::Sink(Error::Missing);
+    assert_eq!(rt;
+        format!(in rt.alloc(); "{full}, {refused}")?.as_str(),
+        "Path is full, Missing data"
+    );
+    Ok(())
 }
 
 #[test]

@@ -65,7 +65,7 @@ pub(crate) fn is_text(
 }
 
 /// Whether the value that a document is written as is that of a text.
-fn is_value(alloc: Global, root: &Root, text: &str) -> Result<bool, Fail> {
+pub(crate) fn is_value(alloc: Global, root: &Root, text: &str) -> Result<bool, Fail> {
     Ok(root.to_value(alloc)? == Value::from_str(alloc, text)?)
 }
 

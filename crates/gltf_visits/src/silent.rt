@@ -4,7 +4,7 @@ ghost use Rattle.std.specs.Prelude.{◌≡◌, None, refl};
 ghost use Rattle.gltf_schema.specs.Tree.{Tree, absent, whole, truth};
 ghost use Rattle.gltf_schema.specs.Kind.{Kind, U32, U64, Number, Numbers, Text, Truth, Any};
 ghost use Rattle.gltf_schema.specs.Fields.{size_tree, real_tree, reals_tree, text_tree, any_tree};
-ghost use Rattle.gltf_faults.specs.Context.{Context};
+ghost use Rattle.gltf_faults.specs.Context.{Context as MathematicalContext};
 ghost use Rattle.gltf_visits.specs.Plan.{leaf};
 ghost use Rattle.gltf_visits.specs.Planned.{planned};
 
@@ -13,7 +13,7 @@ use crate::visited::Visited;
 use gltf_base::Real;
 use gltf_base::validation::USize64;
 use gltf_data::extras::Void;
-use gltf_faults::Context as Lent;
+use gltf_faults::Context;
 use serde_json::Value;
 
 /// A type in which nothing can be wrong.
@@ -25,7 +25,7 @@ pub trait Silent {
     ghost tree: { Self → Tree } = { λ _. absent };
 
     // A walk has nothing to go through.
-    ghost silent: { (x : Self) (context : Context)
+    ghost silent: { (x : Self) (context : MathematicalContext)
         → planned kind (tree x) context absent ≡ leaf None };
 }
 
@@ -34,7 +34,7 @@ impl<T: Silent> Visited for T {
 
     ghost tree = { T.tree };
 
-    fn part<'a>(&'a self, _context: &Lent<'_>) -> Part<'a> {
+    fn part<'a>(&'a self, _context: &Context<'_>) -> Part<'a> {
         Part::Leaf(None)
     }
 }

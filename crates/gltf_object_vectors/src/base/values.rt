@@ -14,7 +14,7 @@ fn is_path(path: Result<Path, AllocError>, text: &str) -> Result<bool, Fail> {
 }
 
 #[test]
-fn paths(rt: HostRuntime) -> Result<(), Fail> {
+fn paths_grow_by_steps(rt: HostRuntime) -> Result<(), Fail> {
     let alloc = rt.alloc();
     assert!(rt; Path::new(alloc).as_str() == "");
     let foo = Path::new(alloc).field(alloc, "foo")?;
@@ -88,7 +88,7 @@ fn is_no_semantic(alloc: Global, text: &str) -> Result<bool, Fail> {
 }
 
 #[test]
-fn semantics(rt: HostRuntime) -> Result<(), Fail> {
+fn semantics_are_read_and_written(rt: HostRuntime) -> Result<(), Fail> {
     let alloc = rt.alloc();
     assert!(rt; is_semantic(alloc, "POSITION", Semantic::Positions, "POSITION")?);
     assert!(rt; is_semantic(alloc, "NORMAL", Semantic::Normals, "NORMAL")?);
@@ -173,7 +173,7 @@ fn is_shown(alloc: Global, error: Error, text: &str) -> Result<bool, Fail> {
 }
 
 #[test]
-fn errors(rt: HostRuntime) -> Result<(), Fail> {
+fn errors_have_texts_and_an_order(rt: HostRuntime) -> Result<(), Fail> {
     let alloc = rt.alloc();
     assert!(rt; is_shown(alloc, Error::IndexOutOfBounds, "Index out of bounds")?);
     assert!(rt; is_shown(alloc, Error::Invalid, "Invalid value")?);
@@ -186,7 +186,7 @@ fn errors(rt: HostRuntime) -> Result<(), Fail> {
 }
 
 #[test]
-fn sizes(rt: HostRuntime) {
+fn sizes_are_made_of_numbers(rt: HostRuntime) {
     assert_eq!(rt; USize64::default(), USize64(0));
     assert_eq!(rt; USize64::from(u64::MAX), USize64(u64::MAX));
     assert_eq!(rt; USize64::from(3usize), USize64(3));
@@ -208,7 +208,7 @@ fn is_whole(number: i64) -> Result<bool, AllocError> {
 }
 
 #[test]
-fn reals(rt: HostRuntime) -> Result<(), Fail> {
+fn reals_are_numbers_alone(rt: HostRuntime) -> Result<(), Fail> {
     assert!(rt; matches!(Real::from_value(Value::Null), Err(Value::Null)));
     assert_eq!(rt; fraction(rt.alloc(), "-0.5")?, Some(-0.5));
     assert!(rt; is_whole(1)?);

@@ -2,7 +2,10 @@
 
 use super::{is_refused, read};
 use gltf_base::validation::Checked;
+use gltf_parts::Error;
 use gltf_parts::accessor::Accessor;
+use gltf_parts::accessor::sparse::Indices;
+use gltf_parts::buffer::Stride;
 use gltf_parts::extras::Void;
 use gltf_parts::image::Image;
 use gltf_parts::material::{Material, PbrMetallicRoughness};
@@ -10,7 +13,7 @@ use gltf_parts::texture::{Info, MinFilter, Sampler, Texture, WrappingMode};
 use std::test::Fail;
 
 #[test]
-fn samplers(rt: HostRuntime) -> Result<(), Fail> {
+fn samplers_repeat_by_default(rt: HostRuntime) -> Result<(), Fail> {
     let alloc = rt.alloc();
     let plain: Sampler = read(alloc, "{}")?;
     assert!(rt; matches!(plain.wrap_s, Checked::Valid(WrappingMode::Repeat)));
@@ -28,7 +31,7 @@ fn samplers(rt: HostRuntime) -> Result<(), Fail> {
 }
 
 #[test]
-fn textures(rt: HostRuntime) -> Result<(), Fail> {
+fn textures_may_lack_a_source(rt: HostRuntime) -> Result<(), Fail> {
     let alloc = rt.alloc();
     let source = read::<Texture>(alloc, "{}")?.source;
     assert_eq!(rt; source.value(), 4294967295);
@@ -47,7 +50,7 @@ fn has_unknown_alone(info: &Info) -> bool {
 }
 
 #[test]
-fn references(rt: HostRuntime) -> Result<(), Fail> {
+fn unknown_extensions_of_references_stay(rt: HostRuntime) -> Result<(), Fail> {
     let text = r#"{"index":0,"extensions":{"EXT_y":null,"KHR_texture_transform":null}}"#;
     assert!(rt; has_unknown_alone(&read::<Info>(rt.alloc(), text)?));
     Ok(())
@@ -59,7 +62,7 @@ fn metallic_factor(parameters: &PbrMetallicRoughness) -> Option<f64> {
 }
 
 #[test]
-fn metallic_roughness(rt: HostRuntime) -> Result<(), Fail> {
+fn metallic_factors_are_numbers(rt: HostRuntime) -> Result<(), Fail> {
     let alloc = rt.alloc();
     assert!(rt; is_refused::<PbrMetallicRoughness>(alloc, r#"{"metallicFactor":null}"#)?);
     let half: PbrMetallicRoughness = read(alloc, r#"{"metallicFactor":0.5}"#)?;
@@ -68,7 +71,7 @@ fn metallic_roughness(rt: HostRuntime) -> Result<(), Fail> {
 }
 
 #[test]
-fn materials(rt: HostRuntime) -> Result<(), Fail> {
+fn emissive_factors_are_three_numbers(rt: HostRuntime) -> Result<(), Fail> {
     let alloc = rt.alloc();
     assert!(rt; is_refused::<Material>(alloc, r#"{"emissiveFactor":[0,0]}"#)?);
     assert!(rt; is_refused::<Material>(alloc, r#"{"pbrMetallicRoughness":null}"#)?);
@@ -81,11 +84,16 @@ fn materials(rt: HostRuntime) -> Result<(), Fail> {
 }
 
 #[test]
-fn images_and_accessors(rt: HostRuntime) -> Result<(), Fail> {
+fn unlisted_mime_types_are_read(rt: HostRuntime) -> Result<(), Fail> {
     let alloc = rt.alloc();
     let image: Image = read(alloc, r#"{"mimeType":"image/gif"}"#)?;
     assert!(rt; image.mime_type.is_some());
-    assert!(rt; is_refused::<Accessor>(alloc, "[]")?);
+    Ok(())
+}
+
+#[test]
+fn arrays_are_no_accessors(rt: HostRuntime) -> Result<(), Fail> {
+    assert!(rt; is_refused::<Accessor>(rt.alloc(), "[]")?);
     Ok(())
 }
 
@@ -95,6 +103,29 @@ fn void_is_printed_as_no_members(rt: HostRuntime) -> Result<(), Fail> {
     assert_eq!(rt;
         format!(in rt.alloc(); "{void} {void:?}")?.as_str(),
         "{} {}"
+    );
+    Ok(())
+}
+
+#[test]
+fn objects_are_debugged(rt: HostRuntime) -> Result<(), Fail> {
+    let text = r#"{"bufferView":1,"byteOffset":2,"componentType":5123}"#;
+    let indices = read::<Indices>(rt.alloc(), text)?;
+    assert_eq!(rt;
+        format!(in rt.alloc(); "{indices:?}")?.as_str(),
+        "Indices { buffer_view: 1, byte_offset: USize64(2), component_type: Valid(IndexComponentType(U16)), extensions: None, extras: None }"
+    );
+    Ok(())
+}
+
+#[test]
+fn choices_and_errors_are_debugged(rt: HostRuntime) -> Result<(), Fail> {
+    let filter = MinFilter::NearestMipmapNearest;
+    let stride = Some(Stride(4));
+    let error = Error::InvalidItem;
+    assert_eq!(rt;
+        format!(in rt.alloc(); "{filter:?} {stride:?} {error:?}")?.as_str(),
+        "NearestMipmapNearest Some(Stride(4)) InvalidItem"
     );
     Ok(())
 }

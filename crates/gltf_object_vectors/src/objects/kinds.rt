@@ -85,7 +85,7 @@ fn invalid(kind: Kind) -> &'static str {
 }
 
 /// Holds a row's member to its kind: a test fails by the first value that is answered otherwise.
-pub(super) fn is_of_kind<T: Schema>(
+pub(super) fn obeys_kind<T: Schema>(
     alloc: Global,
     least: &str,
     name: &str,

@@ -1,6 +1,7 @@
 //! What meshes, nodes, scenes, animations, a document's own description, and whole documents are
 //! written as.
 
+use super::UNKNOWN_MEMBERS;
 use super::writing::{keeps, writes};
 use gltf_root::extensions as all_extensions;
 use gltf_root::root::Root;
@@ -14,9 +15,6 @@ use gltf_scene::mesh::{Mesh, MorphTarget, Primitive};
 use gltf_scene::scene::{Node, Scene};
 use gltf_scene::skin::Skin;
 use std::test::Fail;
-
-/// Members that no row names.
-const UNKNOWN: &str = r#"{"EXT_x":{"a":[1,0.5,null]},"zz":null}"#;
 
 #[test]
 fn documents(rt: HostRuntime) -> Result<(), Fail> {
@@ -233,30 +231,33 @@ fn unknown_members(rt: HostRuntime) -> Result<(), Fail> {
     keeps::<all_extensions::root::Root>(
         alloc,
         &[
-            UNKNOWN,
+            UNKNOWN_MEMBERS,
             r#"{"KHR_lights_punctual":{"lights":[]},"KHR_materials_variants":{"variants":[]},"EXT_x":1}"#,
         ],
     )?;
-    keeps::<animation::Animation>(alloc, &[UNKNOWN])?;
-    keeps::<camera::Camera>(alloc, &[UNKNOWN])?;
-    keeps::<camera::Orthographic>(alloc, &[UNKNOWN])?;
-    keeps::<camera::Perspective>(alloc, &[UNKNOWN])?;
-    keeps::<mesh::Mesh>(alloc, &[UNKNOWN])?;
+    keeps::<animation::Animation>(alloc, &[UNKNOWN_MEMBERS])?;
+    keeps::<camera::Camera>(alloc, &[UNKNOWN_MEMBERS])?;
+    keeps::<camera::Orthographic>(alloc, &[UNKNOWN_MEMBERS])?;
+    keeps::<camera::Perspective>(alloc, &[UNKNOWN_MEMBERS])?;
+    keeps::<mesh::Mesh>(alloc, &[UNKNOWN_MEMBERS])?;
     keeps::<mesh::Primitive>(
         alloc,
         &[
-            UNKNOWN,
+            UNKNOWN_MEMBERS,
             r#"{"KHR_materials_variants":{"mappings":[]},"EXT_x":1}"#,
         ],
     )?;
     keeps::<scene::Node>(
         alloc,
-        &[UNKNOWN, r#"{"KHR_lights_punctual":{"light":0},"EXT_x":1}"#],
+        &[
+            UNKNOWN_MEMBERS,
+            r#"{"KHR_lights_punctual":{"light":0},"EXT_x":1}"#,
+        ],
     )?;
-    keeps::<scene::Scene>(alloc, &[UNKNOWN])?;
-    keeps::<skin::Skin>(alloc, &[UNKNOWN])?;
-    writes::<asset::Asset>(alloc, &[(UNKNOWN, "{}")])?;
-    writes::<animation::Channel>(alloc, &[(UNKNOWN, "{}")])?;
-    writes::<animation::Target>(alloc, &[(UNKNOWN, "{}")])?;
-    writes::<animation::Sampler>(alloc, &[(UNKNOWN, "{}")])
+    keeps::<scene::Scene>(alloc, &[UNKNOWN_MEMBERS])?;
+    keeps::<skin::Skin>(alloc, &[UNKNOWN_MEMBERS])?;
+    writes::<asset::Asset>(alloc, &[(UNKNOWN_MEMBERS, "{}")])?;
+    writes::<animation::Channel>(alloc, &[(UNKNOWN_MEMBERS, "{}")])?;
+    writes::<animation::Target>(alloc, &[(UNKNOWN_MEMBERS, "{}")])?;
+    writes::<animation::Sampler>(alloc, &[(UNKNOWN_MEMBERS, "{}")])
 }

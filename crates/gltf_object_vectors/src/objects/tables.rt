@@ -1,6 +1,6 @@
 //! Objects and their rows.
 
-use super::kinds::{Kind, is_of_kind};
+use super::kinds::{Kind, obeys_kind};
 use super::marks::{Mark, is_marked};
 use super::trials::{form, members_of, with};
 use gltf_parts::Schema;
@@ -24,8 +24,8 @@ enum Others {
 /// Holds an object, which drops members that no row names, to its rows: a test fails by the first
 /// member that isn't treated by its mark, or by a value that isn't by its kind.
 pub(super) fn obeys<T: Schema>(alloc: Global, least: &str, rows: &[Row]) -> Result<(), Fail> {
-    is_with_others::<T>(alloc, least, Others::Dropped)?;
-    is_with_rows::<T>(alloc, least, rows)
+    treats_others::<T>(alloc, least, Others::Dropped)?;
+    obeys_rows::<T>(alloc, least, rows)
 }
 
 /// The same of an object that keeps members that no row names.
@@ -34,23 +34,23 @@ pub(super) fn obeys_and_keeps<T: Schema>(
     least: &str,
     rows: &[Row],
 ) -> Result<(), Fail> {
-    is_with_others::<T>(alloc, least, Others::Kept)?;
-    is_with_rows::<T>(alloc, least, rows)
+    treats_others::<T>(alloc, least, Others::Kept)?;
+    obeys_rows::<T>(alloc, least, rows)
 }
 
 /// Holds an object to its rows.
-fn is_with_rows<T: Schema>(alloc: Global, least: &str, rows: &[Row]) -> Result<(), Fail> {
+fn obeys_rows<T: Schema>(alloc: Global, least: &str, rows: &[Row]) -> Result<(), Fail> {
     for (name, mark, kind) in rows {
         if !is_marked::<T>(alloc, least, name, *mark)? {
             Err(*name)?
         }
-        is_of_kind::<T>(alloc, least, name, *kind)?;
+        obeys_kind::<T>(alloc, least, name, *kind)?;
     }
     Ok(())
 }
 
 /// Holds an object to what becomes of a member that no row names, and that is null.
-fn is_with_others<T: Schema>(alloc: Global, least: &str, others: Others) -> Result<(), Fail> {
+fn treats_others<T: Schema>(alloc: Global, least: &str, others: Others) -> Result<(), Fail> {
     let found = form::<T>(alloc, with(alloc, least, UNKNOWN, Value::Null)?)?;
     let mut wanted = form::<T>(alloc, members_of(alloc, least)?)?;
     if matches!(others, Others::Kept) {

@@ -1,5 +1,6 @@
 //! What accessors, buffers, images, textures and materials are written as.
 
+use super::UNKNOWN_MEMBERS;
 use super::writing::{keeps, writes};
 use gltf_parts::accessor::{Accessor, sparse};
 use gltf_parts::buffer::{Buffer, View};
@@ -8,9 +9,6 @@ use gltf_parts::image::Image;
 use gltf_parts::material::{Material, NormalTexture, OcclusionTexture, PbrMetallicRoughness};
 use gltf_parts::texture::{Info, Sampler, Texture};
 use std::test::Fail;
-
-/// Members that no row names.
-const UNKNOWN: &str = r#"{"EXT_x":{"a":[1,0.5,null]},"zz":null}"#;
 
 #[test]
 fn accessors(rt: HostRuntime) -> Result<(), Fail> {
@@ -203,7 +201,7 @@ fn extensions_of_materials(rt: HostRuntime) -> Result<(), Fail> {
     keeps::<material::Material>(
         alloc,
         &[
-            UNKNOWN,
+            UNKNOWN_MEMBERS,
             r#"{"KHR_materials_pbrSpecularGlossiness":{"zz":null},"KHR_materials_unlit":{},"KHR_materials_transmission":{},"KHR_materials_volume":{},"KHR_materials_specular":{},"KHR_materials_ior":{},"KHR_materials_emissive_strength":{},"EXT_x":1}"#,
         ],
     )?;
@@ -217,7 +215,7 @@ fn extensions_of_materials(rt: HostRuntime) -> Result<(), Fail> {
     keeps::<material::PbrSpecularGlossiness>(
         alloc,
         &[
-            UNKNOWN,
+            UNKNOWN_MEMBERS,
             r#"{"diffuseFactor":[1,1,1,1],"diffuseTexture":{"index":0,"texCoord":0},"specularFactor":[1,1,1],"glossinessFactor":1,"specularGlossinessTexture":{"index":0,"texCoord":0},"extras":1,"zz":1}"#,
         ],
     )
@@ -254,24 +252,24 @@ fn further_extensions_of_materials(rt: HostRuntime) -> Result<(), Fail> {
 #[test]
 fn unknown_members(rt: HostRuntime) -> Result<(), Fail> {
     let alloc = rt.alloc();
-    keeps::<accessor::Accessor>(alloc, &[UNKNOWN])?;
-    keeps::<buffer::Buffer>(alloc, &[UNKNOWN])?;
-    keeps::<buffer::View>(alloc, &[UNKNOWN])?;
-    keeps::<image::Image>(alloc, &[UNKNOWN])?;
-    keeps::<texture::Sampler>(alloc, &[UNKNOWN])?;
-    keeps::<texture::Texture>(alloc, &[UNKNOWN])?;
+    keeps::<accessor::Accessor>(alloc, &[UNKNOWN_MEMBERS])?;
+    keeps::<buffer::Buffer>(alloc, &[UNKNOWN_MEMBERS])?;
+    keeps::<buffer::View>(alloc, &[UNKNOWN_MEMBERS])?;
+    keeps::<image::Image>(alloc, &[UNKNOWN_MEMBERS])?;
+    keeps::<texture::Sampler>(alloc, &[UNKNOWN_MEMBERS])?;
+    keeps::<texture::Texture>(alloc, &[UNKNOWN_MEMBERS])?;
     keeps::<texture::Info>(
         alloc,
         &[
-            UNKNOWN,
+            UNKNOWN_MEMBERS,
             r#"{"KHR_texture_transform":{"texCoord":1},"EXT_x":1}"#,
         ],
     )?;
-    keeps::<material::PbrMetallicRoughness>(alloc, &[UNKNOWN])?;
-    keeps::<material::NormalTexture>(alloc, &[UNKNOWN])?;
-    keeps::<material::OcclusionTexture>(alloc, &[UNKNOWN])?;
-    writes::<material::Unlit>(alloc, &[(UNKNOWN, "{}")])?;
-    writes::<accessor::sparse::Sparse>(alloc, &[(UNKNOWN, "{}")])?;
-    writes::<accessor::sparse::Indices>(alloc, &[(UNKNOWN, "{}")])?;
-    writes::<accessor::sparse::Values>(alloc, &[(UNKNOWN, "{}")])
+    keeps::<material::PbrMetallicRoughness>(alloc, &[UNKNOWN_MEMBERS])?;
+    keeps::<material::NormalTexture>(alloc, &[UNKNOWN_MEMBERS])?;
+    keeps::<material::OcclusionTexture>(alloc, &[UNKNOWN_MEMBERS])?;
+    writes::<material::Unlit>(alloc, &[(UNKNOWN_MEMBERS, "{}")])?;
+    writes::<accessor::sparse::Sparse>(alloc, &[(UNKNOWN_MEMBERS, "{}")])?;
+    writes::<accessor::sparse::Indices>(alloc, &[(UNKNOWN_MEMBERS, "{}")])?;
+    writes::<accessor::sparse::Values>(alloc, &[(UNKNOWN_MEMBERS, "{}")])
 }

@@ -61,7 +61,8 @@ pub trait Get<T> {
         ensures full { (result ≡ Err (PushError.Full item))
             ↔ (2 ^ 32 - 1 ≤ length (listed self.old)) }
         ensures handed_back { IfErr result (IsHandedBack item) }
-        ensures unchanged { OnErr result (document self.new ≡ document self.old) };
+        ensures unchanged { OnErr result (document self.new ≡ document self.old) }
+        ensures kept { OnErr result (listed self.new ≡ listed self.old) };
 
     /// Which of the extension objects around the list the document has. Taken before a push, it
     /// tells `undo_push` what the push made.
@@ -74,6 +75,7 @@ pub trait Get<T> {
     fn undo_push(&mut self, mark: Mark) -> Option<T>
         ensures none { (result ≡ None) ↔ (listed self.old ≡ []) }
         ensures unchanged { IfNone result (document self.new ≡ document self.old) }
+        ensures kept { IfNone result (listed self.new ≡ listed self.old) }
         ensures taken { IfSome result (λ item. (last_or None (listed self.old) ≡ Some item)
             × (document self.new ≡ undone named mark (document self.old))) }
         ensures rest { mark ≡ Listed
@@ -113,7 +115,8 @@ pub trait RootItem: Listed + Drop {
         ensures full { (result ≡ Err (PushError.Full item))
             ↔ (2 ^ 32 - 1 ≤ length (items root.old)) }
         ensures handed_back { IfErr result (IsHandedBack item) }
-        ensures unchanged { OnErr result (root_tree root.new ≡ root_tree root.old) };
+        ensures unchanged { OnErr result (root_tree root.new ≡ root_tree root.old) }
+        ensures kept { OnErr result (items root.new ≡ items root.old) };
 
     /// Which of the extension objects around the list a root has.
     fn mark_of(root: &Root) -> Mark
@@ -123,6 +126,7 @@ pub trait RootItem: Listed + Drop {
     fn undo_push_from(root: &mut Root, mark: Mark) -> Option<Self>
         ensures none { (result ≡ None) ↔ (items root.old ≡ []) }
         ensures unchanged { IfNone result (root_tree root.new ≡ root_tree root.old) }
+        ensures kept { IfNone result (items root.new ≡ items root.old) }
         ensures taken { IfSome result (λ item. (last_or None (items root.old) ≡ Some item)
             × (root_tree root.new ≡ undone Self.list mark (root_tree root.old))) }
         ensures rest { mark ≡ Listed
@@ -205,6 +209,8 @@ impl Root {
         ensures handed_back { IfErr result (IsHandedBack item) }
         ensures unchanged { OnErr result (⟦<Root as Get<T>>⟧.document self.new
             ≡ ⟦<Root as Get<T>>⟧.document self.old) }
+        ensures kept { OnErr result (⟦<Root as Get<T>>⟧.listed self.new
+            ≡ ⟦<Root as Get<T>>⟧.listed self.old) }
     {
         Get::<T>::push(self, item)
     }

@@ -33,8 +33,8 @@ impl Root {
         Root::decode(alloc, value)
     }
 
-    /// The document that bytes of JSON are: `Json` exactly where they are no JSON, else as
-    /// [`Root::from_value`].
+    /// The document that bytes of JSON are: `Json` where they are no JSON, else as
+    /// [`Root::from_value`]; `Memory` may come in place of any answer where a growth was refused.
     #[tactic(auto, using(crate::proofs::AnswerLemmas::answers))]
     pub fn from_slice(alloc: Global, bytes: &[u8]) -> Result<Root, Error>
         ensures by_bytes { IsAnswer (answer bytes.now) result }

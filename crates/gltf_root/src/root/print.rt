@@ -75,8 +75,9 @@ impl Root {
     }
 
     /// Writes the bytes of [`Root::to_vec`], which are made before the first of them is written.
-    /// `Write` comes where the writer fails, which then has taken a prefix of them; after
-    /// `InvalidItem` or `Memory` it is as it was. Nothing is flushed.
+    /// `Write` comes where the writer fails, which then has taken a prefix of them. Other errors are
+    /// those of [`Root::to_value`], and after one of them the writer is as it was. Nothing is
+    /// flushed.
     pub fn to_writer<W: ByteOut>(&self, alloc: Global, writer: &mut W) -> Result<(), Error>
         ensures taken { Takes (λ d bytes. IsCompact d bytes × IsReadBack (root_tree self.now) bytes)
             (W.taken writer.old) (W.taken writer.new) result

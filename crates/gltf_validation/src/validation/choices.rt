@@ -1,7 +1,5 @@
 //! Items of choices, whatever the choice.
 
-ghost use Rattle.std.specs.Prelude.{◌≡◌, None};
-ghost use Rattle.gltf_schema.specs.Tree.{absent};
 ghost use Rattle.gltf_validation.specs.ByType.{checked_reports};
 
 use super::Validate;
@@ -12,13 +10,7 @@ use gltf_root::root::Root;
 use gltf_sinks::{Sink, Stop, tell};
 
 impl<T> Validate for Checked<T> {
-    ghost kind = { None };
-
-    ghost tree = { λ _. absent };
-
     ghost own = { checked_reports };
-
-    ghost depth = { 0 };
 
     /// Reports `Invalid` where the item is none of the choice's.
     fn validate_with<'a, S: Sink>(

@@ -1,8 +1,7 @@
 //! Maps.
 
-ghost use Rattle.std.specs.Prelude.{◌≡◌, ◌+◌, ◌++◌, ◌∷◌, [], None, max};
+ghost use Rattle.std.specs.Prelude.{◌≡◌, ◌+◌, ◌++◌, ◌∷◌, [], max};
 ghost use Rattle.gltf_paths.specs.Steps.{key};
-ghost use Rattle.gltf_schema.specs.Tree.{absent};
 ghost use Rattle.gltf_sinks.specs.Handed.{Walked};
 ghost use Rattle.gltf_validation.specs.ByType.{reports_in, each_entry};
 
@@ -15,10 +14,6 @@ use gltf_sinks::{Sink, Stop};
 use std::collections::BTreeMap;
 
 impl<K: KeyStep + Validate + Ord, V: Validate> Validate for BTreeMap<K, V> {
-    ghost kind = { None };
-
-    ghost tree = { λ _. absent };
-
     ghost own = { λ m context. each_entry K.key_text (reports_in K.kind K.tree K.own context)
         (reports_in V.kind V.tree V.own context) m.entries };
 

@@ -4,7 +4,6 @@ ghost use Rattle.std.specs.Prelude.{◌≡◌, ◌≤◌, ◌+◌, ℕ, Some};
 ghost use Rattle.gltf_sinks.specs.Handed.{HandedOver};
 ghost use Rattle.gltf_visits.specs.Height.{kind_height};
 ghost use Rattle.gltf_walk.specs.ToCome.{base_count, depth_of_descent, left_of_descent};
-ghost use Rattle.gltf_validation.specs.ByType.{no_reports};
 
 use super::Validate;
 use gltf_base::Steps;
@@ -37,8 +36,6 @@ impl<T: InTable> Validate for T {
     ghost kind = { Some T.kind };
 
     ghost tree = { T.tree };
-
-    ghost own = { no_reports };
 
     ghost depth = { T.depth };
 

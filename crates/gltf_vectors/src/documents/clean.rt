@@ -4,7 +4,7 @@ use super::built::{POINT, VIEW};
 use super::{FAULTY, NEW};
 use crate::lines::hog::Hog;
 use crate::reading::object;
-use crate::writing::is_line;
+use crate::writing::{is_line, is_value};
 use gltf_json::buffer::View;
 use gltf_json::extensions::scene::khr_lights_punctual::Light;
 use gltf_json::extensions::scene::khr_materials_variants::Variant;
@@ -12,7 +12,7 @@ use gltf_json::texture::Sampler;
 use gltf_json::validation::{Clean, CleanError, Error, Item, Rules};
 use gltf_json::{
     Accessor, Animation, Buffer, Camera, Image, Index, Material, Mesh, Node, Root, Scene, Schema,
-    Skin, Texture, Value,
+    Skin, Texture,
 };
 use std::alloc::{AllocError, Global};
 use std::fmt::Debug;
@@ -29,11 +29,6 @@ const SPOT: &str = r#"{"type":"spot"}"#;
 /// A texture whose image is the number that stands for none.
 const EMPTY_TEXTURE: &str = r#"{"source":4294967295}"#;
 
-/// Whether a root is this document.
-fn is_document(alloc: Global, root: &Root, document: &str) -> Result<bool, Fail> {
-    Ok(root.to_value(alloc)? == Value::from_str(alloc, document)?)
-}
-
 /// Whether an item is what is read from this text.
 fn is_item<T: Schema + Debug>(alloc: Global, item: &T, text: &str) -> Result<bool, Fail> {
     let read: T = object(alloc, text)?;
@@ -44,7 +39,7 @@ fn is_item<T: Schema + Debug>(alloc: Global, item: &T, text: &str) -> Result<boo
 fn is_refused(alloc: Global, document: &str) -> Result<bool, Fail> {
     match Clean::of(Rules::new(), Root::from_str(alloc, document)?) {
         Ok(_) => Ok(false),
-        Err(root) => is_document(alloc, &root, document),
+        Err(root) => is_value(alloc, &root, document),
     }
 }
 

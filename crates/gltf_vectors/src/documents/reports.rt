@@ -154,7 +154,7 @@ fn first_report_alone(rt: HostRuntime) -> Result<(), Fail> {
     for way in WAYS.iter() {
         assert_eq!(rt;
             bounded_lines(rt.alloc(), *way, ANIMATIONS, 1)?.as_str(),
-            "animations[0].channels[0].sampler: Index out of bounds\nErr(Sink(7)), 0 steps\n"
+            "animations[0].channels[0].sampler: Index out of bounds\nErr(Sink(Full)), 0 steps\n"
         );
     }
     Ok(())

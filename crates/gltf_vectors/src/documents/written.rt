@@ -1,6 +1,8 @@
 //! What documents are written as, each read from bytes and from a text.
 
-use super::{EMPTY_SOURCE, NEW, NO_EXTENSIONS, NULL_LIGHTS, WITH_SOURCE, WITHOUT_SOURCE};
+use super::{
+    EMPTY_SOURCE, NEW, NO_EXTENSIONS, NULL_LIGHTS, PAST_32_BITS, WITH_SOURCE, WITHOUT_SOURCE,
+};
 use crate::reading::{WAYS, Way, read_by};
 use crate::writing::{Layout, is_invalid_in, is_line_twice};
 use gltf_json::{Error, Root};
@@ -84,7 +86,7 @@ fn lines_of_documents(rt: HostRuntime) -> Result<(), Fail> {
 
 /// Documents in which an item of a choice, or the name of an attribute, is none of those listed.
 const INVALID: [&str; 5] = [
-    r#"{"asset":{"version":"2.0"},"buffers":[{"byteLength":4}],"bufferViews":[{"buffer":0,"byteLength":4}],"accessors":[{"bufferView":0,"count":1,"componentType":4294972416,"type":"SCALAR"}]}"#,
+    PAST_32_BITS,
     r#"{"asset":{"version":"2.0"},"accessors":[{"count":1,"componentType":5126,"type":"VEC3","sparse":{"count":1,"indices":{"bufferView":0,"componentType":5126},"values":{"bufferView":0}}}]}"#,
     r#"{"asset":{"version":"2.0"},"animations":[{"channels":[{"sampler":0,"target":{"node":0,"path":"foo"}}]}]}"#,
     r#"{"asset":{"version":"2.0"},"extensions":{"KHR_lights_punctual":{"lights":[{"type":"point"},{"type":"foo"}]}}}"#,

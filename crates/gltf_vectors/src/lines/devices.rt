@@ -4,16 +4,16 @@
 use std::io;
 use std::io::{ErrorKind, Read, Write};
 
-/// Gives a text, and fails at one call, counted from 1.
+/// Gives a text, and fails at one call, if at any; they are counted from 1.
 #[derive(Drop)]
 pub struct Giver {
     text: &'static str,
     given: usize,
-    fails_at: usize,
+    fails_at: Option<usize>,
 }
 
 impl Giver {
-    pub fn new(text: &'static str, fails_at: usize) -> Giver {
+    pub fn new(text: &'static str, fails_at: Option<usize>) -> Giver {
         Giver {
             text,
             given: 0,
@@ -24,7 +24,7 @@ impl Giver {
 
 impl Read for Giver {
     fn read(&mut self, buf: &mut [u8]) -> io::Result<usize> {
-        if self.given.saturating_add(1) == self.fails_at {
+        if self.fails_at == Some(self.given.saturating_add(1)) {
             return Err(io::Error::from(ErrorKind::Other));
         }
         let Some(byte) = self.text.as_bytes().get(self.given) else {

@@ -1,7 +1,7 @@
 //! Documents, and what is wrong in them.
 
 use super::run_over;
-use crate::documents::has_lines;
+use crate::documents::{PAST_32_BITS, has_lines};
 use crate::reading::{Way, read_by};
 use crate::writing::stays;
 use gltf_json::root::Watched;
@@ -65,7 +65,7 @@ const CASES: [Case; 23] = [
         "accessors[0].componentType: Invalid value\naccessors[0].bufferView: Missing data\n",
     ),
     (
-        r#"{"asset":{"version":"2.0"},"buffers":[{"byteLength":4}],"bufferViews":[{"buffer":0,"byteLength":4}],"accessors":[{"bufferView":0,"count":1,"componentType":4294972416,"type":"SCALAR"}]}"#,
+        PAST_32_BITS,
         1,
         "accessors[0].componentType: Invalid value\n",
     ),
@@ -143,7 +143,7 @@ fn is_answered(alloc: Global, (document, status, _): &Case) -> bool {
 }
 
 #[test]
-fn answers(rt: HostRuntime) {
+fn runs_answer_each_document(rt: HostRuntime) {
     for case in CASES.iter() {
         assert!(rt; is_answered(rt.alloc(), case), "{}", case.0);
     }
@@ -161,7 +161,7 @@ fn is_collected(alloc: Global, way: Way, (document, status, text): &Case) -> boo
 }
 
 #[test]
-fn collected_lines(rt: HostRuntime) {
+fn reports_are_the_lines(rt: HostRuntime) {
     for case in CASES.iter() {
         assert!(rt; is_collected(rt.alloc(), Way::Bytes, case), "{}", case.0);
         assert!(rt; is_collected(rt.alloc(), Way::Text, case), "{}", case.0);
@@ -195,7 +195,7 @@ fn is_no_document(alloc: Global, value: Value) -> bool {
 }
 
 #[test]
-fn values(rt: HostRuntime) -> Result<(), Fail> {
+fn null_is_no_document(rt: HostRuntime) -> Result<(), Fail> {
     let asset = Value::from_str(rt.alloc(), r#"{"asset":{"version":"2.0"}}"#)?;
     assert!(rt; is_read(rt.alloc(), asset));
     assert!(rt; is_no_document(rt.alloc(), Value::Null));

@@ -14,14 +14,14 @@ fn is_too_long<R: ByteIn>(alloc: Global, reader: &mut R, bytes: u64, calls: u64)
 
 #[test]
 fn documents_within_limits(rt: HostRuntime) {
-    let mut reader = Watched::new(Giver::new(NEW, 0));
+    let mut reader = Watched::new(Giver::new(NEW, None));
     assert!(rt; Root::from_reader_within(rt.alloc(), &mut reader, 27, 28).is_ok());
 }
 
 #[test]
 fn documents_past_a_limit(rt: HostRuntime) {
     for (bytes, calls) in [(26, 28), (27, 27), (27, 0)] {
-        let mut reader = Watched::new(Giver::new(NEW, 0));
+        let mut reader = Watched::new(Giver::new(NEW, None));
         assert!(rt;
             is_too_long(rt.alloc(), &mut reader, bytes, calls),
             "{bytes} {calls}"

@@ -23,7 +23,7 @@ fn failed_is_printed(rt: HostRuntime) -> Result<(), Fail> {
 
 /// Whether a run over a reader that fails at a call says so, and tells nothing of the document.
 fn is_refused_at(alloc: Global, fails_at: usize) -> bool {
-    let mut reader = Watched::new(Giver::new(NEW, fails_at));
+    let mut reader = Watched::new(Giver::new(NEW, Some(fails_at)));
     let mut writer = Watched::new(Vec::new(alloc));
     run(alloc, &mut reader, &mut writer) == 4
         && reader.failed()
@@ -32,7 +32,7 @@ fn is_refused_at(alloc: Global, fails_at: usize) -> bool {
 
 /// Whether reading from a reader that fails at a call is a failed read.
 fn is_failed_at(alloc: Global, fails_at: usize) -> bool {
-    let mut reader = Watched::new(Giver::new(NEW, fails_at));
+    let mut reader = Watched::new(Giver::new(NEW, Some(fails_at)));
     matches!(Root::from_reader(alloc, &mut reader), Err(Error::Read))
 }
 
@@ -46,7 +46,7 @@ fn readers_that_fail(rt: HostRuntime) {
 
 #[test]
 fn readers_that_end(rt: HostRuntime) {
-    let mut reader = Watched::new(Giver::new(NEW, 0));
+    let mut reader = Watched::new(Giver::new(NEW, None));
     assert!(rt; Root::from_reader(rt.alloc(), &mut reader).is_ok());
     assert!(rt; !reader.failed());
     assert!(rt; matches!(reader.read(&mut [0]), Ok(0)));
@@ -54,7 +54,7 @@ fn readers_that_end(rt: HostRuntime) {
 
 /// Whether a run that may write less than is due writes the front that there is room for.
 fn is_cut_off(alloc: Global, document: &'static str, due: &[u8], room: usize) -> bool {
-    let mut reader = Watched::new(Giver::new(document, 0));
+    let mut reader = Watched::new(Giver::new(document, None));
     let mut writer = Watched::new(Taker {
         taken: Vec::new(alloc),
         room,
@@ -81,7 +81,7 @@ fn writers_that_are_full(rt: HostRuntime) {
 
 #[test]
 fn writers_that_take_nothing(rt: HostRuntime) {
-    let mut reader = Watched::new(Giver::new(NEW, 0));
+    let mut reader = Watched::new(Giver::new(NEW, None));
     let mut writer = Watched::new(Wall);
     assert!(rt; run(rt.alloc(), &mut reader, &mut writer) == 4);
     assert!(rt; writer.failed());
@@ -99,7 +99,7 @@ struct Running {
 impl Tried for Running {
     fn attempt(&mut self, alloc: Global) -> End {
         self.written.clear();
-        let mut reader = Watched::new(Giver::new(self.document, 0));
+        let mut reader = Watched::new(Giver::new(self.document, None));
         let mut writer = Watched::new(mem::replace(&mut self.written, Vec::new(alloc)));
         let status = run(alloc, &mut reader, &mut writer);
         let is_cut_off = writer.failed();

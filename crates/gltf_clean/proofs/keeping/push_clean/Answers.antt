@@ -17,8 +17,8 @@ use Rattle.gltf_clean.proofs.Pushing.{room_where_made, room_without_memory, told
 use Rattle.gltf_clean.proofs.Sinking.{no_error}
 use Rattle.gltf_clean.proofs.keeping.push_clean.Goals as goal
 
-pub returns-in-None : goal.returns-in-None
-returns-in-None g c =
+pub returns-in-None-clause-pushed : goal.returns-in-None-clause-pushed
+returns-in-None-clause-pushed g c =
     let named = g.T.Listed.list in
     let old = c.args.root.now in
     let xs = g.T.RootItem.items old in
@@ -33,8 +33,8 @@ returns-in-None g c =
       left.1,
     )
 
-pub returns-in-Some : goal.returns-in-Some
-returns-in-Some g c =
+pub returns-in-Some-clause-pushed : goal.returns-in-Some-clause-pushed
+returns-in-Some-clause-pushed g c =
     let named = g.T.Listed.list in
     let old = c.args.root.now in
     let xs = g.T.RootItem.items old in
@@ -50,8 +50,8 @@ returns-in-Some g c =
       c.taken_back.ensures.document ∙ ap (undone named c.mark_of-mark.result) left.1 ∙ ap (λ m. undone named m (pushed named x (root_tree old))) c.mark_of-mark.ensures ∙ taken_back old named x,
     )
 
-pub returns-in-Err-Full : goal.returns-in-Err-Full
-returns-in-Err-Full g c =
+pub returns-in-Err-Full-clause-pushed : goal.returns-in-Err-Full-clause-pushed
+returns-in-Err-Full-clause-pushed g c =
     let named = g.T.Listed.list in
     let old = c.args.root.now in
     let count = count_in-items named (root_tree old) g.T.RootItem.tree (g.T.RootItem.items old) (g.met.T.RootItem.lists old) in
@@ -59,8 +59,8 @@ returns-in-Err-Full g c =
     let back = subst (IsHandedBack c.args.item) is c.in-Err-Full.ensures.handed_back in
     rw is (subst (λ n. 2 ^ 32 - 1 ≤ n) (sym count) (c.in-Err-Full.ensures.full.0 (ap Err is ∙ ap (λ x. Err (Full x)) back)), back, c.in-Err-Full.ensures.unchanged)
 
-pub returns-in-Err-Memory : goal.returns-in-Err-Memory
-returns-in-Err-Memory g c =
+pub returns-in-Err-Memory-clause-pushed : goal.returns-in-Err-Memory-clause-pushed
+returns-in-Err-Memory-clause-pushed g c =
     let named = g.T.Listed.list in
     let old = c.args.root.now in
     let count = count_in-items named (root_tree old) g.T.RootItem.tree (g.T.RootItem.items old) (g.met.T.RootItem.lists old) in

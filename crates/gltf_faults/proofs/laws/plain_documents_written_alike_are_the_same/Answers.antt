@@ -1,5 +1,6 @@
 -- Both are what is read of the JSON.
-use Rattle.gltf_schema.proofs.ReadBack.{inside, read_back}
+use Rattle.std.proofs.lemmas.Option.{same_Some}
+use Rattle.gltf_schema.proofs.ReadBack.{read_back}
 use Rattle.gltf_root.specs.RootTable.{root_kind, root_sound}
 use Rattle.gltf_root.specs.RootTrees.{root_tree}
 use Rattle.std.proofs.Common.{sym, ◌∙◌}
@@ -7,4 +8,4 @@ use Rattle.gltf_faults.proofs.laws.plain_documents_written_alike_are_the_same.Go
 
 pub returns : goal.returns
 returns c r s d r-plain s-plain r-written s-written =
-    inside (root_tree r) (root_tree s) (sym (read_back root_kind (root_tree r) d root_sound r-plain r-written) ∙ read_back root_kind (root_tree s) d root_sound s-plain s-written)
+    same_Some (root_tree r) (root_tree s) (sym (read_back root_kind (root_tree r) d root_sound r-plain r-written) ∙ read_back root_kind (root_tree s) d root_sound s-plain s-written)

@@ -1,4 +1,5 @@
 use Rattle.std.proofs.Common.{◌≡◌, map, string_bytes, sym, ap, ◌∙◌, subst, rules}
+use Rattle.std.proofs.lemmas.Bool.{or_right}
 use Rattle.std.proofs.lemmas.Result.{err_from_is_err_and}
 use Rattle.serde_json.specs.Data.{put}
 use Rattle.serde_json.specs.View.{view, members_view}
@@ -11,7 +12,6 @@ use Rattle.gltf_schema.specs.Invalid.{is_unknown, any_unknown}
 use Rattle.gltf_schema.specs.Outcome.{Withholds}
 use Rattle.gltf_schema.proofs.Entries.{in_order}
 use Rattle.gltf_schema.proofs.Putting.{entry_written, key_withheld}
-use Rattle.gltf_schema.proofs.PuttingIn.{or_right}
 use Rattle.gltf_schema.proofs.attributes.encode_entries.Goals as goal
 
 pub loop-key-preserved : goal.loop-key-preserved

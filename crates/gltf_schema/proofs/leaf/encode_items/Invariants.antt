@@ -1,10 +1,11 @@
 use Rattle.std.proofs.Common.{◌≡◌, map, drop}
+use Rattle.serde_json.specs.Data.{item}
 use Rattle.serde_json.specs.View.{view}
 use Rattle.gltf_schema.specs.Tree.{trees}
 use Rattle.gltf_schema.specs.Write.{write, write_items}
-use Rattle.gltf_schema.proofs.Putting.{behind}
+use Rattle.gltf_schema.proofs.Items.{onto}
 use Rattle.gltf_schema.proofs.leaf.encode_items.Given as goal
 
 abbrev pub invariant-loop-item : goal.invariant-loop-item
 invariant-loop-item g l =
-    behind (map view l.written.items) (write_items (write g.T.Schema.kind) (trees (map g.T.Schema.tree (drop l.item-index l.items)))) ≡ write_items (write g.T.Schema.kind) (trees (map g.T.Schema.tree l.items))
+    onto item (map view l.written.items) (write_items (write g.T.Schema.kind) (trees (map g.T.Schema.tree (drop l.item-index l.items)))) ≡ write_items (write g.T.Schema.kind) (trees (map g.T.Schema.tree l.items))

@@ -1,4 +1,4 @@
--- The value that is printed reads back, and so do its text.
+-- The value that is printed reads back, and so does its text.
 use Rattle.std.proofs.Common.{string_bytes}
 use Rattle.std.proofs.lemmas.Str.{IsUtf8-string_bytes}
 use Rattle.serde_json.specs.View.{view}

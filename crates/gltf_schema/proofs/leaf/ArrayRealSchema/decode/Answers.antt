@@ -1,3 +1,4 @@
+use Rattle.std.proofs.Common.{rules}
 use Rattle.std.proofs.lemmas.Result.{err_from_is_err_and}
 use Rattle.serde_json.specs.View.{items_view}
 use Rattle.serde_json.proofs.Views.{view-Array}
@@ -11,6 +12,6 @@ returns-in_err-found-clause-by_table g c =
 
 pub returns-clause-by_table : goal.returns-clause-by_table
 returns-clause-by_table g c =
-    rw (c.ok_or.ensures.value, c.ok.ensures.value, c.in-Array.is, view-Array c.in-Array.items)
+    rw (c.in-Array.is, view-Array c.in-Array.items)
     (array_read _ (items_view c.in-Array.items.items) c.in_ok-found.found.items _ c.in_ok-found.ensures
-    (array_filled c.try_from.result c.in_ok-found.found.items _ c.in_ok-found.found (rw (← c.in_ok-found.found.ok.0) c.try_from.ensures)))
+    (array_filled _ c.try_from.result c.map_err.result c.in_ok-found.found.items _ c.in_ok-found.found (λ v e made. search (rules, made)) (rw (← c.in_ok-found.found.ok.0) c.try_from.ensures) c.map_err.ensures.cases))

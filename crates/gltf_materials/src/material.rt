@@ -150,21 +150,35 @@ impl Object for Material {
 }
 
 /// The parameters of the metallic-roughness model.
-// What takes longest to drop stands last (docs/DECISIONS.md).
-#[derive(Clone, Debug, Drop)]
+#[derive(Clone, Debug)]
 pub struct PbrMetallicRoughness {
+    /// The factors of the base color.
+    pub base_color_factor: PbrBaseColorFactor,
+    /// The base color.
+    pub base_color_texture: Option<Info>,
     /// The factor of how metallic the surface is.
     pub metallic_factor: StrengthFactor,
     /// The factor of how rough the surface is.
     pub roughness_factor: StrengthFactor,
-    /// The factors of the base color.
-    pub base_color_factor: PbrBaseColorFactor,
-    pub extensions: Option<extensions::material::PbrMetallicRoughness>,
-    pub extras: Extras,
-    /// The base color.
-    pub base_color_texture: Option<Info>,
     /// How rough the surface is, in the green channel, and how metallic, in the blue one.
     pub metallic_roughness_texture: Option<Info>,
+    pub extensions: Option<extensions::material::PbrMetallicRoughness>,
+    pub extras: Extras,
+}
+
+// One call drops it, wherever it is held (docs/DECISIONS.md).
+impl Drop for PbrMetallicRoughness {
+    fn drop(self) {
+        let PbrMetallicRoughness {
+            base_color_factor: _,
+            base_color_texture: _,
+            metallic_factor: _,
+            roughness_factor: _,
+            metallic_roughness_texture: _,
+            extensions: _,
+            extras: _,
+        } = self;
+    }
 }
 
 impl PbrMetallicRoughness {
@@ -241,7 +255,7 @@ impl Blank for PbrMetallicRoughness {
 }
 
 /// A reference to a texture of normals.
-#[derive(Clone, Debug, Drop)]
+#[derive(Clone, Debug)]
 pub struct NormalTexture {
     /// The texture.
     pub index: Index<Texture>,
@@ -251,6 +265,19 @@ pub struct NormalTexture {
     pub tex_coord: u32,
     pub extensions: Option<extensions::material::NormalTexture>,
     pub extras: Extras,
+}
+
+// One call drops it, wherever it is held (docs/DECISIONS.md).
+impl Drop for NormalTexture {
+    fn drop(self) {
+        let NormalTexture {
+            index: _,
+            scale: _,
+            tex_coord: _,
+            extensions: _,
+            extras: _,
+        } = self;
+    }
 }
 
 impl Object for NormalTexture {
@@ -294,7 +321,7 @@ impl Object for NormalTexture {
 }
 
 /// A reference to a texture of occlusion.
-#[derive(Clone, Debug, Drop)]
+#[derive(Clone, Debug)]
 pub struct OcclusionTexture {
     /// The texture.
     pub index: Index<Texture>,
@@ -304,6 +331,19 @@ pub struct OcclusionTexture {
     pub tex_coord: u32,
     pub extensions: Option<extensions::material::OcclusionTexture>,
     pub extras: Extras,
+}
+
+// One call drops it, wherever it is held (docs/DECISIONS.md).
+impl Drop for OcclusionTexture {
+    fn drop(self) {
+        let OcclusionTexture {
+            index: _,
+            strength: _,
+            tex_coord: _,
+            extensions: _,
+            extras: _,
+        } = self;
+    }
 }
 
 impl Object for OcclusionTexture {

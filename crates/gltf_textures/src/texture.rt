@@ -194,7 +194,7 @@ impl Object for Texture {
 }
 
 /// A reference to a texture.
-#[derive(Clone, Debug, Drop)]
+#[derive(Clone, Debug)]
 pub struct Info {
     /// The texture.
     pub index: Index<Texture>,
@@ -202,6 +202,18 @@ pub struct Info {
     pub tex_coord: u32,
     pub extensions: Option<extensions::texture::Info>,
     pub extras: Extras,
+}
+
+// One call drops it, wherever it is held (docs/DECISIONS.md).
+impl Drop for Info {
+    fn drop(self) {
+        let Info {
+            index: _,
+            tex_coord: _,
+            extensions: _,
+            extras: _,
+        } = self;
+    }
 }
 
 impl Object for Info {

@@ -18,7 +18,7 @@ use serde_json::{Map, Value};
 use std::alloc::Global;
 
 /// The extensions of a material.
-#[derive(Clone, Debug, Drop)]
+#[derive(Clone, Debug)]
 pub struct Material {
     /// `KHR_materials_pbrSpecularGlossiness`: the specular-glossiness model in place of the
     /// metallic-roughness one.
@@ -37,6 +37,22 @@ pub struct Material {
     pub emissive_strength: Option<EmissiveStrength>,
     /// The extensions that are not known.
     pub others: Map<String, Value>,
+}
+
+// One call drops it, wherever it is held (docs/DECISIONS.md).
+impl Drop for Material {
+    fn drop(self) {
+        let Material {
+            pbr_specular_glossiness: _,
+            unlit: _,
+            transmission: _,
+            volume: _,
+            specular: _,
+            ior: _,
+            emissive_strength: _,
+            others: _,
+        } = self;
+    }
 }
 
 impl Object for Material {
@@ -213,22 +229,36 @@ impl OcclusionTexture {
 }
 
 /// The parameters of the specular-glossiness model (`KHR_materials_pbrSpecularGlossiness`).
-// What takes longest to drop stands last (docs/DECISIONS.md).
-#[derive(Clone, Debug, Drop)]
+#[derive(Clone, Debug)]
 pub struct PbrSpecularGlossiness {
-    /// The factor of how glossy the surface is.
-    pub glossiness_factor: StrengthFactor,
-    /// The members that are not known.
-    pub others: Map<String, Value>,
-    /// The factors of the specular color.
-    pub specular_factor: PbrSpecularFactor,
     /// The factors of the diffuse color.
     pub diffuse_factor: PbrDiffuseFactor,
-    pub extras: Extras,
     /// The diffuse color.
     pub diffuse_texture: Option<Info>,
+    /// The factors of the specular color.
+    pub specular_factor: PbrSpecularFactor,
+    /// The factor of how glossy the surface is.
+    pub glossiness_factor: StrengthFactor,
     /// The specular color, and in the alpha channel how glossy the surface is.
     pub specular_glossiness_texture: Option<Info>,
+    /// The members that are not known.
+    pub others: Map<String, Value>,
+    pub extras: Extras,
+}
+
+// One call drops it, wherever it is held (docs/DECISIONS.md).
+impl Drop for PbrSpecularGlossiness {
+    fn drop(self) {
+        let PbrSpecularGlossiness {
+            diffuse_factor: _,
+            diffuse_texture: _,
+            specular_factor: _,
+            glossiness_factor: _,
+            specular_glossiness_texture: _,
+            others: _,
+            extras: _,
+        } = self;
+    }
 }
 
 impl Object for PbrSpecularGlossiness {
@@ -345,14 +375,24 @@ impl Unlit {
 }
 
 /// How light passes through a surface (`KHR_materials_transmission`).
-// What takes longest to drop stands last (docs/DECISIONS.md).
-#[derive(Clone, Debug, Drop)]
+#[derive(Clone, Debug)]
 pub struct Transmission {
     /// The part of the light that passes.
     pub transmission_factor: TransmissionFactor,
-    pub extras: Extras,
     /// The part of the light that passes, in the red channel.
     pub transmission_texture: Option<Info>,
+    pub extras: Extras,
+}
+
+// One call drops it, wherever it is held (docs/DECISIONS.md).
+impl Drop for Transmission {
+    fn drop(self) {
+        let Transmission {
+            transmission_factor: _,
+            transmission_texture: _,
+            extras: _,
+        } = self;
+    }
 }
 
 impl Object for Transmission {
@@ -408,18 +448,30 @@ impl Transmission {
 pub struct TransmissionFactor(pub Option<Real>);
 
 /// The body that a surface bounds (`KHR_materials_volume`).
-// What takes longest to drop stands last (docs/DECISIONS.md).
-#[derive(Clone, Debug, Drop)]
+#[derive(Clone, Debug)]
 pub struct Volume {
     /// How thick the body is.
     pub thickness_factor: ThicknessFactor,
+    /// How thick the body is, in the green channel.
+    pub thickness_texture: Option<Info>,
     /// How far light goes in the body before it is absorbed, on average.
     pub attenuation_distance: AttenuationDistance,
     /// The color that white light has at that distance.
     pub attenuation_color: AttenuationColor,
     pub extras: Extras,
-    /// How thick the body is, in the green channel.
-    pub thickness_texture: Option<Info>,
+}
+
+// One call drops it, wherever it is held (docs/DECISIONS.md).
+impl Drop for Volume {
+    fn drop(self) {
+        let Volume {
+            thickness_factor: _,
+            thickness_texture: _,
+            attenuation_distance: _,
+            attenuation_color: _,
+            extras: _,
+        } = self;
+    }
 }
 
 impl Object for Volume {
@@ -491,18 +543,30 @@ pub struct AttenuationDistance(pub Option<Real>);
 pub struct AttenuationColor(pub Option<[Real; 3]>);
 
 /// How strong the specular reflection is, and its color (`KHR_materials_specular`).
-// What takes longest to drop stands last (docs/DECISIONS.md).
-#[derive(Clone, Debug, Drop)]
+#[derive(Clone, Debug)]
 pub struct Specular {
     /// How strong the reflection is.
     pub specular_factor: SpecularFactor,
-    /// The factors of the color of the reflection.
-    pub specular_color_factor: SpecularColorFactor,
-    pub extras: Extras,
     /// How strong the reflection is, in the alpha channel.
     pub specular_texture: Option<Info>,
+    /// The factors of the color of the reflection.
+    pub specular_color_factor: SpecularColorFactor,
     /// The color of the reflection.
     pub specular_color_texture: Option<Info>,
+    pub extras: Extras,
+}
+
+// One call drops it, wherever it is held (docs/DECISIONS.md).
+impl Drop for Specular {
+    fn drop(self) {
+        let Specular {
+            specular_factor: _,
+            specular_texture: _,
+            specular_color_factor: _,
+            specular_color_texture: _,
+            extras: _,
+        } = self;
+    }
 }
 
 impl Object for Specular {

@@ -5,10 +5,11 @@ use Rattle.gltf_choices.specs.SceneChoices.{interpolation_spelling, interpolatio
 use Rattle.gltf_checked.specs.declared.choice.Form.TheVariants as form
 use Rattle.gltf_choices.specs.declared.animation.Interpolation.TheVariants as interpolation
 use Rattle.gltf_schema.specs.Tree.{Tree, chosen, list, end}
-use Rattle.gltf_schema.specs.Kind.{required, optional, always, unless, Kind, IndexInto, ChannelSampler, Text, ListOf, Object, ObjectName, Rows, ◌◂◌}
+use Rattle.gltf_schema.specs.Kind.{required, optional, always, unless, Kind, IndexInto, ChannelSampler, Text, ListOf, Object, Rows, ◌◂◌, no_rule, holds_samplers}
 use Rattle.gltf_schema.specs.Leaves.{choice_of}
 use Rattle.gltf_schema.specs.Extensions.{kept_extensions, dropped_extensions, extensions_and_extras}
-use Rattle.gltf_schema.specs.Plain.{are_sound}
+use Rattle.gltf_schema.specs.Sound.{is_sound}
+use Rattle.gltf_schema.specs.Height.{IsHigh}
 
 abbrev pub interpolation_kind : Kind
 interpolation_kind = choice_of form.Name interpolation_spelling interpolations
@@ -25,54 +26,72 @@ animation_sampler_rows =
     (codes "input", required, IndexInto accessors)
     ◂ (codes "interpolation", always linear, interpolation_kind)
     ◂ (codes "output", required, IndexInto accessors)
-    ◂ extensions_and_extras (dropped_extensions ObjectName.animation_sampler)
+    ◂ extensions_and_extras dropped_extensions
 
 abbrev pub animation_sampler_kind : Kind
-animation_sampler_kind = Object ObjectName.animation_sampler animation_sampler_rows false
+animation_sampler_kind = Object no_rule animation_sampler_rows false
 
 unfoldable pub animation_target_rows : Rows
 animation_target_rows =
     (codes "node", required, IndexInto nodes)
     ◂ (codes "path", required, property_kind)
-    ◂ extensions_and_extras (dropped_extensions ObjectName.animation_target)
+    ◂ extensions_and_extras dropped_extensions
 
 abbrev pub animation_target_kind : Kind
-animation_target_kind = Object ObjectName.animation_target animation_target_rows false
+animation_target_kind = Object no_rule animation_target_rows false
 
 -- a channel's sampler is one of the same animation
 unfoldable pub animation_channel_rows : Rows
 animation_channel_rows =
     (codes "sampler", required, ChannelSampler)
     ◂ (codes "target", required, animation_target_kind)
-    ◂ extensions_and_extras (dropped_extensions ObjectName.animation_channel)
+    ◂ extensions_and_extras dropped_extensions
 
 abbrev pub animation_channel_kind : Kind
-animation_channel_kind = Object ObjectName.animation_channel animation_channel_rows false
+animation_channel_kind = Object no_rule animation_channel_rows false
 
 unfoldable pub animation_rows : Rows
 animation_rows =
     (codes "samplers", unless (list end), ListOf animation_sampler_kind)
     ◂ (codes "channels", unless (list end), ListOf animation_channel_kind)
     ◂ (codes "name", optional, Text)
-    ◂ extensions_and_extras (kept_extensions ObjectName.animation)
+    ◂ extensions_and_extras kept_extensions
 
 abbrev pub animation_kind : Kind
-animation_kind = Object ObjectName.animation animation_rows false
+animation_kind = Object holds_samplers animation_rows false
 
--- ---- the rows are sound
+-- ---- each kind is sound
 
-pub animation_sampler_sound : are_sound animation_sampler_rows ≡ true
+pub animation_sampler_sound : is_sound animation_sampler_kind ≡ true
 unfolding animation_sampler_rows
 animation_sampler_sound = refl
 
-pub animation_target_sound : are_sound animation_target_rows ≡ true
+pub animation_target_sound : is_sound animation_target_kind ≡ true
 unfolding animation_target_rows
 animation_target_sound = refl
 
-pub animation_channel_sound : are_sound animation_channel_rows ≡ true
+pub animation_channel_sound : is_sound animation_channel_kind ≡ true
 unfolding animation_channel_rows
 animation_channel_sound = rw animation_target_sound refl
 
-pub animation_sound : are_sound animation_rows ≡ true
+pub animation_sound : is_sound animation_kind ≡ true
 unfolding animation_rows
 animation_sound = rw (animation_sampler_sound, animation_channel_sound) refl
+
+-- ---- how far down something can be wrong
+
+pub animation_sampler_height : IsHigh 1 animation_sampler_kind
+unfolding animation_sampler_rows
+animation_sampler_height = (refl, refl)
+
+pub animation_target_height : IsHigh 1 animation_target_kind
+unfolding animation_target_rows
+animation_target_height = (refl, refl)
+
+pub animation_channel_height : IsHigh 2 animation_channel_kind
+unfolding animation_channel_rows
+animation_channel_height = rw (animation_target_height.0, animation_target_height.1) (refl, refl)
+
+pub animation_height : IsHigh 4 animation_kind
+unfolding animation_rows
+animation_height = rw (animation_sampler_height.0, animation_sampler_height.1, animation_channel_height.0, animation_channel_height.1) (refl, refl)

@@ -1,10 +1,11 @@
 //! Animations (glTF 2.0, sections 5.5 to 5.8).
 
 ghost use Rattle.std.specs.Prelude.{false};
+ghost use Rattle.std.proofs.Common.{lit≤};
 ghost use Rattle.serde_json.specs.Data.{no_members};
 ghost use Rattle.gltf_paths.specs.Lists.{animations};
-ghost use Rattle.gltf_schema.specs.Kind.{ObjectName};
-ghost use Rattle.gltf_animations.specs.AnimationTable.{animation_rows, animation_sound, animation_channel_rows, animation_channel_sound, animation_target_rows, animation_target_sound, animation_sampler_rows, animation_sampler_sound};
+ghost use Rattle.gltf_schema.specs.Kind.{holds_samplers};
+ghost use Rattle.gltf_animations.specs.AnimationTable.{animation_rows, animation_sound, animation_height, animation_channel_rows, animation_channel_sound, animation_channel_height, animation_target_rows, animation_target_sound, animation_target_height, animation_sampler_rows, animation_sampler_sound, animation_sampler_height};
 ghost use Rattle.gltf_animations.specs.AnimationTrees.{animation_members, animation_channel_members, animation_target_members, animation_sampler_members};
 
 use crate::extensions;
@@ -48,7 +49,7 @@ impl Listed for Animation {
 }
 
 impl Object for Animation {
-    ghost named = { ObjectName.animation };
+    ghost rule = { holds_samplers };
 
     ghost rows = { animation_rows };
 
@@ -59,6 +60,10 @@ impl Object for Animation {
     ghost unknown = { λ _. no_members };
 
     ghost sound = { animation_sound };
+
+    ghost height = { 4 };
+
+    ghost low = { (animation_height.1, lit≤ tt) };
 
     fn decode_members(alloc: Global, found: Map<String, Value>) -> Result<Animation, Error> {
         let mut reading = Reading::from_members(alloc, found);
@@ -99,8 +104,6 @@ pub struct Channel {
 }
 
 impl Object for Channel {
-    ghost named = { ObjectName.animation_channel };
-
     ghost rows = { animation_channel_rows };
 
     ghost keeps = { false };
@@ -110,6 +113,10 @@ impl Object for Channel {
     ghost unknown = { λ _. no_members };
 
     ghost sound = { animation_channel_sound };
+
+    ghost height = { 2 };
+
+    ghost low = { (animation_channel_height.1, lit≤ tt) };
 
     fn decode_members(alloc: Global, found: Map<String, Value>) -> Result<Channel, Error> {
         let mut reading = Reading::from_members(alloc, found);
@@ -146,8 +153,6 @@ pub struct Target {
 }
 
 impl Object for Target {
-    ghost named = { ObjectName.animation_target };
-
     ghost rows = { animation_target_rows };
 
     ghost keeps = { false };
@@ -157,6 +162,10 @@ impl Object for Target {
     ghost unknown = { λ _. no_members };
 
     ghost sound = { animation_target_sound };
+
+    ghost height = { 1 };
+
+    ghost low = { (animation_target_height.1, lit≤ tt) };
 
     fn decode_members(alloc: Global, found: Map<String, Value>) -> Result<Target, Error> {
         let mut reading = Reading::from_members(alloc, found);
@@ -207,8 +216,6 @@ pub struct Sampler {
 }
 
 impl Object for Sampler {
-    ghost named = { ObjectName.animation_sampler };
-
     ghost rows = { animation_sampler_rows };
 
     ghost keeps = { false };
@@ -218,6 +225,10 @@ impl Object for Sampler {
     ghost unknown = { λ _. no_members };
 
     ghost sound = { animation_sampler_sound };
+
+    ghost height = { 1 };
+
+    ghost low = { (animation_sampler_height.1, lit≤ tt) };
 
     fn decode_members(alloc: Global, found: Map<String, Value>) -> Result<Sampler, Error> {
         let mut reading = Reading::from_members(alloc, found);

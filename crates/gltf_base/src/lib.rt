@@ -3,7 +3,9 @@
 //! format.
 #![tactic(auto)]
 
-pub use gltf_paths::{Index, IndexTo, KeyStep, Listed, Names, Path, PushError, Real, Step, Steps};
+pub use gltf_paths::{
+    Error, Index, IndexTo, KeyStep, Listed, Names, Path, PushError, Real, Step, Steps,
+};
 
 /// The choices of accessors.
 pub mod accessor {
@@ -56,6 +58,74 @@ pub mod extensions {
 /// The media types of images.
 pub mod image {
     pub use gltf_choices::image::VALID_MIME_TYPES;
+}
+
+/// What holds of the definitions that contracts of these crates cite, as contracts of functions that
+/// do nothing.
+pub mod laws {
+    pub use gltf_checked::choice::spellings_are_read_back;
+    pub use gltf_checked::laws::{
+        items_are_before_invalid, items_are_equal_as_they_are, orders_agree_with_equality,
+        semantics_are_ordered_as_keys, worked_names,
+    };
+    pub use gltf_checked::mesh::texts_are_read_back;
+    pub use gltf_choices::laws::{
+        equal_light_types_hash_alike, items_are_equal_by_spelling, worked_numbers,
+    };
+    pub use gltf_paths::laws::{
+        errors_are_ordered_by_rank, indexes_are_compared_as_numbers, sizes_are_compared_as_numbers,
+        worked_paths,
+    };
+
+    /// That the constants of accessors list their choices.
+    pub mod accessor {
+        pub use gltf_choices::accessor::constants_are_listed;
+    }
+
+    /// That the constants of animations list their choices.
+    pub mod animation {
+        pub use gltf_choices::animation::constants_are_listed;
+    }
+
+    /// That the constants of buffers list their choices.
+    pub mod buffer {
+        pub use gltf_choices::buffer::constants_are_listed;
+    }
+
+    /// That the constants of cameras list their choices.
+    pub mod camera {
+        pub use gltf_choices::camera::constants_are_listed;
+    }
+
+    /// That the constants of extensions list their names.
+    pub mod extensions {
+        pub use gltf_choices::extensions::constants_are_listed;
+    }
+
+    /// That the constants of images list their media types.
+    pub mod image {
+        pub use gltf_choices::image::constants_are_listed;
+    }
+
+    /// That the constants of lights list their choices.
+    pub mod light {
+        pub use gltf_choices::extensions::scene::khr_lights_punctual::constants_are_listed;
+    }
+
+    /// That the constants of materials list their choices.
+    pub mod material {
+        pub use gltf_choices::material::constants_are_listed;
+    }
+
+    /// That the constants of meshes list their choices.
+    pub mod mesh {
+        pub use gltf_choices::mesh::constants_are_listed;
+    }
+
+    /// That the constants of textures list their choices.
+    pub mod texture {
+        pub use gltf_choices::texture::constants_are_listed;
+    }
 }
 
 /// The choices of materials.

@@ -1,8 +1,7 @@
 //! What can be pushed onto a root without reports.
 
-ghost use Rattle.std.specs.Prelude.{◌≡◌, ◌≤◌, Some, refl};
-ghost use Rattle.std.proofs.Common.{lit≤};
-ghost use Rattle.gltf_schema.specs.Tree.{object};
+ghost use Rattle.std.specs.Prelude.{◌≡◌, refl};
+ghost use Rattle.std.proofs.Common.{◌∙◌};
 ghost use Rattle.gltf_root.specs.Pushed.{item_kind};
 
 use gltf_animations::animation::Animation;
@@ -18,153 +17,60 @@ use gltf_nodes::scene::{Node, Scene};
 use gltf_nodes::skin::Skin;
 use gltf_root::root::{RootItem, TopLevel};
 use gltf_textures::texture::{Sampler, Texture};
-use gltf_validation::validation::Validate;
+use gltf_validation::validation::TableObject;
 
-/// What a root lists, and the table tells what is wrong with: each type that `RootItem` is for.
-pub trait Item: Validate + RootItem {
-    // The table tells of an item what it tells of those in its list.
-    ghost kinded: { Self.kind ≡ Some (item_kind Self.list) };
+/// What a root lists: each type that `RootItem` is for.
+pub trait Item: TableObject + RootItem {
+    // The table has the type by the kind of the items of its list.
+    ghost kinded: { Self.kind ≡ item_kind Self.list };
 
-    ghost seen: { (item : Self) → Self.Validate.tree item ≡ Self.RootItem.tree item };
-
-    // No item is deeper than a path is long.
-    ghost shallow: { Self.depth ≤ 10 };
+    // It has an item by the tree by which the list has it.
+    ghost seen: { (item : Self) → Self.Visited.tree item ≡ Self.RootItem.tree item };
 }
 
 /// What a list of the document itself holds: `Item` follows (docs/DECISIONS.md).
-pub trait TopLevelItem: Validate + TopLevel {
-    ghost kinded: { Self.kind ≡ Some (item_kind Self.list) };
-
-    ghost seen: { (item : Self)
-        → Self.Validate.tree item ≡ object (Self.members item) (Self.unknown item) };
-
-    ghost shallow: { Self.depth ≤ 10 };
-}
+pub trait TopLevelItem: TableObject + TopLevel {}
 
 impl<T: TopLevelItem> Item for T {
-    ghost kinded = { T.kinded };
+    ghost kinded = { T.same_kind ∙ T.kinded };
 
-    ghost seen = { T.seen };
-
-    ghost shallow = { T.shallow };
+    ghost seen = { T.same_tree };
 }
 
-impl TopLevelItem for Accessor {
-    ghost kinded = { refl };
+impl TopLevelItem for Accessor {}
 
-    ghost seen = { λ _. refl };
+impl TopLevelItem for Animation {}
 
-    ghost shallow = { lit≤ tt };
-}
+impl TopLevelItem for Buffer {}
 
-impl TopLevelItem for Animation {
-    ghost kinded = { refl };
+impl TopLevelItem for View {}
 
-    ghost seen = { λ _. refl };
+impl TopLevelItem for Camera {}
 
-    ghost shallow = { lit≤ tt };
-}
+impl TopLevelItem for Image {}
 
-impl TopLevelItem for Buffer {
-    ghost kinded = { refl };
+impl TopLevelItem for Material {}
 
-    ghost seen = { λ _. refl };
+impl TopLevelItem for Mesh {}
 
-    ghost shallow = { lit≤ tt };
-}
+impl TopLevelItem for Node {}
 
-impl TopLevelItem for View {
-    ghost kinded = { refl };
+impl TopLevelItem for Sampler {}
 
-    ghost seen = { λ _. refl };
+impl TopLevelItem for Scene {}
 
-    ghost shallow = { lit≤ tt };
-}
+impl TopLevelItem for Skin {}
 
-impl TopLevelItem for Camera {
-    ghost kinded = { refl };
-
-    ghost seen = { λ _. refl };
-
-    ghost shallow = { lit≤ tt };
-}
-
-impl TopLevelItem for Image {
-    ghost kinded = { refl };
-
-    ghost seen = { λ _. refl };
-
-    ghost shallow = { lit≤ tt };
-}
-
-impl TopLevelItem for Material {
-    ghost kinded = { refl };
-
-    ghost seen = { λ _. refl };
-
-    ghost shallow = { lit≤ tt };
-}
-
-impl TopLevelItem for Mesh {
-    ghost kinded = { refl };
-
-    ghost seen = { λ _. refl };
-
-    ghost shallow = { lit≤ tt };
-}
-
-impl TopLevelItem for Node {
-    ghost kinded = { refl };
-
-    ghost seen = { λ _. refl };
-
-    ghost shallow = { lit≤ tt };
-}
-
-impl TopLevelItem for Sampler {
-    ghost kinded = { refl };
-
-    ghost seen = { λ _. refl };
-
-    ghost shallow = { lit≤ tt };
-}
-
-impl TopLevelItem for Scene {
-    ghost kinded = { refl };
-
-    ghost seen = { λ _. refl };
-
-    ghost shallow = { lit≤ tt };
-}
-
-impl TopLevelItem for Skin {
-    ghost kinded = { refl };
-
-    ghost seen = { λ _. refl };
-
-    ghost shallow = { lit≤ tt };
-}
-
-impl TopLevelItem for Texture {
-    ghost kinded = { refl };
-
-    ghost seen = { λ _. refl };
-
-    ghost shallow = { lit≤ tt };
-}
+impl TopLevelItem for Texture {}
 
 impl Item for Light {
     ghost kinded = { refl };
 
     ghost seen = { λ _. refl };
-
-    ghost shallow = { lit≤ tt };
 }
 
 impl Item for Variant {
     ghost kinded = { refl };
 
     ghost seen = { λ _. refl };
-
-    ghost shallow = { lit≤ tt };
 }

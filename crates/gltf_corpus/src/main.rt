@@ -1,7 +1,9 @@
-//! Answers each document of `data/documents.jsonl`, one a line: the status and the output of a run
-//! over it, and what it is written as. `stdout` has what must be answered (docs/DECISIONS.md says
-//! from where).
+//! Answers each document of `data/documents.jsonl`, one a line below its title: the status and the
+//! output of a run over it, and what it is written as. Then it answers for each object of the format
+//! (`objects.rt`). `stdout` has what must be answered (docs/DECISIONS.md says from where).
 #![tactic(auto)]
+
+mod objects;
 
 use anyhow::Result;
 use gltf_json::root::Watched;
@@ -18,10 +20,20 @@ fn run_over(alloc: Global, document: &[u8]) -> (u8, Vec<u8>) {
     (status, writer.into_inner())
 }
 
-/// What a document is written as in one line.
+/// The line of a document that was written in lines, and read back.
+fn rewritten(alloc: Global, root: &Root) -> Result<String, Error> {
+    let lines = root.to_string_pretty(alloc)?;
+    Root::from_str(alloc, lines.as_str())?.to_string(alloc)
+}
+
+/// What a document is written as in one line, and a note if it isn't so once it was read back.
 fn line_of(alloc: Global, document: &[u8]) -> Result<String, Error> {
     let root = Root::from_slice(alloc, document)?;
-    root.to_string(alloc)
+    let mut line = root.to_string(alloc)?;
+    if rewritten(alloc, &root)? != line {
+        line.push_str(", but it doesn't last")?;
+    }
+    Ok(line)
 }
 
 /// Prints what is answered of a document.
@@ -39,12 +51,24 @@ fn answer(rt: &HostRuntime, document: &[u8]) -> Result<()> {
     Ok(())
 }
 
-fn main(rt: HostRuntime) -> Result<()> {
-    let documents = fs::read(&rt, "documents.jsonl")?;
-    for document in documents.as_slice().split(|byte| *byte == b'\n') {
-        if !document.is_empty() {
-            answer(&rt, document)?;
+/// Prints the titles of the documents, numbered, each with its answer.
+fn print_documents(rt: &HostRuntime) -> Result<()> {
+    let text = fs::read_to_string(rt, "documents.jsonl")?;
+    let mut number: u64 = 0;
+    for line in text.as_str().split('\n') {
+        match line.strip_prefix("# ") {
+            Some(title) => {
+                number = number.saturating_add(1);
+                println!(rt; "# {number} {title}")?;
+            }
+            None if line.is_empty() => {}
+            None => answer(rt, line.as_bytes())?,
         }
     }
     Ok(())
+}
+
+fn main(rt: HostRuntime) -> Result<()> {
+    print_documents(&rt)?;
+    objects::print_objects(&rt)
 }

@@ -4,10 +4,11 @@ use Rattle.gltf_paths.specs.Lists.{buffer_views}
 use Rattle.gltf_choices.specs.Choices.{generic_component_type_spelling, generic_component_types, index_component_type_spelling, index_component_types, accessor_type_spelling, accessor_types}
 use Rattle.gltf_checked.specs.declared.choice.Form.TheVariants as form
 use Rattle.gltf_schema.specs.Tree.{whole, truth}
-use Rattle.gltf_schema.specs.Kind.{required, optional, always, unless, Kind, IndexInto, U64, Text, Truth, Any, Object, ObjectName, Rows, ◌◂◌}
+use Rattle.gltf_schema.specs.Kind.{required, optional, always, unless, Kind, IndexInto, U64, Text, Truth, Any, Object, Rows, ◌◂◌, no_rule, needs_data}
 use Rattle.gltf_schema.specs.Leaves.{choice_of}
 use Rattle.gltf_schema.specs.Extensions.{kept_extensions, dropped_extensions, extensions_and_extras}
-use Rattle.gltf_schema.specs.Plain.{are_sound}
+use Rattle.gltf_schema.specs.Sound.{is_sound}
+use Rattle.gltf_schema.specs.Height.{IsHigh}
 
 abbrev pub component_type_kind : Kind
 component_type_kind = choice_of form.Number generic_component_type_spelling generic_component_types
@@ -23,29 +24,29 @@ sparse_indices_rows =
     (codes "bufferView", required, IndexInto buffer_views)
     ◂ (codes "byteOffset", always (whole 0), U64)
     ◂ (codes "componentType", required, index_component_type_kind)
-    ◂ extensions_and_extras (dropped_extensions ObjectName.sparse_indices)
+    ◂ extensions_and_extras dropped_extensions
 
 abbrev pub sparse_indices_kind : Kind
-sparse_indices_kind = Object ObjectName.sparse_indices sparse_indices_rows false
+sparse_indices_kind = Object no_rule sparse_indices_rows false
 
 unfoldable pub sparse_values_rows : Rows
 sparse_values_rows =
     (codes "bufferView", required, IndexInto buffer_views)
     ◂ (codes "byteOffset", always (whole 0), U64)
-    ◂ extensions_and_extras (dropped_extensions ObjectName.sparse_values)
+    ◂ extensions_and_extras dropped_extensions
 
 abbrev pub sparse_values_kind : Kind
-sparse_values_kind = Object ObjectName.sparse_values sparse_values_rows false
+sparse_values_kind = Object no_rule sparse_values_rows false
 
 unfoldable pub sparse_rows : Rows
 sparse_rows =
     (codes "count", required, U64)
     ◂ (codes "indices", required, sparse_indices_kind)
     ◂ (codes "values", required, sparse_values_kind)
-    ◂ extensions_and_extras (dropped_extensions ObjectName.sparse)
+    ◂ extensions_and_extras dropped_extensions
 
 abbrev pub sparse_kind : Kind
-sparse_kind = Object ObjectName.sparse sparse_rows false
+sparse_kind = Object no_rule sparse_rows false
 
 unfoldable pub accessor_rows : Rows
 accessor_rows =
@@ -59,25 +60,43 @@ accessor_rows =
     ◂ (codes "name", optional, Text)
     ◂ (codes "normalized", unless (truth false), Truth)
     ◂ (codes "sparse", optional, sparse_kind)
-    ◂ extensions_and_extras (kept_extensions ObjectName.accessor)
+    ◂ extensions_and_extras kept_extensions
 
 abbrev pub accessor_kind : Kind
-accessor_kind = Object ObjectName.accessor accessor_rows false
+accessor_kind = Object needs_data accessor_rows false
 
--- ---- the rows are sound
+-- ---- each kind is sound
 
-pub sparse_indices_sound : are_sound sparse_indices_rows ≡ true
+pub sparse_indices_sound : is_sound sparse_indices_kind ≡ true
 unfolding sparse_indices_rows
 sparse_indices_sound = refl
 
-pub sparse_values_sound : are_sound sparse_values_rows ≡ true
+pub sparse_values_sound : is_sound sparse_values_kind ≡ true
 unfolding sparse_values_rows
 sparse_values_sound = refl
 
-pub sparse_sound : are_sound sparse_rows ≡ true
+pub sparse_sound : is_sound sparse_kind ≡ true
 unfolding sparse_rows
 sparse_sound = rw (sparse_indices_sound, sparse_values_sound) refl
 
-pub accessor_sound : are_sound accessor_rows ≡ true
+pub accessor_sound : is_sound accessor_kind ≡ true
 unfolding accessor_rows
 accessor_sound = rw sparse_sound refl
+
+-- ---- how far down something can be wrong
+
+pub sparse_indices_height : IsHigh 1 sparse_indices_kind
+unfolding sparse_indices_rows
+sparse_indices_height = (refl, refl)
+
+pub sparse_values_height : IsHigh 1 sparse_values_kind
+unfolding sparse_values_rows
+sparse_values_height = (refl, refl)
+
+pub sparse_height : IsHigh 2 sparse_kind
+unfolding sparse_rows
+sparse_height = rw (sparse_indices_height.0, sparse_indices_height.1, sparse_values_height.0, sparse_values_height.1) (refl, refl)
+
+pub accessor_height : IsHigh 3 accessor_kind
+unfolding accessor_rows
+accessor_height = rw (sparse_height.0, sparse_height.1) (refl, refl)

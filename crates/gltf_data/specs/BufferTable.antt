@@ -4,10 +4,11 @@ use Rattle.gltf_paths.specs.Lists.{buffers}
 use Rattle.gltf_choices.specs.Choices.{target_spelling, targets}
 use Rattle.gltf_checked.specs.declared.choice.Form.TheVariants as form
 use Rattle.gltf_schema.specs.Tree.{whole}
-use Rattle.gltf_schema.specs.Kind.{required, optional, always, Kind, IndexInto, U64, Stride, Text, Object, ObjectName, Rows, ◌◂◌}
+use Rattle.gltf_schema.specs.Kind.{required, optional, always, Kind, IndexInto, U64, Stride, Text, Object, Rows, ◌◂◌, no_rule}
 use Rattle.gltf_schema.specs.Leaves.{choice_of}
 use Rattle.gltf_schema.specs.Extensions.{kept_extensions, extensions_and_extras}
-use Rattle.gltf_schema.specs.Plain.{are_sound}
+use Rattle.gltf_schema.specs.Sound.{is_sound}
+use Rattle.gltf_schema.specs.Height.{IsFlat, IsHigh}
 
 abbrev pub target_kind : Kind
 target_kind = choice_of form.Number target_spelling targets
@@ -17,10 +18,10 @@ buffer_rows =
     (codes "byteLength", always (whole 0), U64)
     ◂ (codes "name", optional, Text)
     ◂ (codes "uri", optional, Text)
-    ◂ extensions_and_extras (kept_extensions ObjectName.buffer)
+    ◂ extensions_and_extras kept_extensions
 
 abbrev pub buffer_kind : Kind
-buffer_kind = Object ObjectName.buffer buffer_rows false
+buffer_kind = Object no_rule buffer_rows false
 
 unfoldable pub view_rows : Rows
 view_rows =
@@ -30,17 +31,27 @@ view_rows =
     ◂ (codes "byteStride", optional, Stride)
     ◂ (codes "name", optional, Text)
     ◂ (codes "target", optional, target_kind)
-    ◂ extensions_and_extras (kept_extensions ObjectName.buffer_view)
+    ◂ extensions_and_extras kept_extensions
 
 abbrev pub view_kind : Kind
-view_kind = Object ObjectName.buffer_view view_rows false
+view_kind = Object no_rule view_rows false
 
--- ---- the rows are sound
+-- ---- each kind is sound
 
-pub buffer_sound : are_sound buffer_rows ≡ true
+pub buffer_sound : is_sound buffer_kind ≡ true
 unfolding buffer_rows
 buffer_sound = refl
 
-pub view_sound : are_sound view_rows ≡ true
+pub view_sound : is_sound view_kind ≡ true
 unfolding view_rows
 view_sound = refl
+
+-- ---- how far down something can be wrong
+
+pub buffer_height : IsFlat buffer_kind
+unfolding buffer_rows
+buffer_height = (refl, refl)
+
+pub view_height : IsHigh 1 view_kind
+unfolding view_rows
+view_height = (refl, refl)

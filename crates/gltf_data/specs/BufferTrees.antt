@@ -1,31 +1,22 @@
 -- The members of buffers and their views, in the rows' order.
 use Rattle.std.specs.Prelude.{[], ◌∷◌}
-use Rattle.serde_json.specs.View.{members_view}
 use Rattle.gltf_choices.specs.Choices.{target_spelling}
 use Rattle.gltf_schema.specs.Tree.{Tree, Trees, trees, tree_or_absent, whole}
 use Rattle.gltf_schema.specs.Leaves.{checked_tree}
-use Rattle.gltf_schema.specs.Fields.{index_tree, size_tree, text_tree, any_tree, unlisted_object}
+use Rattle.gltf_schema.specs.Fields.{index_tree, size_tree, text_tree, any_tree, kept_tree}
 use Rattle.gltf_data.specs.declared.buffer.Stride.{Stride}
 use Rattle.gltf_data.specs.declared.buffer.Buffer.{Buffer}
 use Rattle.gltf_data.specs.declared.buffer.View.{View}
-use Rattle.gltf_data.specs.declared.extensions.buffer.Buffer.{Buffer as BufferExtensions}
-use Rattle.gltf_data.specs.declared.extensions.buffer.View.{View as ViewExtensions}
 
 abbrev pub stride_tree : Stride → Tree
 stride_tree s = whole s.0
-
-abbrev pub buffer_extensions : BufferExtensions → Tree
-buffer_extensions e = unlisted_object (members_view e.others.entries)
-
-abbrev pub view_extensions : ViewExtensions → Tree
-view_extensions e = unlisted_object (members_view e.others.entries)
 
 unfoldable pub buffer_members : Buffer → Trees
 buffer_members v = trees (
     size_tree v.byte_length
     ∷ tree_or_absent text_tree v.name
     ∷ tree_or_absent text_tree v.uri
-    ∷ tree_or_absent buffer_extensions v.extensions
+    ∷ tree_or_absent kept_tree v.extensions
     ∷ tree_or_absent any_tree v.extras
     ∷ [])
 
@@ -37,6 +28,6 @@ view_members v = trees (
     ∷ tree_or_absent stride_tree v.byte_stride
     ∷ tree_or_absent text_tree v.name
     ∷ tree_or_absent (checked_tree target_spelling) v.target
-    ∷ tree_or_absent view_extensions v.extensions
+    ∷ tree_or_absent kept_tree v.extensions
     ∷ tree_or_absent any_tree v.extras
     ∷ [])

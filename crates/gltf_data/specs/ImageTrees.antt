@@ -1,17 +1,12 @@
 -- The members of images, in the rows' order.
 use Rattle.std.specs.Prelude.{[], ◌∷◌}
-use Rattle.serde_json.specs.View.{members_view}
 use Rattle.gltf_schema.specs.Tree.{Tree, Trees, trees, tree_or_absent}
-use Rattle.gltf_schema.specs.Fields.{index_tree, text_tree, any_tree, unlisted_object}
+use Rattle.gltf_schema.specs.Fields.{index_tree, text_tree, any_tree, kept_tree}
 use Rattle.gltf_data.specs.declared.image.MimeType.{MimeType}
 use Rattle.gltf_data.specs.declared.image.Image.{Image}
-use Rattle.gltf_data.specs.declared.extensions.image.Image.{Image as ImageExtensions}
 
 abbrev pub mime_type_tree : MimeType → Tree
 mime_type_tree m = text_tree m.0
-
-abbrev pub image_extensions : ImageExtensions → Tree
-image_extensions e = unlisted_object (members_view e.others.entries)
 
 unfoldable pub image_members : Image → Trees
 image_members v = trees (
@@ -19,6 +14,6 @@ image_members v = trees (
     ∷ tree_or_absent mime_type_tree v.mime_type
     ∷ tree_or_absent text_tree v.name
     ∷ tree_or_absent text_tree v.uri
-    ∷ tree_or_absent image_extensions v.extensions
+    ∷ tree_or_absent kept_tree v.extensions
     ∷ tree_or_absent any_tree v.extras
     ∷ [])

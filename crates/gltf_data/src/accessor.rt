@@ -1,10 +1,11 @@
 //! Accessors: how the data of a view is read as elements (glTF 2.0, section 5.1).
 
 ghost use Rattle.std.specs.Prelude.{false};
+ghost use Rattle.std.proofs.Common.{lit≤};
 ghost use Rattle.serde_json.specs.Data.{no_members};
 ghost use Rattle.gltf_paths.specs.Lists.{accessors};
-ghost use Rattle.gltf_schema.specs.Kind.{ObjectName};
-ghost use Rattle.gltf_data.specs.AccessorTable.{accessor_rows, accessor_sound};
+ghost use Rattle.gltf_schema.specs.Kind.{needs_data};
+ghost use Rattle.gltf_data.specs.AccessorTable.{accessor_rows, accessor_sound, accessor_height};
 ghost use Rattle.gltf_data.specs.AccessorTrees.{accessor_members};
 
 use crate::buffer::View;
@@ -71,7 +72,7 @@ impl Listed for Accessor {
 }
 
 impl Object for Accessor {
-    ghost named = { ObjectName.accessor };
+    ghost rule = { needs_data };
 
     ghost rows = { accessor_rows };
 
@@ -82,6 +83,10 @@ impl Object for Accessor {
     ghost unknown = { λ _. no_members };
 
     ghost sound = { accessor_sound };
+
+    ghost height = { 3 };
+
+    ghost low = { (accessor_height.1, lit≤ tt) };
 
     fn decode_members(alloc: Global, found: Map<String, Value>) -> Result<Accessor, Error> {
         let mut reading = Reading::from_members(alloc, found);

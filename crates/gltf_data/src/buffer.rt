@@ -1,10 +1,11 @@
 //! Buffers and their views: the bytes behind a document (glTF 2.0, sections 5.10 and 5.11).
 
 ghost use Rattle.std.specs.Prelude.{false, refl};
+ghost use Rattle.std.proofs.Common.{lit≤};
 ghost use Rattle.serde_json.specs.Data.{no_members};
 ghost use Rattle.gltf_paths.specs.Lists.{buffers, buffer_views};
-ghost use Rattle.gltf_schema.specs.Kind.{ObjectName, Stride as stride_kind};
-ghost use Rattle.gltf_data.specs.BufferTable.{buffer_rows, buffer_sound, view_rows, view_sound};
+ghost use Rattle.gltf_schema.specs.Kind.{Stride as stride_kind};
+ghost use Rattle.gltf_data.specs.BufferTable.{buffer_rows, buffer_sound, buffer_height, view_rows, view_sound, view_height};
 ghost use Rattle.gltf_data.specs.BufferTrees.{buffer_members, view_members, stride_tree};
 
 use crate::extensions;
@@ -12,7 +13,7 @@ use crate::extras::Extras;
 use gltf_base::buffer::Target;
 use gltf_base::validation::{Checked, USize64};
 use gltf_base::{Index, Listed};
-use gltf_schema::{Error, Object, Reading, Schema, Writing};
+use gltf_schema::{Error, Object, Reading, Schema, Tabled, Writing};
 use serde_json::{Map, Value};
 use std::alloc::Global;
 
@@ -20,11 +21,13 @@ use std::alloc::Global;
 #[derive(Clone, Copy, Debug, Default, PartialEq, Eq, Hash)]
 pub struct Stride(pub usize);
 
-impl Schema for Stride {
+impl Tabled for Stride {
     ghost kind = { stride_kind };
 
     ghost tree = { stride_tree };
+}
 
+impl Schema for Stride {
     ghost present = { λ _. refl };
 
     fn decode(_alloc: Global, value: Value) -> Result<Stride, Error> {
@@ -66,8 +69,6 @@ impl Listed for Buffer {
 }
 
 impl Object for Buffer {
-    ghost named = { ObjectName.buffer };
-
     ghost rows = { buffer_rows };
 
     ghost keeps = { false };
@@ -77,6 +78,10 @@ impl Object for Buffer {
     ghost unknown = { λ _. no_members };
 
     ghost sound = { buffer_sound };
+
+    ghost height = { 0 };
+
+    ghost low = { (buffer_height.1, lit≤ tt) };
 
     fn decode_members(alloc: Global, found: Map<String, Value>) -> Result<Buffer, Error> {
         let mut reading = Reading::from_members(alloc, found);
@@ -147,8 +152,6 @@ impl Listed for View {
 }
 
 impl Object for View {
-    ghost named = { ObjectName.buffer_view };
-
     ghost rows = { view_rows };
 
     ghost keeps = { false };
@@ -158,6 +161,10 @@ impl Object for View {
     ghost unknown = { λ _. no_members };
 
     ghost sound = { view_sound };
+
+    ghost height = { 1 };
+
+    ghost low = { (view_height.1, lit≤ tt) };
 
     fn decode_members(alloc: Global, found: Map<String, Value>) -> Result<View, Error> {
         let mut reading = Reading::from_members(alloc, found);

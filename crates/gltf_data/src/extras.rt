@@ -2,6 +2,7 @@
 
 ghost use Rattle.std.specs.Prelude.{Some, codes};
 
+use gltf_schema::Tabled;
 use serde_json::Value;
 use std::fmt::{self, Debug, Display, Formatter, Write};
 
@@ -11,6 +12,8 @@ pub type Extras = Option<Value>;
 /// What stands where an application adds nothing.
 #[derive(Clone, Drop)]
 pub struct Void {}
+
+impl Tabled for Void {}
 
 impl Void {
     /// Nothing.

@@ -1,17 +1,18 @@
 //! Images (glTF 2.0, section 5.18).
 
 ghost use Rattle.std.specs.Prelude.{false, refl};
+ghost use Rattle.std.proofs.Common.{lit≤};
 ghost use Rattle.serde_json.specs.Data.{no_members};
 ghost use Rattle.gltf_paths.specs.Lists.{images};
-ghost use Rattle.gltf_schema.specs.Kind.{ObjectName, Text};
-ghost use Rattle.gltf_data.specs.ImageTable.{image_rows, image_sound};
+ghost use Rattle.gltf_schema.specs.Kind.{Text};
+ghost use Rattle.gltf_data.specs.ImageTable.{image_rows, image_sound, image_height};
 ghost use Rattle.gltf_data.specs.ImageTrees.{image_members, mime_type_tree};
 
 use crate::buffer::View;
 use crate::extensions;
 use crate::extras::Extras;
 use gltf_base::{Index, Listed};
-use gltf_schema::{Error, Object, Reading, Schema, Writing};
+use gltf_schema::{Error, Object, Reading, Schema, Tabled, Writing};
 use serde_json::{Map, Value};
 use std::alloc::Global;
 
@@ -19,11 +20,13 @@ use std::alloc::Global;
 #[derive(Clone, Debug, Drop)]
 pub struct MimeType(pub String);
 
-impl Schema for MimeType {
+impl Tabled for MimeType {
     ghost kind = { Text };
 
     ghost tree = { mime_type_tree };
+}
 
+impl Schema for MimeType {
     ghost present = { λ _. refl };
 
     fn decode(alloc: Global, value: Value) -> Result<MimeType, Error> {
@@ -68,8 +71,6 @@ impl Listed for Image {
 }
 
 impl Object for Image {
-    ghost named = { ObjectName.image };
-
     ghost rows = { image_rows };
 
     ghost keeps = { false };
@@ -79,6 +80,10 @@ impl Object for Image {
     ghost unknown = { λ _. no_members };
 
     ghost sound = { image_sound };
+
+    ghost height = { 1 };
+
+    ghost low = { (image_height.1, lit≤ tt) };
 
     fn decode_members(alloc: Global, found: Map<String, Value>) -> Result<Image, Error> {
         let mut reading = Reading::from_members(alloc, found);

@@ -4,7 +4,7 @@ ghost use Rattle.std.specs.Prelude.{◌≡◌, ◌+◌, ◌<◌, ◌≤◌, ◌&
 ghost use Rattle.std.specs.Io.KnownBytes.{Appends, ReadConsumes, WriteAppends};
 ghost use Rattle.gltf_devices.specs.Device.{Seen, saturated, IsFresh, IsWithin, IsReadToEnd, GaveUp, AppendsFront};
 
-use gltf_schema::Error as DocumentError;
+use gltf_base::Error as DocumentError;
 use std::alloc::Global;
 use thiserror::Error;
 

@@ -9,7 +9,7 @@ use Rattle.gltf_paths.specs.Lists.{ListName}
 use Rattle.gltf_paths.specs.Steps.{Step, field, item, key}
 use Rattle.gltf_schema.specs.Tree as tree
 use Rattle.gltf_schema.specs.Tree.{Tree, absent, Trees, end, with_tree, items_in, members_in, entries_in}
-use Rattle.gltf_schema.specs.Kind.{Kind, IndexInto, Attributes, ListOf, Object, ObjectName, Rows, no_rows, row}
+use Rattle.gltf_schema.specs.Kind.{Kind, IndexInto, Attributes, ListOf, Object, Rows, no_rows, row, Rule}
 use Rattle.gltf_root.specs.Lists.{count_in}
 use Rattle.gltf_sinks.specs.Report.{From}
 use Rattle.gltf_faults.specs.Context.{Rules, Context, under}
@@ -50,19 +50,19 @@ items_by_places context f g each i (with_tree t ts) base =
     flat_map-append (faults context) (f t (base ++ item i ∷ [])) (item_places f (suc i) ts base)
     ∙ joined (each t (base ++ item i ∷ [])) (items_by_places context f g each (suc i) ts base)
 
-own_place : (named : ObjectName) (rows : Rows) (keeps : Bool) (t : Tree) (context : Context) (animation : Tree) (base : List Step)
-    → flat_map (faults context) (object_place (Object named rows keeps) t animation base) ≡ object_faults t named context base
-own_place named rows keeps (tree.object ts others) context animation base = append-nil _
-own_place named rows keeps t context animation base = refl
+own_place : (rule : Rule) (rows : Rows) (keeps : Bool) (t : Tree) (context : Context) (animation : Tree) (base : List Step)
+    → flat_map (faults context) (object_place (Object rule rows keeps) t animation base) ≡ object_faults t rule context base
+own_place rule rows keeps (tree.object ts others) context animation base = append-nil _
+own_place rule rows keeps t context animation base = refl
 
 mutual
   by_places : (kind : Kind) (t : Tree) (context : Context) (animation : Tree) (base : List Step) → flat_map (faults context) (places kind t animation base) ≡ reports kind t context animation base
   by_places (Attributes named) t context animation base = entries_by_places named (entries_in t) context animation base
   by_places (ListOf kind) t context animation base =
       items_by_places context (λ x. places kind x animation) (λ x. reports kind x context animation) (λ x at. by_places kind x context animation at) 0 (items_in t) base
-  by_places (Object named rows keeps) t context animation base =
-      flat_map-append (faults context) (member_places (members_in t) rows (animation_below named t animation) base) (object_place (Object named rows keeps) t animation base)
-      ∙ joined (members_by_places (members_in t) rows context (animation_below named t animation) base) (own_place named rows keeps t context animation base)
+  by_places (Object rule rows keeps) t context animation base =
+      flat_map-append (faults context) (member_places (members_in t) rows (animation_below rule t animation) base) (object_place (Object rule rows keeps) t animation base)
+      ∙ joined (members_by_places (members_in t) rows context (animation_below rule t animation) base) (own_place rule rows keeps t context animation base)
   by_places kind t context animation base = leaf kind t context animation base refl
 
   members_by_places : (ts : Trees) (rows : Rows) (context : Context) (animation : Tree) (base : List Step) → flat_map (faults context) (member_places ts rows animation base) ≡ member_reports ts rows context animation base

@@ -9,11 +9,12 @@ use Rattle.std.specs.Str.{bytes_eq}
 use Rattle.gltf_paths.specs.Lists.{ListName}
 use Rattle.gltf_paths.specs.Steps.{Step, field, item}
 use Rattle.gltf_schema.specs.Tree as tree
-use Rattle.gltf_schema.specs.Tree.{Tree, absent, Trees, end, with_tree, tree_at, tree_or_absent, count_of, members_in}
+use Rattle.gltf_schema.specs.Tree.{Tree, absent, Trees, end, with_tree, tree_at, tree_or_absent, count_of}
 use Rattle.gltf_schema.specs.Fields.{closed_object}
 use Rattle.gltf_schema.specs.Kind.{required, Kind, ListOf, Rows, no_rows, row}
 use Rattle.gltf_nodes.specs.LightTable.{light_kind, variant_kind}
-use Rattle.gltf_root.specs.Lists.{lights_row, variants_row, listed_row, list_at, list_in, count_in, row_of}
+use Rattle.gltf_root.specs.Lists.{lights_name, variants_name, lights_way, variants_way, further_way, list_in, count_in, row_of}
+use Rattle.gltf_root.specs.Named.{row_named, way_steps}
 use Rattle.gltf_root.specs.Pushed.{list_steps, item_place, item_kind}
 use Rattle.gltf_root.specs.RootExtensionTable.{lights_rows, lights_kind, variants_rows, variants_kind, root_extension_rows, root_extensions_kind}
 use Rattle.gltf_root.specs.RootExtensionTrees.{root_extensions, root_extension_members, lights_members, variants_members}
@@ -27,9 +28,9 @@ use Rattle.gltf_sinks.specs.Report.{From, Report}
 use Rattle.gltf_faults.specs.Context.{Context}
 use Rattle.gltf_faults.specs.Faults.{items_reports}
 use Rattle.gltf_faults.specs.Reports.{reports, member_reports}
-use Rattle.gltf_faults.specs.RowNames.{name_at}
 use Rattle.gltf_faults.specs.Rules.{root_rule}
-use Rattle.gltf_faults.proofs.Inserting.{kind_at}
+use Rattle.gltf_faults.proofs.Growing.{list_by}
+use Rattle.gltf_faults.proofs.Inserting.{name_at, kind_at}
 use Rattle.gltf_faults.proofs.Standing.{StandsBelow, AllBelow, reports_below, required_below}
 
 abbrev pub StandsElsewhere : List Step → Report → Type 0
@@ -134,50 +135,48 @@ one_elsewhere name kind ts context base =
     both_elsewhere path (rs ++ []) [] (both_elsewhere path rs [] (list_elsewhere kind ts context absent at) (none_elsewhere path)) (none_elsewhere path)
 
 lights_inside : (context : Context) (found : Option KhrLightsPunctual)
-    → AllElsewhere (item_place ListName.lights (count_of (list_at listed_row (tree_or_absent (λ v. closed_object (lights_members v)) found))))
+    → AllElsewhere (item_place ListName.lights (count_of (list_by lights_way (tree_or_absent (λ v. closed_object (lights_members v)) found))))
     (reports lights_kind (tree_or_absent (λ v. closed_object (lights_members v)) found) context absent in_lights)
-unfolding lights_members lights_rows
+unfolding lights_rows lights_members
 lights_inside context None = none_elsewhere (item_place ListName.lights 0)
-lights_inside context (Some v) = one_elsewhere (codes "lights") light_kind (list_at listed_row (closed_object (lights_members v))) context in_lights
+lights_inside context (Some v) = one_elsewhere (codes "lights") light_kind (list_by lights_way (closed_object (lights_members v))) context in_lights
 
 variants_inside : (context : Context) (found : Option KhrMaterialsVariants)
-    → AllElsewhere (item_place ListName.variants (count_of (list_at listed_row (tree_or_absent (λ v. closed_object (variants_members v)) found))))
+    → AllElsewhere (item_place ListName.variants (count_of (list_by variants_way (tree_or_absent (λ v. closed_object (variants_members v)) found))))
     (reports variants_kind (tree_or_absent (λ v. closed_object (variants_members v)) found) context absent in_variants)
-unfolding variants_members variants_rows
+unfolding variants_rows variants_members
 variants_inside context None = none_elsewhere (item_place ListName.variants 0)
-variants_inside context (Some v) = one_elsewhere (codes "variants") variant_kind (list_at listed_row (closed_object (variants_members v))) context in_variants
+variants_inside context (Some v) = one_elsewhere (codes "variants") variant_kind (list_by variants_way (closed_object (variants_members v))) context in_variants
 
 lights_elsewhere : (context : Context) (found : Option RootExtensions)
-    → AllElsewhere (item_place ListName.lights (count_of (list_at listed_row (tree_at lights_row (members_in (tree_or_absent root_extensions found))))))
+    → AllElsewhere (item_place ListName.lights (count_of (list_by (further_way ListName.lights) (tree_or_absent root_extensions found))))
     (reports root_extensions_kind (tree_or_absent root_extensions found) context absent in_extensions)
 unfolding root_extension_members root_extension_rows
 lights_elsewhere context None = none_elsewhere (item_place ListName.lights 0)
 lights_elsewhere context (Some e) =
-    let n = count_of (list_at listed_row (tree_at lights_row (root_extension_members e))) in
+    let n = count_of (list_by (further_way ListName.lights) (root_extensions e)) in
     let path = item_place ListName.lights n in
     both_elsewhere path (member_reports (root_extension_members e) root_extension_rows context absent in_extensions) []
-    (members_elsewhere context absent in_extensions (codes "KHR_lights_punctual") (field (codes "lights") ∷ item n ∷ []) lights_row (root_extension_members e) root_extension_rows refl (lights_inside context e.khr_lights_punctual))
+    (members_elsewhere context absent in_extensions (codes "KHR_lights_punctual") (field (codes "lights") ∷ item n ∷ []) (row_named lights_name root_extension_rows) (root_extension_members e) root_extension_rows refl (lights_inside context e.khr_lights_punctual))
     (none_elsewhere path)
 
 variants_elsewhere : (context : Context) (found : Option RootExtensions)
-    → AllElsewhere (item_place ListName.variants (count_of (list_at listed_row (tree_at variants_row (members_in (tree_or_absent root_extensions found))))))
+    → AllElsewhere (item_place ListName.variants (count_of (list_by (further_way ListName.variants) (tree_or_absent root_extensions found))))
     (reports root_extensions_kind (tree_or_absent root_extensions found) context absent in_extensions)
 unfolding root_extension_members root_extension_rows
 variants_elsewhere context None = none_elsewhere (item_place ListName.variants 0)
 variants_elsewhere context (Some e) =
-    let n = count_of (list_at listed_row (tree_at variants_row (root_extension_members e))) in
+    let n = count_of (list_by (further_way ListName.variants) (root_extensions e)) in
     let path = item_place ListName.variants n in
     both_elsewhere path (member_reports (root_extension_members e) root_extension_rows context absent in_extensions) []
-    (members_elsewhere context absent in_extensions (codes "KHR_materials_variants") (field (codes "variants") ∷ item n ∷ []) variants_row (root_extension_members e) root_extension_rows refl (variants_inside context e.khr_materials_variants))
+    (members_elsewhere context absent in_extensions (codes "KHR_materials_variants") (field (codes "variants") ∷ item n ∷ []) (row_named variants_name root_extension_rows) (root_extension_members e) root_extension_rows refl (variants_inside context e.khr_materials_variants))
     (none_elsewhere path)
 
 -- ---- any list of a document
 
 -- the steps behind the first one to an item
 abbrev further_steps : ListName → ℕ → List Step
-further_steps ListName.lights n = field (codes "KHR_lights_punctual") ∷ field (codes "lights") ∷ item n ∷ []
-further_steps ListName.variants n = field (codes "KHR_materials_variants") ∷ field (codes "variants") ∷ item n ∷ []
-further_steps named n = item n ∷ []
+further_steps named n = way_steps (further_way named) ++ item n ∷ []
 
 place_split : (named : ListName) (n : ℕ) → field (name_at (row_of named) root_rows) ∷ further_steps named n ≡ item_place named n
 unfolding root_rows
@@ -191,7 +190,7 @@ only_row named = refl
 
 own_elsewhere : (named : ListName) (r : Root) (context : Context) → AllElsewhere (item_place named (count_in named (root_tree r)))
     (reports (kind_at (row_of named) root_rows) (tree_at (row_of named) (root_members r)) context absent (field (name_at (row_of named) root_rows) ∷ []))
-unfolding root_members root_rows
+unfolding root_rows root_members
 own_elsewhere ListName.lights r context = lights_elsewhere context r.extensions
 own_elsewhere ListName.variants r context = variants_elsewhere context r.extensions
 own_elsewhere named r context = list_elsewhere (item_kind named) (list_in named (root_tree r)) context absent (list_steps named)

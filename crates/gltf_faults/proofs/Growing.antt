@@ -1,55 +1,65 @@
 -- The lists of a document with one more item in one of them.
 use Rattle.std.proofs.Common.{◌≡◌, ◌≢◌, ◌⊎◌, ℕ, zero, suc, inl, inr, Option, Some, None, refl, ap}
 use Rattle.gltf_paths.specs.Lists.{ListName}
-use Rattle.gltf_schema.specs.Tree.{Tree, list, Trees, end, with_tree, tree_at, tree_or_absent, members_in}
+use Rattle.gltf_schema.specs.Tree.{Tree, list, Trees, end, with_tree, tree_at, tree_or_absent, items_in, members_in}
 use Rattle.gltf_schema.specs.Fields.{closed_object}
-use Rattle.gltf_root.specs.Lists.{lights_row, variants_row, listed_row, list_at, list_in, row_of}
-use Rattle.gltf_root.specs.Pushed.{with_last, with_extension_list, with_extended_list, row_listed, pushed}
+use Rattle.gltf_root.specs.Lists.{lights_way, variants_way, further_way, list_in, row_of}
+use Rattle.gltf_root.specs.Named.{Way, put_at, reached, with_reached}
+use Rattle.gltf_root.specs.Pushed.{with_last, pushed}
+use Rattle.gltf_root.specs.RootExtensionTable.{lights_rows, variants_rows, root_extension_rows}
 use Rattle.gltf_root.specs.RootExtensionTrees.{root_extensions, root_extension_members, lights_members, variants_members}
-use Rattle.gltf_root.specs.RootTrees.{put_at, root_members, root_tree}
+use Rattle.gltf_root.specs.RootTable.{root_rows}
+use Rattle.gltf_root.specs.RootTrees.{root_members, root_tree}
 use Rattle.gltf_root.specs.declared.root.Root.{Root}
 use Rattle.gltf_root.specs.declared.extensions.root.Root.{Root as RootExtensions}
+use Rattle.gltf_root.specs.declared.extensions.root.KhrLightsPunctual.{KhrLightsPunctual}
+use Rattle.gltf_root.specs.declared.extensions.root.KhrMaterialsVariants.{KhrMaterialsVariants}
 
 -- ---- the two in the extensions
 
--- an extension object with another item in its list, and extensions with the one at a number so
-abbrev pub with_extension_item : Tree → Tree → Tree
-with_extension_item x extension = with_extension_list (with_last x (list_at listed_row extension)) extension
+-- the list that a way leads to, and a tree with one more item there
+abbrev pub list_by : Way → Tree → Trees
+list_by way t = items_in (reached way t)
 
-abbrev pub with_extended_item : ℕ → Tree → Tree → Tree
-with_extended_item n x extensions = with_extended_list n (with_last x (list_at listed_row (tree_at n (members_in extensions)))) extensions
+abbrev pub with_item : Way → Tree → Tree → Tree
+with_item way x t = with_reached way (list (with_last x (list_by way t))) t
 
--- an extension object of one list, which may be missing
-one_longer : {V : Type 0} (x : Tree) (items : V → Trees) (found : Option V)
-    → list_at listed_row (with_extension_item x (tree_or_absent (λ v. closed_object (with_tree (list (items v)) end)) found))
-    ≡ with_last x (list_at listed_row (tree_or_absent (λ v. closed_object (with_tree (list (items v)) end)) found))
-one_longer x items None = refl
-one_longer x items (Some v) = refl
+lights_found : (x : Tree) (found : Option KhrLightsPunctual)
+    → list_by lights_way (with_item lights_way x (tree_or_absent (λ v. closed_object (lights_members v)) found))
+    ≡ with_last x (list_by lights_way (tree_or_absent (λ v. closed_object (lights_members v)) found))
+unfolding lights_rows lights_members
+lights_found x None = refl
+lights_found x (Some v) = refl
 
 lights_extended : (x : Tree) (found : Option RootExtensions)
-    → list_at listed_row (tree_at lights_row (members_in (with_extended_item lights_row x (tree_or_absent root_extensions found))))
-    ≡ with_last x (list_at listed_row (tree_at lights_row (members_in (tree_or_absent root_extensions found))))
-unfolding root_extension_members lights_members
-lights_extended x None = refl
-lights_extended x (Some e) = one_longer x (λ v. list_at listed_row (closed_object (lights_members v))) e.khr_lights_punctual
+    → list_by (further_way ListName.lights) (with_item (further_way ListName.lights) x (tree_or_absent root_extensions found)) ≡ with_last x (list_by (further_way ListName.lights) (tree_or_absent root_extensions found))
+unfolding root_extension_rows root_extension_members
+lights_extended x None = lights_found x None
+lights_extended x (Some e) = lights_found x e.khr_lights_punctual
+
+variants_found : (x : Tree) (found : Option KhrMaterialsVariants)
+    → list_by variants_way (with_item variants_way x (tree_or_absent (λ v. closed_object (variants_members v)) found))
+    ≡ with_last x (list_by variants_way (tree_or_absent (λ v. closed_object (variants_members v)) found))
+unfolding variants_rows variants_members
+variants_found x None = refl
+variants_found x (Some v) = refl
 
 variants_extended : (x : Tree) (found : Option RootExtensions)
-    → list_at listed_row (tree_at variants_row (members_in (with_extended_item variants_row x (tree_or_absent root_extensions found))))
-    ≡ with_last x (list_at listed_row (tree_at variants_row (members_in (tree_or_absent root_extensions found))))
-unfolding root_extension_members variants_members
-variants_extended x None = refl
-variants_extended x (Some e) = one_longer x (λ v. list_at listed_row (closed_object (variants_members v))) e.khr_materials_variants
+    → list_by (further_way ListName.variants) (with_item (further_way ListName.variants) x (tree_or_absent root_extensions found)) ≡ with_last x (list_by (further_way ListName.variants) (tree_or_absent root_extensions found))
+unfolding root_extension_rows root_extension_members
+variants_extended x None = variants_found x None
+variants_extended x (Some e) = variants_found x e.khr_materials_variants
 
 -- each leaves the other as it was
 lights_kept : (x : Tree) (found : Option RootExtensions)
-    → list_at listed_row (tree_at lights_row (members_in (with_extended_item variants_row x (tree_or_absent root_extensions found)))) ≡ list_at listed_row (tree_at lights_row (members_in (tree_or_absent root_extensions found)))
-unfolding root_extension_members
+    → list_by (further_way ListName.lights) (with_item (further_way ListName.variants) x (tree_or_absent root_extensions found)) ≡ list_by (further_way ListName.lights) (tree_or_absent root_extensions found)
+unfolding root_extension_rows root_extension_members
 lights_kept x None = refl
 lights_kept x (Some e) = refl
 
 variants_kept : (x : Tree) (found : Option RootExtensions)
-    → list_at listed_row (tree_at variants_row (members_in (with_extended_item lights_row x (tree_or_absent root_extensions found)))) ≡ list_at listed_row (tree_at variants_row (members_in (tree_or_absent root_extensions found)))
-unfolding root_extension_members
+    → list_by (further_way ListName.variants) (with_item (further_way ListName.lights) x (tree_or_absent root_extensions found)) ≡ list_by (further_way ListName.variants) (tree_or_absent root_extensions found)
+unfolding root_extension_rows root_extension_members
 variants_kept x None = refl
 variants_kept x (Some e) = refl
 
@@ -63,7 +73,7 @@ abbrev pub Grows : ListName → Tree → Tree → Tree → Type 0
 Grows named x old new = (other : ListName) → GrowsAt other named x old new
 
 pub grows : (named : ListName) (x : Tree) (r : Root) → Grows named x (root_tree r) (pushed named x (root_tree r))
-unfolding root_members
+unfolding root_rows root_members
 grows ListName.accessors x r ListName.accessors = inl (refl, refl)
 grows ListName.animations x r ListName.animations = inl (refl, refl)
 grows ListName.buffers x r ListName.buffers = inl (refl, refl)
@@ -86,7 +96,7 @@ grows named x r other = inr refl
 -- ---- the one list, and the others
 
 pub grown : (named : ListName) (x : Tree) (r : Root) → list_in named (pushed named x (root_tree r)) ≡ with_last x (list_in named (root_tree r))
-unfolding root_members
+unfolding root_rows root_members
 grown ListName.lights x r = lights_extended x r.extensions
 grown ListName.variants x r = variants_extended x r.extensions
 grown named x r = refl
@@ -109,4 +119,4 @@ put_elsewhere (suc m) (suc n) t (with_tree u ts) apart = put_elsewhere m n t ts 
 
 pub members_kept : (named : ListName) (n : ℕ) (x : Tree) (r : Root) → n ≢ row_of named → tree_at n (members_in (pushed named x (root_tree r))) ≡ tree_at n (members_in (root_tree r))
 members_kept named n x r apart =
-    put_elsewhere (row_of named) n (row_listed named (with_last x (list_in named (root_tree r))) (tree_at (row_of named) (root_members r))) (root_members r) apart
+    put_elsewhere (row_of named) n (with_item (further_way named) x (tree_at (row_of named) (root_members r))) (root_members r) apart

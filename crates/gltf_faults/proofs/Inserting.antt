@@ -5,14 +5,13 @@ use Rattle.gltf_paths.specs.Steps.{Step, field, item}
 use Rattle.gltf_schema.specs.Tree as tree
 use Rattle.gltf_schema.specs.Tree.{Tree, Trees, end, with_tree, tree_at, count_of}
 use Rattle.gltf_schema.specs.Kind.{Kind, Any, ListOf, Rows, no_rows, row}
+use Rattle.gltf_root.specs.Named.{put_at}
 use Rattle.gltf_root.specs.Pushed.{with_last}
-use Rattle.gltf_root.specs.RootTrees.{put_at}
 use Rattle.gltf_sinks.specs.Report.{From, Report}
 use Rattle.gltf_faults.specs.Context.{Context}
 use Rattle.gltf_faults.specs.Inserted.{IsInserted}
 use Rattle.gltf_faults.specs.Faults.{items_reports}
 use Rattle.gltf_faults.specs.Reports.{reports, member_reports}
-use Rattle.gltf_faults.specs.RowNames.{name_at}
 
 at_end : {A : Type 0} (old new : List A) → IsInserted old new (old ++ new)
 at_end old new = record { before = old; after = []; was = sym (append-nil old); now = ap (λ zs. old ++ zs) (sym (append-nil new)) }
@@ -52,6 +51,12 @@ list_inserted kind ts x context above base =
     (at_end (items_reports f 0 ts base) (f x (base ++ item (count_of ts) ∷ [])))
 
 -- ---- a member of an object
+
+-- the name and the kind of the row at a number
+abbrev pub name_at : ℕ → Rows → List ℕ
+name_at n no_rows = []
+name_at zero (row name mark kind rows) = name
+name_at (suc n) (row name mark kind rows) = name_at n rows
 
 abbrev pub kind_at : ℕ → Rows → Kind
 kind_at n no_rows = Any

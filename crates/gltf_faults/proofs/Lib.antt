@@ -11,6 +11,5 @@ pub mod Standing
 pub mod Elsewhere
 pub mod Parting
 pub mod Primitives
-pub mod DefaultsWritten
 pub mod Silent
 pub mod Enabled

@@ -10,6 +10,7 @@ use Rattle.gltf_schema.specs.Tree.{Tree, trees, tree_at, tree_or_absent}
 use Rattle.gltf_data.specs.AccessorTrees.{accessor_members}
 use Rattle.gltf_data.specs.declared.accessor.Accessor.{Accessor}
 use Rattle.gltf_root.specs.Lists.{list_in}
+use Rattle.gltf_root.specs.RootTable.{root_rows}
 use Rattle.gltf_root.specs.RootTrees.{root_members, root_tree}
 use Rattle.gltf_root.specs.declared.root.Root.{Root}
 use Rattle.gltf_faults.specs.Rules.{is_triple}
@@ -23,7 +24,7 @@ tree_at-trees tree (x ∷ xs) (suc n) = tree_at-trees tree xs n
 -- the tree that an index of an accessor names
 pub accessor_at : (r : Root) (n : ℕ) (found : Option Accessor) → found ≡ slice_get r.accessors.items n
     → tree_at n (list_in ListName.accessors (root_tree r)) ≡ tree_or_absent (λ x. closed_object (accessor_members x)) found
-unfolding root_members
+unfolding root_rows root_members
 accessor_at r n found e =
     tree_at-trees (λ x. closed_object (accessor_members x)) r.accessors.items n ∙ ap (tree_or_absent (λ x. closed_object (accessor_members x))) (sym e)
 

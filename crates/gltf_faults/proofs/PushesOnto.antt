@@ -4,16 +4,18 @@ use Rattle.std.proofs.lemmas.List.{append-nil}
 use Rattle.gltf_paths.specs.Lists.{ListName}
 use Rattle.gltf_paths.specs.Steps.{Step, field, item}
 use Rattle.gltf_schema.specs.Tree as tree
-use Rattle.gltf_schema.specs.Tree.{Tree, absent, Trees, end, with_tree, tree_at, tree_or_absent, count_of, members_in}
+use Rattle.gltf_schema.specs.Tree.{Tree, absent, Trees, end, with_tree, tree_at, tree_or_absent, count_of}
+use Rattle.gltf_schema.specs.Defaults.{defaults}
 use Rattle.gltf_schema.specs.Fields.{closed_object}
 use Rattle.gltf_schema.specs.Kind.{required, Kind, ListOf, no_rows, row}
 use Rattle.gltf_nodes.specs.LightTable.{light_kind, variant_kind}
-use Rattle.gltf_root.specs.Lists.{lights_row, variants_row, listed_row, list_at, list_in, count_in, row_of}
-use Rattle.gltf_root.specs.Pushed.{with_last, made_extensions, row_listed, pushed, list_steps, item_place, item_kind}
+use Rattle.gltf_root.specs.Lists.{lights_name, variants_name, lights_way, variants_way, further_way, list_in, count_in, row_of}
+use Rattle.gltf_root.specs.Named.{row_named, member_named, put_at}
+use Rattle.gltf_root.specs.Pushed.{with_last, pushed, list_steps, item_place, item_kind}
 use Rattle.gltf_root.specs.RootExtensionTable.{lights_rows, lights_kind, variants_rows, variants_kind, root_extension_rows, root_extensions_kind}
 use Rattle.gltf_root.specs.RootExtensionTrees.{root_extensions, root_extension_members, lights_members, variants_members}
-use Rattle.gltf_root.specs.RootTable.{root_rows, root_kind}
-use Rattle.gltf_root.specs.RootTrees.{put_at, root_members, root_tree}
+use Rattle.gltf_root.specs.RootTable.{root_rows, root_kind, root_sound}
+use Rattle.gltf_root.specs.RootTrees.{root_members, root_tree}
 use Rattle.gltf_root.specs.declared.root.Root.{Root}
 use Rattle.gltf_root.specs.declared.extensions.root.Root.{Root as RootExtensions}
 use Rattle.gltf_root.specs.declared.extensions.root.KhrLightsPunctual.{KhrLightsPunctual}
@@ -22,14 +24,13 @@ use Rattle.gltf_faults.specs.Context.{Rules, Context, under}
 use Rattle.gltf_faults.specs.Inserted.{IsInserted}
 use Rattle.gltf_faults.specs.Naming.{Avoids}
 use Rattle.gltf_faults.specs.Reports.{document_reports, reports, member_reports, reports_by_rules}
-use Rattle.gltf_faults.specs.RowNames.{name_at}
 use Rattle.gltf_faults.specs.Rules.{root_rule}
-use Rattle.gltf_faults.proofs.Growing.{with_extension_item, with_extended_item, grows}
+use Rattle.gltf_faults.proofs.Growing.{list_by, with_item, grows}
 use Rattle.gltf_faults.proofs.Pushes.{reports_same}
 use Rattle.gltf_faults.proofs.CleanIsClosed.{clean_is_closed}
 use Rattle.gltf_faults.proofs.Joining.{first_none, second_none}
-use Rattle.gltf_faults.proofs.ClosedAvoids.{root_listed, closed_avoids}
-use Rattle.gltf_faults.proofs.Inserting.{ahead, list_inserted, kind_at, are_at, member_inserted}
+use Rattle.gltf_faults.proofs.ClosedAvoids.{closed_avoids}
+use Rattle.gltf_faults.proofs.Inserting.{ahead, list_inserted, name_at, kind_at, are_at, member_inserted}
 
 -- ---- the lists in the extensions
 
@@ -42,42 +43,42 @@ one_inserted name kind ts x context base = ahead [] (ahead [] (list_inserted kin
 
 lights_inserted : (x : Tree) (context : Context) (base : List Step) (found : Option KhrLightsPunctual)
     → IsInserted (reports lights_kind (tree_or_absent (λ v. closed_object (lights_members v)) found) context absent base)
-    (reports light_kind x context absent ((base ++ field (codes "lights") ∷ []) ++ item (count_of (list_at listed_row (tree_or_absent (λ v. closed_object (lights_members v)) found))) ∷ []))
-    (reports lights_kind (with_extension_item x (tree_or_absent (λ v. closed_object (lights_members v)) found)) context absent base)
-unfolding lights_members lights_rows
+    (reports light_kind x context absent ((base ++ field (codes "lights") ∷ []) ++ item (count_of (list_by lights_way (tree_or_absent (λ v. closed_object (lights_members v)) found))) ∷ []))
+    (reports lights_kind (with_item lights_way x (tree_or_absent (λ v. closed_object (lights_members v)) found)) context absent base)
+unfolding lights_rows lights_members
 lights_inserted x context base None = one_inserted (codes "lights") light_kind end x context base
-lights_inserted x context base (Some v) = one_inserted (codes "lights") light_kind (list_at listed_row (closed_object (lights_members v))) x context base
+lights_inserted x context base (Some v) = one_inserted (codes "lights") light_kind (list_by lights_way (closed_object (lights_members v))) x context base
 
 variants_inserted : (x : Tree) (context : Context) (base : List Step) (found : Option KhrMaterialsVariants)
     → IsInserted (reports variants_kind (tree_or_absent (λ v. closed_object (variants_members v)) found) context absent base)
-    (reports variant_kind x context absent ((base ++ field (codes "variants") ∷ []) ++ item (count_of (list_at listed_row (tree_or_absent (λ v. closed_object (variants_members v)) found))) ∷ []))
-    (reports variants_kind (with_extension_item x (tree_or_absent (λ v. closed_object (variants_members v)) found)) context absent base)
-unfolding variants_members variants_rows
+    (reports variant_kind x context absent ((base ++ field (codes "variants") ∷ []) ++ item (count_of (list_by variants_way (tree_or_absent (λ v. closed_object (variants_members v)) found))) ∷ []))
+    (reports variants_kind (with_item variants_way x (tree_or_absent (λ v. closed_object (variants_members v)) found)) context absent base)
+unfolding variants_rows variants_members
 variants_inserted x context base None = one_inserted (codes "variants") variant_kind end x context base
-variants_inserted x context base (Some v) = one_inserted (codes "variants") variant_kind (list_at listed_row (closed_object (variants_members v))) x context base
+variants_inserted x context base (Some v) = one_inserted (codes "variants") variant_kind (list_by variants_way (closed_object (variants_members v))) x context base
 
 lights_pushed : (x : Tree) (context : Context) (found : Option RootExtensions)
     → IsInserted (reports root_extensions_kind (tree_or_absent root_extensions found) context absent (field (codes "extensions") ∷ []))
-    (reports light_kind x context absent (item_place ListName.lights (count_of (list_at listed_row (tree_at lights_row (members_in (tree_or_absent root_extensions found)))))))
-    (reports root_extensions_kind (with_extended_item lights_row x (tree_or_absent root_extensions found)) context absent (field (codes "extensions") ∷ []))
+    (reports light_kind x context absent (item_place ListName.lights (count_of (list_by (further_way ListName.lights) (tree_or_absent root_extensions found)))))
+    (reports root_extensions_kind (with_item (further_way ListName.lights) x (tree_or_absent root_extensions found)) context absent (field (codes "extensions") ∷ []))
 unfolding root_extension_members root_extension_rows
 lights_pushed x context None =
-    ahead [] (member_inserted lights_row (members_in made_extensions) root_extension_rows (with_extension_item x absent) context absent (field (codes "extensions") ∷ []) _ refl
+    ahead [] (member_inserted (row_named lights_name root_extension_rows) (defaults root_extension_rows) root_extension_rows (with_item lights_way x absent) context absent (field (codes "extensions") ∷ []) _ refl
     (lights_inserted x context (field (codes "extensions") ∷ field (codes "KHR_lights_punctual") ∷ []) None))
 lights_pushed x context (Some e) =
-    ahead [] (member_inserted lights_row (root_extension_members e) root_extension_rows (with_extension_item x (tree_at lights_row (root_extension_members e))) context absent (field (codes "extensions") ∷ []) _ refl
+    ahead [] (member_inserted (row_named lights_name root_extension_rows) (root_extension_members e) root_extension_rows (with_item lights_way x (member_named lights_name root_extension_rows (root_extension_members e))) context absent (field (codes "extensions") ∷ []) _ refl
     (lights_inserted x context (field (codes "extensions") ∷ field (codes "KHR_lights_punctual") ∷ []) e.khr_lights_punctual))
 
 variants_pushed : (x : Tree) (context : Context) (found : Option RootExtensions)
     → IsInserted (reports root_extensions_kind (tree_or_absent root_extensions found) context absent (field (codes "extensions") ∷ []))
-    (reports variant_kind x context absent (item_place ListName.variants (count_of (list_at listed_row (tree_at variants_row (members_in (tree_or_absent root_extensions found)))))))
-    (reports root_extensions_kind (with_extended_item variants_row x (tree_or_absent root_extensions found)) context absent (field (codes "extensions") ∷ []))
+    (reports variant_kind x context absent (item_place ListName.variants (count_of (list_by (further_way ListName.variants) (tree_or_absent root_extensions found)))))
+    (reports root_extensions_kind (with_item (further_way ListName.variants) x (tree_or_absent root_extensions found)) context absent (field (codes "extensions") ∷ []))
 unfolding root_extension_members root_extension_rows
 variants_pushed x context None =
-    ahead [] (member_inserted variants_row (members_in made_extensions) root_extension_rows (with_extension_item x absent) context absent (field (codes "extensions") ∷ []) _ refl
+    ahead [] (member_inserted (row_named variants_name root_extension_rows) (defaults root_extension_rows) root_extension_rows (with_item variants_way x absent) context absent (field (codes "extensions") ∷ []) _ refl
     (variants_inserted x context (field (codes "extensions") ∷ field (codes "KHR_materials_variants") ∷ []) None))
 variants_pushed x context (Some e) =
-    ahead [] (member_inserted variants_row (root_extension_members e) root_extension_rows (with_extension_item x (tree_at variants_row (root_extension_members e))) context absent (field (codes "extensions") ∷ []) _ refl
+    ahead [] (member_inserted (row_named variants_name root_extension_rows) (root_extension_members e) root_extension_rows (with_item variants_way x (member_named variants_name root_extension_rows (root_extension_members e))) context absent (field (codes "extensions") ∷ []) _ refl
     (variants_inserted x context (field (codes "extensions") ∷ field (codes "KHR_materials_variants") ∷ []) e.khr_materials_variants))
 
 -- ---- any list of a document
@@ -88,23 +89,23 @@ MemberInserted named x r context =
     let n = row_of named in
     let t = tree_at n (root_members r) in
     let base = field (name_at n root_rows) ∷ [] in
-    IsInserted (reports (kind_at n root_rows) t context absent base) (reports (item_kind named) x context absent (item_place named (count_in named (root_tree r)))) (reports (kind_at n root_rows) (row_listed named (with_last x (list_in named (root_tree r))) t) context absent base)
+    IsInserted (reports (kind_at n root_rows) t context absent base) (reports (item_kind named) x context absent (item_place named (count_in named (root_tree r)))) (reports (kind_at n root_rows) (with_item (further_way named) x t) context absent base)
 
 in_row : (named : ListName) (x : Tree) (r : Root) (context : Context) → MemberInserted named x r context
-unfolding root_members root_rows
+unfolding root_rows root_members
 in_row ListName.lights x r context = lights_pushed x context r.extensions
 in_row ListName.variants x r context = variants_pushed x context r.extensions
 in_row named x r context = list_inserted (item_kind named) (list_in named (root_tree r)) x context absent (list_steps named)
 
 row_there : (named : ListName) (r : Root) → are_at (row_of named) (root_members r) root_rows ≡ true
-unfolding root_members root_rows
+unfolding root_rows root_members
 row_there ListName.accessors r = refl
 row_there named r = refl
 
 -- the rule of documents looks at no list of items
 rule_kept : (enabled : List (List ℕ)) (named : ListName) (x : Tree) (r : Root) (base : List Step)
     → root_rule enabled (put_at (row_of named) x (root_members r)) base ≡ root_rule enabled (root_members r) base
-unfolding root_members
+unfolding root_rows root_members
 rule_kept enabled ListName.accessors x r base = refl
 rule_kept enabled named x r base = refl
 
@@ -115,7 +116,7 @@ root_inserted : (named : ListName) (x : Tree) (r : Root) (context : Context)
 root_inserted named x r context =
     let n = row_of named in
     let ms = root_members r in
-    let t = row_listed named (with_last x (list_in named (root_tree r))) (tree_at n ms) in
+    let t = with_item (further_way named) x (tree_at n ms) in
     let new = reports (item_kind named) x context absent (item_place named (count_in named (root_tree r))) in
     let rule = root_rule context.rules.enabled in
     subst (λ rs. IsInserted (member_reports ms root_rows context absent [] ++ rule ms []) new (member_reports (put_at n t ms) root_rows context absent [] ++ rs))
@@ -131,7 +132,7 @@ inserted rules named x r off =
     let old = root_tree r in
     let new = pushed named x old in
     let at = reports_by_rules rules (item_kind named) x new (item_place named (count_in named old)) in
-    subst (λ rs. IsInserted rs at (document_reports rules new)) (reports_same rules named x old new (grows named x r) root_kind old absent [] off)
+    subst (λ rs. IsInserted rs at (document_reports rules new)) (reports_same rules named x old new (grows named x r) root_kind old absent absent [] (λ is. root_sound) off)
     (root_inserted named x r (under rules new))
 
 -- ---- onto a document without reports
@@ -142,7 +143,7 @@ pub clean_avoids : (rules : Rules) (named : ListName) (r : Root) → document_re
 clean_avoids rules named r clean =
     let old = root_tree r in
     let context = under rules old in
-    closed_avoids named context root_kind old absent root_listed (clean_is_closed root_kind old context absent [] clean)
+    closed_avoids named context root_kind old (clean_is_closed context root_kind old absent [] clean)
 
 alone : {A : Type 0} {old new whole : List A} → old ≡ [] → IsInserted old new whole → whole ≡ new
 alone {A} {old} {new} {whole} none h =

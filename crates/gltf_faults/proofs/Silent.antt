@@ -4,26 +4,27 @@ use Rattle.std.proofs.lemmas.Bool.{and_parts}
 use Rattle.gltf_paths.specs.Steps.{Step, field, item}
 use Rattle.gltf_schema.specs.Tree as tree
 use Rattle.gltf_schema.specs.Tree.{Tree, Trees, end, with_tree, items_in, members_in}
-use Rattle.gltf_schema.specs.Kind.{Kind, IndexInto, SourceImage, ChannelSampler, Stride, Choice, Attributes, ListOf, Object, ObjectName, Rows, no_rows, row}
+use Rattle.gltf_schema.specs.Kind.{Kind, IndexInto, SourceImage, ChannelSampler, Stride, Choice, Attributes, ListOf, Object, Rows, no_rows, row, Rule, no_rule, needs_data, needs_projection, needs_cone, needs_positions, requires_enabled, holds_samplers}
 use Rattle.gltf_sinks.specs.Report.{From}
 use Rattle.gltf_faults.specs.Context.{Context}
-use Rattle.gltf_faults.specs.Rules.{object_faults, rule}
+use Rattle.gltf_faults.specs.Rules.{object_faults, rule_faults}
 use Rattle.gltf_faults.specs.Faults.{items_reports}
 use Rattle.gltf_faults.specs.Reports.{animation_below, reports, member_reports}
-use Rattle.gltf_faults.specs.Silence.{has_no_rule, is_silent, are_silent}
+use Rattle.gltf_schema.specs.Silence.{is_silent_rule, is_silent, are_silent}
 use Rattle.gltf_faults.proofs.Joining.{joined}
 
-no_rule : (named : ObjectName) → has_no_rule named ≡ true → (ts : Trees) (context : Context) (base : List Step) → rule named ts context base ≡ []
-no_rule ObjectName.accessor h ts context base = absurd cc
-no_rule ObjectName.camera h ts context base = absurd cc
-no_rule ObjectName.primitive h ts context base = absurd cc
-no_rule ObjectName.root h ts context base = absurd cc
-no_rule ObjectName.light h ts context base = absurd cc
-no_rule named h ts context base = refl
+rule_silent : (rule : Rule) → is_silent_rule rule ≡ true → (ts : Trees) (context : Context) (base : List Step) → rule_faults rule ts context base ≡ []
+rule_silent no_rule h ts context base = refl
+rule_silent needs_data h ts context base = absurd cc
+rule_silent needs_projection h ts context base = absurd cc
+rule_silent needs_cone h ts context base = absurd cc
+rule_silent needs_positions h ts context base = absurd cc
+rule_silent requires_enabled h ts context base = absurd cc
+rule_silent holds_samplers h ts context base = refl
 
-no_fault : (named : ObjectName) → has_no_rule named ≡ true → (t : Tree) (context : Context) (base : List Step) → object_faults t named context base ≡ []
-no_fault named h (tree.object ts others) context base = no_rule named h ts context base
-no_fault named h t context base = refl
+object_silent : (rule : Rule) → is_silent_rule rule ≡ true → (t : Tree) (context : Context) (base : List Step) → object_faults t rule context base ≡ []
+object_silent rule h (tree.object ts others) context base = rule_silent rule h ts context base
+object_silent rule h t context base = refl
 
 no_items : (f : Tree → From) → ((t : Tree) (base : List Step) → f t base ≡ []) → (i : ℕ) (ts : Trees) (base : List Step) → items_reports f i ts base ≡ []
 no_items f h i end base = refl
@@ -38,9 +39,9 @@ mutual
   silent (Choice form listed) h t context animation base = absurd cc
   silent (Attributes named) h t context animation base = absurd cc
   silent (ListOf kind) h t context animation base = no_items (λ x. reports kind x context animation) (λ x at. silent kind h x context animation at) 0 (items_in t) base
-  silent (Object named rows keeps) h t context animation base =
-      let parts = and_parts (has_no_rule named) (are_silent rows) h in
-      joined (silent_members rows parts.1 (members_in t) context (animation_below named t animation) base) (no_fault named parts.0 t context base)
+  silent (Object rule rows keeps) h t context animation base =
+      let parts = and_parts (is_silent_rule rule) (are_silent rows) h in
+      joined (silent_members rows parts.1 (members_in t) context (animation_below rule t animation) base) (object_silent rule parts.0 t context base)
   silent kind h t context animation base = refl
 
   silent_members : (rows : Rows) → are_silent rows ≡ true → (ts : Trees) (context : Context) (animation : Tree) (base : List Step) → member_reports ts rows context animation base ≡ []

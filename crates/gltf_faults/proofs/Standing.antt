@@ -12,13 +12,13 @@ use Rattle.gltf_paths.specs.declared.validation.Error.{Error}
 use Rattle.gltf_paths.specs.declared.validation.Error.TheVariants.{Missing}
 use Rattle.gltf_schema.specs.Tree as tree
 use Rattle.gltf_schema.specs.Tree.{Tree, Trees, end, with_tree, items_in, members_in, entries_in}
-use Rattle.gltf_schema.specs.Kind.{Kind, IndexInto, SourceImage, ChannelSampler, Stride, Choice, Attributes, ListOf, Object, ObjectName, Rows, no_rows, row}
+use Rattle.gltf_schema.specs.Kind.{Kind, IndexInto, SourceImage, ChannelSampler, Stride, Choice, Attributes, ListOf, Object, Rows, no_rows, row, Rule, needs_data, needs_projection, needs_cone, needs_positions, requires_enabled}
 use Rattle.gltf_root.specs.Lists.{count_in, sampler_count}
 use Rattle.gltf_sinks.specs.Report.{From, Report, report}
 use Rattle.gltf_faults.specs.Context.{Context}
 use Rattle.gltf_faults.specs.Faults.{report_if, number_faults, index_faults, source_faults, stride_faults, choice_faults, key_faults, entries_faults, items_reports}
 use Rattle.gltf_faults.specs.Reports.{animation_below, reports, member_reports}
-use Rattle.gltf_faults.specs.Rules.{is_positions, accessor_min, accessor_max, root_extensions_required, primitive_attributes, bound_faults, bounds_faults, positions_faults, extension_faults, root_rule, rule, object_faults}
+use Rattle.gltf_faults.specs.Rules.{is_positions, accessor_min, accessor_max, root_extensions_required, primitive_attributes, bound_faults, bounds_faults, positions_faults, extension_faults, root_rule, rule_faults, object_faults}
 
 -- at a place or below it
 abbrev pub StandsBelow : List Step → Report → Type 0
@@ -118,20 +118,20 @@ extension_below enabled t base = none_below base
 pub required_below : (enabled : List (List ℕ)) (ts : Trees) (base : List Step) → AllBelow (base ++ field (codes "extensionsRequired") ∷ []) (root_rule enabled ts base)
 required_below enabled ts base = items_below (extension_faults enabled) (extension_below enabled) 0 (items_in (root_extensions_required ts)) (base ++ field (codes "extensionsRequired") ∷ [])
 
-rule_below : (of : ObjectName) (ts : Trees) (context : Context) (base : List Step) → AllBelow base (rule of ts context base)
-rule_below ObjectName.accessor ts context base = if_below _ _ base (field (codes "bufferView") ∷ []) _ refl
-rule_below ObjectName.camera ts context base = if_here _ _ base
-rule_below ObjectName.light ts context base = if_below _ _ base (field (codes "spot") ∷ []) _ refl
-rule_below ObjectName.primitive ts context base =
+rule_below : (rule : Rule) (ts : Trees) (context : Context) (base : List Step) → AllBelow base (rule_faults rule ts context base)
+rule_below needs_data ts context base = if_below _ _ base (field (codes "bufferView") ∷ []) _ refl
+rule_below needs_projection ts context base = if_here _ _ base
+rule_below needs_cone ts context base = if_below _ _ base (field (codes "spot") ∷ []) _ refl
+rule_below needs_positions ts context base =
     let attributes = field (codes "attributes") ∷ [] in
     let position = key (codes "POSITION") ∷ [] in
     further_below base attributes _ (further_below (base ++ attributes) position _ (positions_below (lookup is_positions (entries_in (primitive_attributes ts))) context.root ((base ++ attributes) ++ position)))
-rule_below ObjectName.root ts context base = further_below base (field (codes "extensionsRequired") ∷ []) _ (required_below context.rules.enabled ts base)
-rule_below of ts context base = none_below base
+rule_below requires_enabled ts context base = further_below base (field (codes "extensionsRequired") ∷ []) _ (required_below context.rules.enabled ts base)
+rule_below rule ts context base = none_below base
 
-object_below : (of : ObjectName) (t : Tree) (context : Context) (base : List Step) → AllBelow base (object_faults t of context base)
-object_below of (tree.object ts others) context base = rule_below of ts context base
-object_below of t context base = none_below base
+object_below : (rule : Rule) (t : Tree) (context : Context) (base : List Step) → AllBelow base (object_faults t rule context base)
+object_below rule (tree.object ts others) context base = rule_below rule ts context base
+object_below rule t context base = none_below base
 
 -- ---- a whole tree
 
@@ -145,9 +145,9 @@ mutual
   reports_below (Choice form listed) t context above base = choice_below t base
   reports_below (Attributes named) t context above base = entries_below (count_in named context.root) (entries_in t) base
   reports_below (ListOf kind) t context above base = items_below (λ x. reports kind x context above) (λ x at. reports_below kind x context above at) 0 (items_in t) base
-  reports_below (Object of rows keeps) t context above base =
-      both_below base (member_reports (members_in t) rows context (animation_below of t above) base) (object_faults t of context base)
-      (members_below (members_in t) rows context (animation_below of t above) base) (object_below of t context base)
+  reports_below (Object rule rows keeps) t context above base =
+      both_below base (member_reports (members_in t) rows context (animation_below rule t above) base) (object_faults t rule context base)
+      (members_below (members_in t) rows context (animation_below rule t above) base) (object_below rule t context base)
   reports_below kind t context above base = none_below base
 
   members_below : (ts : Trees) (rows : Rows) (context : Context) (above : Tree) (base : List Step) → AllBelow base (member_reports ts rows context above base)

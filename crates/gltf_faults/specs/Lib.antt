@@ -4,10 +4,9 @@ pub mod Rules
 pub mod Positions
 pub mod Reports
 pub mod Places
+pub mod References
 pub mod Closed
 pub mod Naming
 pub mod Inserted
 pub mod Standing
 pub mod Worked
-pub mod RowNames
-pub mod Silence

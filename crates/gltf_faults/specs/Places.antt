@@ -57,8 +57,8 @@ abbrev mutual
   pub places : Kind → Tree → Tree → List Step → List Place
   places (Attributes named) t animation base = entry_places named (entries_in t) animation base
   places (ListOf kind) t animation base = item_places (λ x. places kind x animation) 0 (items_in t) base
-  places (Object named rows keeps) t animation base =
-      member_places (members_in t) rows (animation_below named t animation) base ++ object_place (Object named rows keeps) t animation base
+  places (Object rule rows keeps) t animation base =
+      member_places (members_in t) rows (animation_below rule t animation) base ++ object_place (Object rule rows keeps) t animation base
   places kind t animation base = place_of kind t animation base
 
   pub member_places : Trees → Rows → Tree → List Step → List Place
@@ -74,7 +74,7 @@ kind_faults SourceImage t context animation base = source_faults context.rules.e
 kind_faults ChannelSampler t context animation base = index_faults (sampler_count animation) t base
 kind_faults Stride t context animation base = stride_faults t base
 kind_faults (Choice form listed) t context animation base = choice_faults t base
-kind_faults (Object named rows keeps) t context animation base = object_faults t named context base
+kind_faults (Object rule rows keeps) t context animation base = object_faults t rule context base
 kind_faults _ t context animation base = []
 
 abbrev pub faults : Context → Place → List Report

@@ -3,7 +3,7 @@ use Rattle.std.specs.Prelude.{List, [], ◌∷◌, ◌++◌}
 use Rattle.gltf_paths.specs.Lists.{ListName}
 use Rattle.gltf_paths.specs.Steps.{field}
 use Rattle.gltf_schema.specs.Tree.{Tree, absent, Trees, end, with_tree, items_in, members_in, entries_in}
-use Rattle.gltf_schema.specs.Kind.{Kind, IndexInto, SourceImage, ChannelSampler, Stride, Choice, Attributes, ListOf, Object, ObjectName, Rows, no_rows, row}
+use Rattle.gltf_schema.specs.Kind.{Kind, IndexInto, SourceImage, ChannelSampler, Stride, Choice, Attributes, ListOf, Object, Rows, no_rows, row, Rule, no_rule, needs_data, needs_projection, needs_cone, needs_positions, requires_enabled, holds_samplers}
 use Rattle.gltf_root.specs.Lists.{count_in, sampler_count}
 use Rattle.gltf_root.specs.RootTable.{root_kind}
 use Rattle.gltf_sinks.specs.Report.{Report, From}
@@ -12,9 +12,14 @@ use Rattle.gltf_faults.specs.Faults.{index_faults, source_faults, stride_faults,
 use Rattle.gltf_faults.specs.Rules.{object_faults}
 
 -- the animation that the members of an object stand below: itself, or the one above
-abbrev pub animation_below : ObjectName → Tree → Tree → Tree
-animation_below ObjectName.animation t above = t
-animation_below _ t above = above
+abbrev pub animation_below : Rule → Tree → Tree → Tree
+animation_below no_rule t above = above
+animation_below needs_data t above = above
+animation_below needs_projection t above = above
+animation_below needs_cone t above = above
+animation_below needs_positions t above = above
+animation_below requires_enabled t above = above
+animation_below holds_samplers t above = t
 
 abbrev mutual
   -- what is wrong in a tree of a kind, against a document, by rules, below an animation or none, from a base: an object's
@@ -27,8 +32,8 @@ abbrev mutual
   reports (Choice form listed) t context animation base = choice_faults t base
   reports (Attributes named) t context animation base = entries_faults (count_in named context.root) (entries_in t) base
   reports (ListOf kind) t context animation base = items_reports (λ x. reports kind x context animation) 0 (items_in t) base
-  reports (Object named rows keeps) t context animation base =
-      member_reports (members_in t) rows context (animation_below named t animation) base ++ object_faults t named context base
+  reports (Object rule rows keeps) t context animation base =
+      member_reports (members_in t) rows context (animation_below rule t animation) base ++ object_faults t rule context base
   reports _ t context animation base = []
 
   pub member_reports : Trees → Rows → Context → Tree → From

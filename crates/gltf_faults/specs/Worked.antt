@@ -7,12 +7,19 @@ use Rattle.gltf_paths.specs.Steps.{Step, field, item, key}
 use Rattle.gltf_sinks.specs.Report.{Report}
 use Rattle.gltf_faults.specs.Context.{standard_rules}
 use Rattle.gltf_faults.specs.Reports.{document_reports}
-use Rattle.gltf_root.specs.Pushed.{item_kind, pushed, with_member}
-use Rattle.gltf_root.specs.RootTable.{root_kind}
+use Rattle.gltf_data.specs.AccessorTable.{sparse_indices_rows}
+use Rattle.gltf_nodes.specs.LightTable.{light_of_node_rows}
+use Rattle.gltf_nodes.specs.SceneTable.{node_extension_rows}
+use Rattle.gltf_root.specs.Named.{with_member, with_reached}
+use Rattle.gltf_root.specs.Pushed.{item_kind, pushed}
+use Rattle.gltf_root.specs.RootExtensionTable.{root_extension_rows}
+use Rattle.gltf_root.specs.RootTable.{root_kind, root_rows}
+use Rattle.gltf_schema.specs.Defaults.{defaults}
+use Rattle.gltf_schema.specs.Kind.{Rows}
 use Rattle.gltf_schema.specs.Read.{read}
 use Rattle.gltf_schema.specs.Plain.{is_plain}
 use Rattle.gltf_schema.specs.Tree as tree
-use Rattle.gltf_schema.specs.Tree.{Tree, absent, trees}
+use Rattle.gltf_schema.specs.Tree.{Tree}
 use Rattle.gltf_schema.specs.Write.{write}
 
 -- what is wrong in the document that a JSON value is, if it is one
@@ -113,21 +120,29 @@ listed_variant = object (member (codes "variants") (one (object (member (codes "
 abbrev pub node_of : ℕ → Data
 node_of child = object (member (codes "children") (one (whole child)) no_members)
 
--- whether the document read from a JSON value is plain, and whether it is with other extras, which are its member at 7
+-- whether the document read from a JSON value is plain, and whether it is with other extras
 abbrev pub plain_in : Data → Option Bool
 plain_in d = option_map (is_plain root_kind) (read root_kind d)
 
 abbrev pub plain_with_extras : Tree → Data → Option Bool
-plain_with_extras extras d = option_map (λ t. is_plain root_kind (with_member 7 extras t)) (read root_kind d)
+plain_with_extras extras d = option_map (λ t. is_plain root_kind (with_member (codes "extras") root_rows extras t)) (read root_kind d)
+
+-- an object of these rows with each member left out, beside others
+abbrev pub left_out_beside : Rows → Members → Tree
+left_out_beside rows others = tree.object (defaults rows) others
 
 -- sparse indices in view 0, of a component type, with other members
 abbrev pub indices_of : Spelling → Members → Tree
-indices_of component_type others = tree.object (trees (tree.index 0 ∷ tree.whole 0 ∷ tree.chosen component_type ∷ absent ∷ absent ∷ [])) others
+indices_of component_type others =
+    with_member (codes "bufferView") sparse_indices_rows (tree.index 0)
+    (with_member (codes "componentType") sparse_indices_rows (tree.chosen component_type) (left_out_beside sparse_indices_rows others))
 
 -- the extensions of a document with neither lights nor variants, beside others
 abbrev pub extensions_beside : Members → Tree
-extensions_beside others = tree.object (trees (absent ∷ absent ∷ [])) others
+extensions_beside others = left_out_beside root_extension_rows others
 
 -- the extensions of a node with light 0, beside others
 abbrev pub node_extensions_beside : Members → Tree
-node_extensions_beside others = tree.object (trees (tree.object (trees (tree.index 0 ∷ [])) no_members ∷ [])) others
+node_extensions_beside others =
+    with_reached ((codes "KHR_lights_punctual", node_extension_rows) ∷ (codes "light", light_of_node_rows) ∷ []) (tree.index 0)
+    (left_out_beside node_extension_rows others)

@@ -1,14 +1,15 @@
 //! Laws of the definitions that the contracts of this crate speak by. Each is the contract of a
 //! function that does nothing.
 
-ghost use Rattle.std.specs.Prelude.{◌≡◌, ◌≢◌, ◌↔◌, ℕ, List, [], true, not, codes, Some, None};
+ghost use Rattle.std.specs.Prelude.{◌≡◌, ◌≢◌, ◌↔◌, ℕ, List, [], true, not, Some, None};
 ghost use Rattle.std.specs.List.{filter};
 ghost use Rattle.gltf_paths.specs.Steps.{Step};
 ghost use Rattle.serde_json.specs.Data.{Data};
 ghost use Rattle.gltf_schema.specs.Invalid.{holds_invalid};
 ghost use Rattle.gltf_schema.specs.Plain.{is_plain};
 ghost use Rattle.gltf_schema.specs.Read.{read};
-ghost use Rattle.gltf_schema.specs.Tree.{Tree, absent, text, tree_at, members_in};
+ghost use Rattle.gltf_schema.specs.Sound.{is_sound};
+ghost use Rattle.gltf_schema.specs.Tree.{Tree, absent, tree_at, members_in};
 ghost use Rattle.gltf_schema.specs.Write.{write};
 ghost use Rattle.gltf_schema.specs.Kind.{Kind};
 ghost use Rattle.gltf_faults.specs.Inserted.{IsInserted};
@@ -18,18 +19,10 @@ ghost use Rattle.gltf_faults.specs.Reports.{document_reports, reports, reports_b
 ghost use Rattle.gltf_faults.specs.Places.{reports_by_places};
 ghost use Rattle.gltf_faults.specs.Closed.{IsClosed};
 ghost use Rattle.gltf_faults.specs.Standing.{is_below};
-ghost use Rattle.gltf_data.specs.AccessorTable.{accessor_rows};
-ghost use Rattle.gltf_meshes.specs.MeshTable.{primitive_rows};
-ghost use Rattle.gltf_nodes.specs.CameraTable.{camera_rows};
-ghost use Rattle.gltf_nodes.specs.LightTable.{light_rows};
-ghost use Rattle.gltf_animations.specs.AnimationTable.{animation_rows};
-ghost use Rattle.gltf_root.specs.RootExtensionTable.{lights_rows, root_extension_rows, variants_rows};
-ghost use Rattle.gltf_faults.specs.RowNames.{name_at, names_of};
-ghost use Rattle.gltf_faults.specs.Rules.{accessor_buffer_view, accessor_min, accessor_max, accessor_sparse, camera_orthographic, camera_perspective, light_spot, light_type, primitive_attributes, root_extensions_required};
 ghost use Rattle.gltf_paths.specs.Lists.{ListName};
-ghost use Rattle.gltf_root.specs.Lists.{extensions_row, lights_row, variants_row, listed_row, samplers_row, count_in, list_in, row_of};
+ghost use Rattle.gltf_root.specs.Lists.{count_in, list_in, row_of};
 ghost use Rattle.gltf_root.specs.Pushed.{item_kind, item_place, pushed, with_last};
-ghost use Rattle.gltf_root.specs.RootTable.{root_kind, root_rows};
+ghost use Rattle.gltf_root.specs.RootTable.{root_kind};
 ghost use Rattle.gltf_root.specs.RootTrees.{root_tree};
 ghost use Rattle.gltf_sinks.specs.Handed.{run};
 ghost use Rattle.gltf_sinks.specs.Sinks.{one_more};
@@ -45,8 +38,8 @@ pub fn reports_are_the_faults_of_places()
 
 /// A document without reports is closed: every index in it names an item, a channel's sampler one
 /// of its own animation, and every choice and every key is one that is known. So is a document of
-/// which validation against itself left a new count at zero. It is so by any rules; where they let
-/// textures be empty, the number that stands for no image may name nothing.
+/// which validation against itself left a new count at zero. It is so by any rules; a texture lacks
+/// an image only where they let textures be empty.
 pub fn clean_documents_are_closed()
     ensures clean { (rules : Rules) (r : Document) → document_reports rules (root_tree r) ≡ []
         → IsClosed root_kind (root_tree r) (under rules (root_tree r)) absent }
@@ -77,10 +70,13 @@ pub fn pushes_change_one_list()
 {}
 
 /// One more item at the end of a list of a document leaves what is wrong in a value as it was,
-/// unless some index into the list, in the value, is the very number that the item takes.
+/// unless some index into the list, in the value, is the very number that the item takes. For the
+/// list of accessors the kind has to be sound, as each kind of the table is: the rule of primitives
+/// looks up an accessor, and in a sound kind it does so by an index of the value.
 pub fn pushes_leave_other_reports()
     ensures { (rules : Rules) (r : Document) (named : ListName) (x : Tree) (kind : Kind)
         (t above : Tree) (base : List Step)
+        → (ListName.accessors ≡ named → is_sound kind ≡ true)
         → Avoids named (count_in named (root_tree r)) kind t
         → reports kind t (under rules (pushed named x (root_tree r))) above base
         ≡ reports kind t (under rules (root_tree r)) above base }
@@ -133,49 +129,4 @@ pub fn plain_documents_written_alike_are_the_same()
         → is_plain root_kind (root_tree s) ≡ true
         → write root_kind (root_tree r) ≡ Some d → write root_kind (root_tree s) ≡ Some d
         → root_tree r ≡ root_tree s }
-{}
-
-/// The rules and the lists find members by their rows' numbers: the rows there are those meant.
-/// What a rule finds among the names of the rows is the name of the row that it means.
-#[tactic(auto, unfolding(gltf_data::specs::AccessorTable::accessor_rows, gltf_meshes::specs::MeshTable::primitive_rows, gltf_nodes::specs::CameraTable::camera_rows, gltf_nodes::specs::LightTable::light_rows, gltf_animations::specs::AnimationTable::animation_rows, gltf_root::specs::RootTable::root_rows, gltf_root::specs::RootExtensionTable::root_extension_rows, gltf_root::specs::RootExtensionTable::lights_rows, gltf_root::specs::RootExtensionTable::variants_rows))]
-pub fn rows_stand_where_rules_look()
-    ensures buffer_view { accessor_buffer_view (names_of accessor_rows)
-        ≡ text (codes "bufferView") }
-    ensures min { accessor_min (names_of accessor_rows) ≡ text (codes "min") }
-    ensures max { accessor_max (names_of accessor_rows) ≡ text (codes "max") }
-    ensures sparse { accessor_sparse (names_of accessor_rows) ≡ text (codes "sparse") }
-    ensures orthographic { camera_orthographic (names_of camera_rows)
-        ≡ text (codes "orthographic") }
-    ensures perspective { camera_perspective (names_of camera_rows) ≡ text (codes "perspective") }
-    ensures spot { light_spot (names_of light_rows) ≡ text (codes "spot") }
-    ensures light_type { light_type (names_of light_rows) ≡ text (codes "type") }
-    ensures attributes { primitive_attributes (names_of primitive_rows)
-        ≡ text (codes "attributes") }
-    ensures extensions_required { root_extensions_required (names_of root_rows)
-        ≡ text (codes "extensionsRequired") }
-    ensures extensions { name_at extensions_row root_rows ≡ codes "extensions" }
-    ensures row_of_lights { name_at (row_of ListName.lights) root_rows ≡ codes "extensions" }
-    ensures row_of_variants { name_at (row_of ListName.variants) root_rows ≡ codes "extensions" }
-    ensures lights_in_extensions { name_at lights_row root_extension_rows
-        ≡ codes "KHR_lights_punctual" }
-    ensures variants_in_extensions { name_at variants_row root_extension_rows
-        ≡ codes "KHR_materials_variants" }
-    ensures list_of_lights { name_at listed_row lights_rows ≡ codes "lights" }
-    ensures list_of_variants { name_at listed_row variants_rows ≡ codes "variants" }
-    ensures samplers_of_an_animation { name_at samplers_row animation_rows ≡ codes "samplers" }
-    ensures list_of_accessors { name_at (row_of ListName.accessors) root_rows ≡ codes "accessors" }
-    ensures list_of_animations { name_at (row_of ListName.animations) root_rows
-        ≡ codes "animations" }
-    ensures list_of_buffers { name_at (row_of ListName.buffers) root_rows ≡ codes "buffers" }
-    ensures list_of_buffer_views { name_at (row_of ListName.buffer_views) root_rows
-        ≡ codes "bufferViews" }
-    ensures list_of_cameras { name_at (row_of ListName.cameras) root_rows ≡ codes "cameras" }
-    ensures list_of_images { name_at (row_of ListName.images) root_rows ≡ codes "images" }
-    ensures list_of_materials { name_at (row_of ListName.materials) root_rows ≡ codes "materials" }
-    ensures list_of_meshes { name_at (row_of ListName.meshes) root_rows ≡ codes "meshes" }
-    ensures list_of_nodes { name_at (row_of ListName.nodes) root_rows ≡ codes "nodes" }
-    ensures list_of_samplers { name_at (row_of ListName.samplers) root_rows ≡ codes "samplers" }
-    ensures list_of_scenes { name_at (row_of ListName.scenes) root_rows ≡ codes "scenes" }
-    ensures list_of_skins { name_at (row_of ListName.skins) root_rows ≡ codes "skins" }
-    ensures list_of_textures { name_at (row_of ListName.textures) root_rows ≡ codes "textures" }
 {}

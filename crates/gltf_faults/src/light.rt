@@ -12,7 +12,7 @@ use gltf_nodes::extensions::scene::khr_lights_punctual::Light;
 
 /// What is wrong with a light's cone: `Missing`, for `spot`, where the type is a spot light and
 /// there is no cone.
-#[tactic(auto, unfolding(gltf_nodes::specs::LightTrees::light_members))]
+#[tactic(auto, unfolding(gltf_nodes::specs::LightTable::light_rows, gltf_nodes::specs::LightTrees::light_members))]
 pub fn spot_fault(light: &Light) -> Option<Error>
     ensures { (base : List Step) → found_at result (base ++ field (codes "spot") ∷ [])
         ≡ light_rule (light_members light.now) base }

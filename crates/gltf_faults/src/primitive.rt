@@ -38,7 +38,7 @@ pub struct PositionFaults {
 
 /// What is wrong with the positions of a primitive: `Missing` where there are none; for each bound
 /// of their accessor, where it is there, `Missing` or, for what isn't three numbers, `Invalid`.
-#[tactic(auto, unfolding(gltf_meshes::specs::MeshTrees::primitive_members))]
+#[tactic(auto, unfolding(gltf_meshes::specs::MeshTable::primitive_rows, gltf_meshes::specs::MeshTrees::primitive_members))]
 pub fn position_faults(primitive: &Primitive, root: &Root) -> PositionFaults
     ensures { (base : List MathematicalStep) → found_in_positions result base
         ≡ positions_faults (lookup is_positions (entries_in
@@ -70,7 +70,7 @@ fn found_at_index(index: Index<Accessor>, root: &Root) -> PositionFaults
 }
 
 /// What is wrong with the bounds of an accessor of positions.
-#[tactic(auto, unfolding(gltf_data::specs::AccessorTrees::accessor_members))]
+#[tactic(auto, unfolding(gltf_data::specs::AccessorTable::accessor_rows, gltf_data::specs::AccessorTrees::accessor_members))]
 fn found_in_bounds(accessor: &Accessor) -> PositionFaults
     ensures { (base : List MathematicalStep) → found_in_positions result base
         ≡ bounds_faults (closed_object (accessor_members accessor.now)) base }

@@ -34,15 +34,23 @@ pub mod extensions {
     }
 }
 
-/// What holds of documents and of validation, as contracts of functions that do nothing.
+/// What holds of the definitions that contracts cite, as contracts of functions that do nothing:
+/// here of documents and of validation, and in the modules of what these are made of.
 pub mod laws {
+    pub use gltf_base::laws as base;
+    pub use gltf_faults::constant_is_listed;
+    pub use gltf_faults::laws::worked::{
+        worked_documents, worked_plainness, worked_pushes, worked_rules, worked_writings,
+    };
     pub use gltf_faults::laws::{
         clean_documents_are_closed, clean_documents_avoid_the_next_number,
         plain_documents_written_alike_are_the_same, pushes_add_reports_of_the_item,
         pushes_change_one_list, pushes_leave_other_reports, pushes_onto_clean_documents,
         read_documents_are_refused_where_invalid, reports_are_the_faults_of_places,
     };
+    pub use gltf_parts::laws as parts;
     pub use gltf_root::laws::pushes_are_taken_back;
+    pub use gltf_scene::laws as scene;
     pub use gltf_sinks::laws::{collections_hold_the_reports, counts_are_numbers_of_reports};
 }
 

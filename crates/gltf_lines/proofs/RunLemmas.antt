@@ -1,66 +1,22 @@
 -- What a run wrote, from how its document was read and what the writer took.
-use Rattle.std.proofs.Common.{◌≡◌, ◌≢◌, ◌⊎◌, inl, inr, ℕ, List, [], ◌∷◌, Bool, true, Option, Some, None, IfSome, IsSomeAnd, Result, Ok, Err, refl, sym, ◌∙◌, subst, arith}
+use Rattle.std.proofs.Common.{◌≡◌, ◌⊎◌, inl, inr, ℕ, List, Bool, true, Option, Some, None, IfSome, IsSomeAnd, Result, Ok, Err, refl, sym, ◌∙◌, subst}
 use Rattle.std.proofs.lemmas.Bool.{true≢false}
-use Rattle.std.specs.Io.KnownBytes.{Appends}
-use Rattle.gltf_schema.specs.declared.error.Error.{Error}
-use Rattle.gltf_schema.specs.declared.error.Error.TheVariants.{Json, Schema, InvalidItem, Read, Write, Memory, TooLong}
-use Rattle.gltf_root.specs.Answer.{Answer, no_json, no_document, document, answer, IsReadAnswer, IsReading}
-use Rattle.gltf_devices.specs.Device.{Seen, IsWithin, AppendsFront}
+use Rattle.gltf_paths.specs.declared.error.Error.{Error}
+use Rattle.gltf_paths.specs.declared.error.Error.TheVariants.{Json, Schema, InvalidItem, Read, Write, Memory, TooLong}
+use Rattle.gltf_root.specs.Answer.{no_json, no_document, document, answer, IsReadAnswer, IsReading}
+use Rattle.gltf_devices.specs.Device.{Seen, IsWithin}
 use Rattle.gltf_faults.specs.Context.{Rules}
-use Rattle.gltf_faults.specs.Reports.{document_reports}
-use Rattle.gltf_sinks.specs.Report.{Report}
 use Rattle.gltf_root.specs.RootTrees.{root_tree}
 use Rattle.gltf_root.specs.declared.root.Root.{Root}
-use Rattle.gltf_lines.specs.Output.{Output, answer_output, reports_output, output, refusal}
+use Rattle.gltf_lines.specs.Output.{Output, refusal}
 use Rattle.gltf_lines.specs.Run.{IsRun, IsWritten, reading_output}
 
--- no output of an answer has the refusal's status
-reports_output-status : (rs : List Report) → (reports_output rs).status ≢ 4
-reports_output-status [] = λ e. omega arith
-reports_output-status (r ∷ rs) = λ e. omega arith
-
-answer_output-status : (rules : Rules) (a : Answer) → (answer_output rules a).status ≢ 4
-answer_output-status rules no_json = λ e. omega arith
-answer_output-status rules no_document = λ e. omega arith
-answer_output-status rules (document t) = reports_output-status (document_reports rules t)
-
--- what holds of the output of the told bytes' answer
-output-told : (rules : Rules) (input : Option (List ℕ)) (a : Answer) (P : Output → Type 0) → IfSome input (λ bytes. answer bytes ≡ a) → P (answer_output rules a)
-    → IfSome input (λ bytes. P (output rules bytes))
-output-told rules None a P told h = tt
-output-told rules (Some bytes) a P told h = subst (λ x. P (answer_output rules x)) (sym told) h
-
 module _ (rules : Rules) (input old new : Option (List ℕ)) (failed_before failed : Bool) (status : ℕ) where
-  -- the refusal was written
-  IsRun-refused : IsWritten refusal old new failed_before failed status → IsRun rules input old new failed_before failed status
-  unfolding IsWritten
-  IsRun-refused (inl whole) = record {
-    answered = λ some. absurd (some whole.answered);
-    refused = λ _. inl (inl whole);
-  }
-  IsRun-refused (inr broke) = record {
-    answered = λ some. absurd (some broke.answered);
-    refused = λ _. inl (inr broke);
-  }
-
-  -- the output of the answer was written
-  IsRun-answered : (a : Answer) → IfSome input (λ bytes. answer bytes ≡ a)
-      → IsWritten (answer_output rules a) old new failed_before failed status → IsRun rules input old new failed_before failed status
-  unfolding IsWritten
-  IsRun-answered a told (inl whole) = record {
-    answered = λ _. (whole.works, output-told rules input a (λ due. (status ≡ due.status) × Appends old new due.text) told (whole.answered, whole.appends));
-    refused = λ four. absurd (answer_output-status rules a (sym whole.answered ∙ four));
-  }
-  IsRun-answered a told (inr broke) = record {
-    answered = λ some. absurd (some broke.answered);
-    refused = λ _. inr (broke.fails, output-told rules input a (λ due. AppendsFront old new due.text) told broke.front);
-  }
-
   IsRun-read : (r : Result Root Error) → IfSome input (λ bytes. IsReadAnswer (answer bytes) r)
       → IsSomeAnd (reading_output rules r) (λ due. IsWritten due old new failed_before failed status) → IsRun rules input old new failed_before failed status
-  IsRun-read (Ok root) told h = IsRun-answered (document (root_tree root)) told h
-  IsRun-read (Err Json) told h = IsRun-answered no_json told h
-  IsRun-read (Err Schema) told h = IsRun-answered no_document told h
+  IsRun-read (Ok root) told h = record { is = inr (document (root_tree root), told, h) }
+  IsRun-read (Err Json) told h = record { is = inr (no_json, told, h) }
+  IsRun-read (Err Schema) told h = record { is = inr (no_document, told, h) }
   IsRun-read (Err (Memory e)) told h = absurd h
   IsRun-read (Err Read) told h = absurd h
   IsRun-read (Err Write) told h = absurd h
@@ -71,7 +27,7 @@ module _ (rules : Rules) (input old new : Option (List ℕ)) (failed_before fail
   pub IsRun-either : (r : Result Root Error) → IfSome input (λ bytes. IsReadAnswer (answer bytes) r)
       → IsWritten refusal old new failed_before failed status ⊎ IsSomeAnd (reading_output rules r) (λ due. IsWritten due old new failed_before failed status)
       → IsRun rules input old new failed_before failed status
-  IsRun-either r told (inl h) = IsRun-refused h
+  IsRun-either r told (inl h) = record { is = inl h }
   IsRun-either r told (inr h) = IsRun-read r told h
 
 -- there is no output, or a fresh reader was read within the limits

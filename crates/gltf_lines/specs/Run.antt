@@ -1,14 +1,14 @@
 -- What a run has written and answered.
-use Rattle.std.specs.Prelude.{◌≡◌, ◌≢◌, ◌⊎◌, ℕ, List, Bool, true, Option, Some, None, IfSome, Result, Ok, Err}
+use Rattle.std.specs.Prelude.{◌≡◌, ◌⊎◌, ℕ, List, Bool, true, Option, Some, None, IfSome, Result, Ok, Err}
 use Rattle.std.specs.Io.KnownBytes.{Appends}
-use Rattle.gltf_schema.specs.declared.error.Error.{Error}
-use Rattle.gltf_schema.specs.declared.error.Error.TheVariants as errors
-use Rattle.gltf_root.specs.Answer.{no_json, no_document, document, byte_limit, call_limit}
+use Rattle.gltf_paths.specs.declared.error.Error.{Error}
+use Rattle.gltf_paths.specs.declared.error.Error.TheVariants as errors
+use Rattle.gltf_root.specs.Answer.{Answer, no_json, no_document, document, answer, byte_limit, call_limit}
 use Rattle.gltf_devices.specs.Device.{Seen, IsWithin, AppendsFront}
 use Rattle.gltf_faults.specs.Context.{Rules}
 use Rattle.gltf_root.specs.RootTrees.{root_tree}
 use Rattle.gltf_root.specs.declared.root.Root.{Root}
-use Rattle.gltf_lines.specs.Output.{Output, answer_output, output, refusal}
+use Rattle.gltf_lines.specs.Output.{Output, answer_output, refusal}
 
 -- an output was written whole, and the writer failed no more than it had before
 pub record IsWhole (due : Output) (old new : Option (List ℕ)) (failed_before failed : Bool) (status : ℕ) : Type 0 where
@@ -26,13 +26,12 @@ pub record BrokeOff (text : List ℕ) (old new : Option (List ℕ)) (failed : Bo
 unfoldable pub IsWritten : Output → Option (List ℕ) → Option (List ℕ) → Bool → Bool → ℕ → Type 0
 IsWritten due old new failed_before failed status = IsWhole due old new failed_before failed status ⊎ BrokeOff due.text old new failed status
 
--- by the rules, the bytes that the reader told at the start, if any, what the writer told before and after, whether it had failed
--- before and has failed then, and the status
+-- what a run wrote and returned, by the rules: the refusal, or the output of an answer. That is the answer to the bytes that the
+-- reader told at the start, if it told any. The last five are what the writer told before and after, whether it had failed
+-- before and has failed then, and the status.
 pub record IsRun (rules : Rules) (input old new : Option (List ℕ)) (failed_before failed : Bool) (status : ℕ) : Type 0 where
-  -- the bytes' output is written
-  pub answered : status ≢ 4 → (failed ≡ failed_before) × IfSome input (λ bytes. (status ≡ (output rules bytes).status) × Appends old new (output rules bytes).text)
-  -- the refusal is written, or the writer failed behind a front of one of the two
-  pub refused : status ≡ 4 → IsWritten refusal old new failed_before failed status ⊎ ((failed ≡ true) × IfSome input (λ bytes. AppendsFront old new (output rules bytes).text))
+  pub is : IsWritten refusal old new failed_before failed status
+      ⊎ ((a : Answer) × IfSome input (λ bytes. answer bytes ≡ a) × IsWritten (answer_output rules a) old new failed_before failed status)
 
 -- a reader that was fresh gave its end within the limits of a document
 abbrev pub IsReadWhole : Seen → Type 0

@@ -5,14 +5,15 @@ use Rattle.gltf_choices.specs.SceneChoices.{alpha_mode_spelling, alpha_modes}
 use Rattle.gltf_checked.specs.declared.choice.Form.TheVariants as form
 use Rattle.gltf_choices.specs.declared.material.AlphaMode.TheVariants as alpha_mode
 use Rattle.gltf_schema.specs.Tree.{Tree, whole, truth, chosen}
-use Rattle.gltf_schema.specs.Kind.{required, optional, always, sometimes, Kind, IndexInto, U32, Number, Numbers, Text, Truth, Object, ObjectName, Rows, ◌◂◌}
+use Rattle.gltf_schema.specs.Kind.{required, optional, always, sometimes, Kind, IndexInto, U32, Number, Numbers, Text, Truth, Object, Rows, ◌◂◌, no_rule}
 use Rattle.gltf_schema.specs.Leaves.{choice_of}
 use Rattle.gltf_schema.specs.Fields.{closed_object}
 use Rattle.gltf_schema.specs.Defaults.{defaults}
 use Rattle.gltf_schema.specs.Extensions.{kept_extensions, extensions_and_extras}
-use Rattle.gltf_textures.specs.TextureTable.{info_kind, info_sound}
-use Rattle.gltf_shading.specs.MaterialExtensionTable.{material_extensions_kind, material_extension_sound}
-use Rattle.gltf_schema.specs.Plain.{are_sound}
+use Rattle.gltf_textures.specs.TextureTable.{info_kind, info_sound, info_height}
+use Rattle.gltf_shading.specs.MaterialExtensionTable.{material_extensions_kind, material_extension_sound, material_extension_height}
+use Rattle.gltf_schema.specs.Sound.{is_sound}
+use Rattle.gltf_schema.specs.Height.{IsHigh}
 
 abbrev pub alpha_mode_kind : Kind
 alpha_mode_kind = choice_of form.Name alpha_mode_spelling alpha_modes
@@ -28,30 +29,30 @@ pbr_metallic_roughness_rows =
     ◂ (codes "metallicFactor", sometimes, Number)
     ◂ (codes "roughnessFactor", sometimes, Number)
     ◂ (codes "metallicRoughnessTexture", optional, info_kind)
-    ◂ extensions_and_extras (kept_extensions ObjectName.pbr_metallic_roughness)
+    ◂ extensions_and_extras kept_extensions
 
 abbrev pub pbr_metallic_roughness_kind : Kind
-pbr_metallic_roughness_kind = Object ObjectName.pbr_metallic_roughness pbr_metallic_roughness_rows false
+pbr_metallic_roughness_kind = Object no_rule pbr_metallic_roughness_rows false
 
 unfoldable pub normal_texture_rows : Rows
 normal_texture_rows =
     (codes "index", required, IndexInto textures)
     ◂ (codes "scale", sometimes, Number)
     ◂ (codes "texCoord", always (whole 0), U32)
-    ◂ extensions_and_extras (kept_extensions ObjectName.normal_texture)
+    ◂ extensions_and_extras kept_extensions
 
 abbrev pub normal_texture_kind : Kind
-normal_texture_kind = Object ObjectName.normal_texture normal_texture_rows false
+normal_texture_kind = Object no_rule normal_texture_rows false
 
 unfoldable pub occlusion_texture_rows : Rows
 occlusion_texture_rows =
     (codes "index", required, IndexInto textures)
     ◂ (codes "strength", sometimes, Number)
     ◂ (codes "texCoord", always (whole 0), U32)
-    ◂ extensions_and_extras (kept_extensions ObjectName.occlusion_texture)
+    ◂ extensions_and_extras kept_extensions
 
 abbrev pub occlusion_texture_kind : Kind
-occlusion_texture_kind = Object ObjectName.occlusion_texture occlusion_texture_rows false
+occlusion_texture_kind = Object no_rule occlusion_texture_rows false
 
 unfoldable pub material_rows : Rows
 material_rows =
@@ -67,22 +68,40 @@ material_rows =
     ◂ extensions_and_extras material_extensions_kind
 
 abbrev pub material_kind : Kind
-material_kind = Object ObjectName.material material_rows false
+material_kind = Object no_rule material_rows false
 
--- ---- the rows are sound
+-- ---- each kind is sound
 
-pub pbr_metallic_roughness_sound : are_sound pbr_metallic_roughness_rows ≡ true
+pub pbr_metallic_roughness_sound : is_sound pbr_metallic_roughness_kind ≡ true
 unfolding pbr_metallic_roughness_rows
 pbr_metallic_roughness_sound = rw info_sound refl
 
-pub normal_texture_sound : are_sound normal_texture_rows ≡ true
+pub normal_texture_sound : is_sound normal_texture_kind ≡ true
 unfolding normal_texture_rows
 normal_texture_sound = refl
 
-pub occlusion_texture_sound : are_sound occlusion_texture_rows ≡ true
+pub occlusion_texture_sound : is_sound occlusion_texture_kind ≡ true
 unfolding occlusion_texture_rows
 occlusion_texture_sound = refl
 
-pub material_sound : are_sound material_rows ≡ true
+pub material_sound : is_sound material_kind ≡ true
 unfolding material_rows pbr_metallic_roughness_rows
 material_sound = rw (info_sound, normal_texture_sound, occlusion_texture_sound, material_extension_sound) refl
+
+-- ---- how far down something can be wrong
+
+pub pbr_metallic_roughness_height : IsHigh 2 pbr_metallic_roughness_kind
+unfolding pbr_metallic_roughness_rows
+pbr_metallic_roughness_height = rw (info_height.0, info_height.1) (refl, refl)
+
+pub normal_texture_height : IsHigh 1 normal_texture_kind
+unfolding normal_texture_rows
+normal_texture_height = (refl, refl)
+
+pub occlusion_texture_height : IsHigh 1 occlusion_texture_kind
+unfolding occlusion_texture_rows
+occlusion_texture_height = (refl, refl)
+
+pub material_height : IsHigh 4 material_kind
+unfolding material_rows
+material_height = rw (pbr_metallic_roughness_height.0, pbr_metallic_roughness_height.1, normal_texture_height.0, normal_texture_height.1, occlusion_texture_height.0, occlusion_texture_height.1, info_height.0, info_height.1, material_extension_height.0, material_extension_height.1) (refl, refl)

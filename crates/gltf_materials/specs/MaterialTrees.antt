@@ -4,7 +4,7 @@ use Rattle.serde_json.specs.View.{members_view}
 use Rattle.gltf_choices.specs.SceneChoices.{alpha_mode_spelling}
 use Rattle.gltf_schema.specs.Tree.{Tree, Trees, trees, tree_or_absent, whole, truth, object}
 use Rattle.gltf_schema.specs.Leaves.{checked_tree}
-use Rattle.gltf_schema.specs.Fields.{index_tree, text_tree, real_tree, reals_tree, any_tree, closed_object, unlisted_object}
+use Rattle.gltf_schema.specs.Fields.{index_tree, text_tree, real_tree, reals_tree, any_tree, closed_object, kept_tree}
 use Rattle.gltf_textures.specs.TextureTrees.{info_members}
 use Rattle.gltf_shading.specs.MaterialExtensionTrees.{material_extension_members}
 use Rattle.gltf_materials.specs.declared.material.AlphaCutoff.{AlphaCutoff}
@@ -13,21 +13,9 @@ use Rattle.gltf_materials.specs.declared.material.PbrMetallicRoughness.{PbrMetal
 use Rattle.gltf_materials.specs.declared.material.NormalTexture.{NormalTexture}
 use Rattle.gltf_materials.specs.declared.material.OcclusionTexture.{OcclusionTexture}
 use Rattle.gltf_shading.specs.declared.extensions.material.Material.{Material as MaterialExtensions}
-use Rattle.gltf_shading.specs.declared.extensions.material.PbrMetallicRoughness.{PbrMetallicRoughness as PbrMetallicRoughnessExtensions}
-use Rattle.gltf_shading.specs.declared.extensions.material.NormalTexture.{NormalTexture as NormalTextureExtensions}
-use Rattle.gltf_shading.specs.declared.extensions.material.OcclusionTexture.{OcclusionTexture as OcclusionTextureExtensions}
 
 abbrev pub alpha_cutoff_tree : AlphaCutoff → Tree
 alpha_cutoff_tree c = real_tree c.0
-
-abbrev pub pbr_metallic_roughness_extensions : PbrMetallicRoughnessExtensions → Tree
-pbr_metallic_roughness_extensions e = unlisted_object (members_view e.others.entries)
-
-abbrev pub normal_texture_extensions : NormalTextureExtensions → Tree
-normal_texture_extensions e = unlisted_object (members_view e.others.entries)
-
-abbrev pub occlusion_texture_extensions : OcclusionTextureExtensions → Tree
-occlusion_texture_extensions e = unlisted_object (members_view e.others.entries)
 
 abbrev pub material_extensions : MaterialExtensions → Tree
 material_extensions e = object (material_extension_members e) (members_view e.others.entries)
@@ -39,7 +27,7 @@ pbr_metallic_roughness_members v = trees (
     ∷ tree_or_absent real_tree v.metallic_factor.0
     ∷ tree_or_absent real_tree v.roughness_factor.0
     ∷ tree_or_absent (λ t. closed_object (info_members t)) v.metallic_roughness_texture
-    ∷ tree_or_absent pbr_metallic_roughness_extensions v.extensions
+    ∷ tree_or_absent kept_tree v.extensions
     ∷ tree_or_absent any_tree v.extras
     ∷ [])
 
@@ -48,7 +36,7 @@ normal_texture_members v = trees (
     index_tree v.index
     ∷ tree_or_absent real_tree v.scale
     ∷ whole v.tex_coord
-    ∷ tree_or_absent normal_texture_extensions v.extensions
+    ∷ tree_or_absent kept_tree v.extensions
     ∷ tree_or_absent any_tree v.extras
     ∷ [])
 
@@ -57,7 +45,7 @@ occlusion_texture_members v = trees (
     index_tree v.index
     ∷ tree_or_absent real_tree v.strength.0
     ∷ whole v.tex_coord
-    ∷ tree_or_absent occlusion_texture_extensions v.extensions
+    ∷ tree_or_absent kept_tree v.extensions
     ∷ tree_or_absent any_tree v.extras
     ∷ [])
 

@@ -1,18 +1,21 @@
 //! Materials, and their references to textures (glTF 2.0, sections 5.19 to 5.22).
 
 ghost use Rattle.std.specs.Prelude.{◌≡◌, false, refl};
+ghost use Rattle.std.proofs.Common.{lit≤};
 ghost use Rattle.serde_json.specs.Data.{no_members};
 ghost use Rattle.gltf_paths.specs.Lists.{materials};
-ghost use Rattle.gltf_schema.specs.Kind.{ObjectName, Number};
+ghost use Rattle.gltf_schema.specs.Kind.{Number, Numbers};
 ghost use Rattle.gltf_schema.specs.Defaults.{defaults};
-ghost use Rattle.gltf_materials.specs.MaterialTable.{material_rows, material_sound, pbr_metallic_roughness_rows, pbr_metallic_roughness_sound, normal_texture_rows, normal_texture_sound, occlusion_texture_rows, occlusion_texture_sound};
+ghost use Rattle.gltf_materials.specs.MaterialTable.{material_rows, material_sound, material_height, pbr_metallic_roughness_rows, pbr_metallic_roughness_sound, pbr_metallic_roughness_height, normal_texture_rows, normal_texture_sound, normal_texture_height, occlusion_texture_rows, occlusion_texture_sound, occlusion_texture_height};
 ghost use Rattle.gltf_materials.specs.MaterialTrees.{alpha_cutoff_tree, material_members, pbr_metallic_roughness_members, normal_texture_members, occlusion_texture_members};
+ghost use Rattle.gltf_schema.specs.Fields.{reals_tree};
+ghost use Rattle.gltf_schema.specs.Tree.{tree_or_absent};
 
 use gltf_base::material::AlphaMode;
 use gltf_base::validation::Checked;
 use gltf_base::{Index, Listed, Real};
 use gltf_data::extras::Extras;
-use gltf_schema::{Blank, Error, Object, Reading, Schema, Writing};
+use gltf_schema::{Blank, Error, Object, Reading, Schema, Tabled, Writing};
 use gltf_shading::extensions;
 use gltf_shading::material::StrengthFactor;
 use gltf_textures::texture::{Info, Texture};
@@ -89,8 +92,6 @@ impl Listed for Material {
 }
 
 impl Object for Material {
-    ghost named = { ObjectName.material };
-
     ghost rows = { material_rows };
 
     ghost keeps = { false };
@@ -100,6 +101,10 @@ impl Object for Material {
     ghost unknown = { λ _. no_members };
 
     ghost sound = { material_sound };
+
+    ghost height = { 4 };
+
+    ghost low = { (material_height.1, lit≤ tt) };
 
     fn decode_members(alloc: Global, found: Map<String, Value>) -> Result<Material, Error> {
         let mut reading = Reading::from_members(alloc, found);
@@ -200,8 +205,6 @@ impl PbrMetallicRoughness {
 }
 
 impl Object for PbrMetallicRoughness {
-    ghost named = { ObjectName.pbr_metallic_roughness };
-
     ghost rows = { pbr_metallic_roughness_rows };
 
     ghost keeps = { false };
@@ -211,6 +214,10 @@ impl Object for PbrMetallicRoughness {
     ghost unknown = { λ _. no_members };
 
     ghost sound = { pbr_metallic_roughness_sound };
+
+    ghost height = { 2 };
+
+    ghost low = { (pbr_metallic_roughness_height.1, lit≤ tt) };
 
     fn decode_members(
         alloc: Global,
@@ -281,8 +288,6 @@ impl Drop for NormalTexture {
 }
 
 impl Object for NormalTexture {
-    ghost named = { ObjectName.normal_texture };
-
     ghost rows = { normal_texture_rows };
 
     ghost keeps = { false };
@@ -292,6 +297,10 @@ impl Object for NormalTexture {
     ghost unknown = { λ _. no_members };
 
     ghost sound = { normal_texture_sound };
+
+    ghost height = { 1 };
+
+    ghost low = { (normal_texture_height.1, lit≤ tt) };
 
     fn decode_members(alloc: Global, found: Map<String, Value>) -> Result<NormalTexture, Error> {
         let mut reading = Reading::from_members(alloc, found);
@@ -347,8 +356,6 @@ impl Drop for OcclusionTexture {
 }
 
 impl Object for OcclusionTexture {
-    ghost named = { ObjectName.occlusion_texture };
-
     ghost rows = { occlusion_texture_rows };
 
     ghost keeps = { false };
@@ -358,6 +365,10 @@ impl Object for OcclusionTexture {
     ghost unknown = { λ _. no_members };
 
     ghost sound = { occlusion_texture_sound };
+
+    ghost height = { 1 };
+
+    ghost low = { (occlusion_texture_height.1, lit≤ tt) };
 
     fn decode_members(alloc: Global, found: Map<String, Value>) -> Result<OcclusionTexture, Error> {
         let mut reading = Reading::from_members(alloc, found);
@@ -390,11 +401,13 @@ impl Object for OcclusionTexture {
 #[derive(Clone, Debug, Drop)]
 pub struct AlphaCutoff(pub Real);
 
-impl Schema for AlphaCutoff {
+impl Tabled for AlphaCutoff {
     ghost kind = { Number };
 
     ghost tree = { alpha_cutoff_tree };
+}
 
+impl Schema for AlphaCutoff {
     ghost present = { λ _. refl };
 
     fn decode(alloc: Global, value: Value) -> Result<AlphaCutoff, Error> {
@@ -410,6 +423,18 @@ impl Schema for AlphaCutoff {
 #[derive(Clone, Debug, Default, Drop)]
 pub struct EmissiveFactor(pub Option<[Real; 3]>);
 
+impl Tabled for EmissiveFactor {
+    ghost kind = { Numbers 3 };
+
+    ghost tree = { λ factor. tree_or_absent reals_tree factor.0 };
+}
+
 /// The factors of a base color: red, green, blue, alpha; `None` stands for ones.
 #[derive(Clone, Debug, Default, Drop)]
 pub struct PbrBaseColorFactor(pub Option<[Real; 4]>);
+
+impl Tabled for PbrBaseColorFactor {
+    ghost kind = { Numbers 4 };
+
+    ghost tree = { λ factor. tree_or_absent reals_tree factor.0 };
+}

@@ -6,10 +6,11 @@ use Rattle.gltf_choices.specs.Choices.{mode_spelling, modes}
 use Rattle.gltf_checked.specs.declared.choice.Form.TheVariants as form
 use Rattle.gltf_choices.specs.declared.mesh.Mode.TheVariants as mode
 use Rattle.gltf_schema.specs.Tree.{Tree, chosen}
-use Rattle.gltf_schema.specs.Kind.{required, optional, unless, Kind, IndexInto, U32, Number, Text, Any, Attributes, ListOf, Object, ObjectName, extensions_of, Rows, no_rows, ◌◂◌}
+use Rattle.gltf_schema.specs.Kind.{required, optional, unless, Kind, IndexInto, U32, Number, Text, Any, Attributes, ListOf, Object, Rows, no_rows, ◌◂◌, no_rule, needs_positions}
 use Rattle.gltf_schema.specs.Leaves.{choice_of}
 use Rattle.gltf_schema.specs.Extensions.{kept_extensions}
-use Rattle.gltf_schema.specs.Plain.{are_sound}
+use Rattle.gltf_schema.specs.Sound.{is_sound}
+use Rattle.gltf_schema.specs.Height.{IsFlat, IsHigh}
 
 abbrev pub mode_kind : Kind
 mode_kind = choice_of form.Number mode_spelling modes
@@ -25,7 +26,7 @@ variant_mapping_rows =
     ◂ no_rows
 
 abbrev pub variant_mapping_kind : Kind
-variant_mapping_kind = Object ObjectName.variant_mapping variant_mapping_rows false
+variant_mapping_kind = Object no_rule variant_mapping_rows false
 
 unfoldable pub variant_mappings_rows : Rows
 variant_mappings_rows =
@@ -33,7 +34,7 @@ variant_mappings_rows =
     ◂ no_rows
 
 abbrev pub variant_mappings_kind : Kind
-variant_mappings_kind = Object ObjectName.variant_mappings variant_mappings_rows false
+variant_mappings_kind = Object no_rule variant_mappings_rows false
 
 unfoldable pub primitive_extension_rows : Rows
 primitive_extension_rows =
@@ -41,7 +42,7 @@ primitive_extension_rows =
     ◂ no_rows
 
 abbrev pub primitive_extensions_kind : Kind
-primitive_extensions_kind = Object (extensions_of ObjectName.primitive) primitive_extension_rows true
+primitive_extensions_kind = Object no_rule primitive_extension_rows true
 
 unfoldable pub morph_target_rows : Rows
 morph_target_rows =
@@ -51,7 +52,7 @@ morph_target_rows =
     ◂ no_rows
 
 abbrev pub morph_target_kind : Kind
-morph_target_kind = Object ObjectName.morph_target morph_target_rows false
+morph_target_kind = Object no_rule morph_target_rows false
 
 unfoldable pub primitive_rows : Rows
 primitive_rows =
@@ -65,11 +66,11 @@ primitive_rows =
     ◂ no_rows
 
 abbrev pub primitive_kind : Kind
-primitive_kind = Object ObjectName.primitive primitive_rows false
+primitive_kind = Object needs_positions primitive_rows false
 
 unfoldable pub mesh_rows : Rows
 mesh_rows =
-    (codes "extensions", optional, kept_extensions ObjectName.mesh)
+    (codes "extensions", optional, kept_extensions)
     ◂ (codes "extras", optional, Any)
     ◂ (codes "name", optional, Text)
     ◂ (codes "primitives", required, ListOf primitive_kind)
@@ -77,30 +78,56 @@ mesh_rows =
     ◂ no_rows
 
 abbrev pub mesh_kind : Kind
-mesh_kind = Object ObjectName.mesh mesh_rows false
+mesh_kind = Object no_rule mesh_rows false
 
--- ---- the rows are sound
+-- ---- each kind is sound
 
-pub variant_mapping_sound : are_sound variant_mapping_rows ≡ true
+pub variant_mapping_sound : is_sound variant_mapping_kind ≡ true
 unfolding variant_mapping_rows
 variant_mapping_sound = refl
 
-pub variant_mappings_sound : are_sound variant_mappings_rows ≡ true
+pub variant_mappings_sound : is_sound variant_mappings_kind ≡ true
 unfolding variant_mappings_rows
 variant_mappings_sound = rw variant_mapping_sound refl
 
-pub primitive_extension_sound : are_sound primitive_extension_rows ≡ true
+pub primitive_extension_sound : is_sound primitive_extensions_kind ≡ true
 unfolding primitive_extension_rows
 primitive_extension_sound = rw variant_mappings_sound refl
 
-pub morph_target_sound : are_sound morph_target_rows ≡ true
+pub morph_target_sound : is_sound morph_target_kind ≡ true
 unfolding morph_target_rows
 morph_target_sound = refl
 
-pub primitive_sound : are_sound primitive_rows ≡ true
+pub primitive_sound : is_sound primitive_kind ≡ true
 unfolding primitive_rows
 primitive_sound = rw (primitive_extension_sound, morph_target_sound) refl
 
-pub mesh_sound : are_sound mesh_rows ≡ true
+pub mesh_sound : is_sound mesh_kind ≡ true
 unfolding mesh_rows
 mesh_sound = rw primitive_sound refl
+
+-- ---- how far down something can be wrong
+
+pub variant_mapping_height : IsFlat variant_mapping_kind
+unfolding variant_mapping_rows
+variant_mapping_height = (refl, refl)
+
+pub variant_mappings_height : IsFlat variant_mappings_kind
+unfolding variant_mappings_rows
+variant_mappings_height = rw variant_mapping_height.0 (refl, refl)
+
+pub primitive_extension_height : IsFlat primitive_extensions_kind
+unfolding primitive_extension_rows
+primitive_extension_height = rw variant_mappings_height.0 (refl, refl)
+
+pub morph_target_height : IsHigh 1 morph_target_kind
+unfolding morph_target_rows
+morph_target_height = (refl, refl)
+
+pub primitive_height : IsHigh 3 primitive_kind
+unfolding primitive_rows
+primitive_height = rw (primitive_extension_height.0, morph_target_height.0, morph_target_height.1) (refl, refl)
+
+pub mesh_height : IsHigh 5 mesh_kind
+unfolding mesh_rows
+mesh_height = rw (primitive_height.0, primitive_height.1) (refl, refl)

@@ -4,17 +4,13 @@ use Rattle.serde_json.specs.View.{members_view}
 use Rattle.gltf_choices.specs.Choices.{mode_spelling}
 use Rattle.gltf_schema.specs.Tree.{Tree, Trees, trees, tree_or_absent, whole, object}
 use Rattle.gltf_schema.specs.Leaves.{checked_tree}
-use Rattle.gltf_schema.specs.Fields.{index_tree, text_tree, real_tree, any_tree, list_tree, attributes_tree, closed_object, unlisted_object}
+use Rattle.gltf_schema.specs.Fields.{index_tree, text_tree, real_tree, any_tree, list_tree, attributes_tree, closed_object, kept_tree}
 use Rattle.gltf_meshes.specs.declared.mesh.Mesh.{Mesh}
 use Rattle.gltf_meshes.specs.declared.mesh.Primitive.{Primitive}
 use Rattle.gltf_meshes.specs.declared.mesh.MorphTarget.{MorphTarget}
-use Rattle.gltf_meshes.specs.declared.extensions.mesh.Mesh.{Mesh as MeshExtensions}
 use Rattle.gltf_meshes.specs.declared.extensions.mesh.Primitive.{Primitive as PrimitiveExtensions}
 use Rattle.gltf_meshes.specs.declared.extensions.mesh.KhrMaterialsVariants.{KhrMaterialsVariants}
 use Rattle.gltf_meshes.specs.declared.extensions.mesh.Mapping.{Mapping}
-
-abbrev pub mesh_extensions : MeshExtensions → Tree
-mesh_extensions e = unlisted_object (members_view e.others.entries)
 
 unfoldable pub variant_mapping_members : Mapping → Trees
 variant_mapping_members v = trees (
@@ -55,7 +51,7 @@ primitive_members v = trees (
 
 unfoldable pub mesh_members : Mesh → Trees
 mesh_members v = trees (
-    tree_or_absent mesh_extensions v.extensions
+    tree_or_absent kept_tree v.extensions
     ∷ tree_or_absent any_tree v.extras
     ∷ tree_or_absent text_tree v.name
     ∷ list_tree (λ p. closed_object (primitive_members p)) v.primitives.items

@@ -1,10 +1,11 @@
 //! Meshes, their primitives and morph targets (glTF 2.0, sections 5.23 and 5.24).
 
 ghost use Rattle.std.specs.Prelude.{◌≡◌, false};
+ghost use Rattle.std.proofs.Common.{lit≤};
 ghost use Rattle.serde_json.specs.Data.{no_members};
 ghost use Rattle.gltf_paths.specs.Lists.{meshes};
-ghost use Rattle.gltf_schema.specs.Kind.{ObjectName};
-ghost use Rattle.gltf_meshes.specs.MeshTable.{mesh_rows, mesh_sound, primitive_rows, primitive_sound, morph_target_rows, morph_target_sound};
+ghost use Rattle.gltf_schema.specs.Kind.{needs_positions};
+ghost use Rattle.gltf_meshes.specs.MeshTable.{mesh_rows, mesh_sound, mesh_height, primitive_rows, primitive_sound, primitive_height, morph_target_rows, morph_target_sound, morph_target_height};
 ghost use Rattle.gltf_meshes.specs.MeshTrees.{mesh_members, primitive_members, morph_target_members};
 
 use crate::extensions;
@@ -50,8 +51,6 @@ impl Listed for Mesh {
 }
 
 impl Object for Mesh {
-    ghost named = { ObjectName.mesh };
-
     ghost rows = { mesh_rows };
 
     ghost keeps = { false };
@@ -61,6 +60,10 @@ impl Object for Mesh {
     ghost unknown = { λ _. no_members };
 
     ghost sound = { mesh_sound };
+
+    ghost height = { 5 };
+
+    ghost low = { (mesh_height.1, lit≤ tt) };
 
     fn decode_members(alloc: Global, found: Map<String, Value>) -> Result<Mesh, Error> {
         let mut reading = Reading::from_members(alloc, found);
@@ -108,7 +111,7 @@ pub struct Primitive {
 }
 
 impl Object for Primitive {
-    ghost named = { ObjectName.primitive };
+    ghost rule = { needs_positions };
 
     ghost rows = { primitive_rows };
 
@@ -119,6 +122,10 @@ impl Object for Primitive {
     ghost unknown = { λ _. no_members };
 
     ghost sound = { primitive_sound };
+
+    ghost height = { 3 };
+
+    ghost low = { (primitive_height.1, lit≤ tt) };
 
     fn decode_members(alloc: Global, found: Map<String, Value>) -> Result<Primitive, Error> {
         let mut reading = Reading::from_members(alloc, found);
@@ -165,8 +172,6 @@ pub struct MorphTarget {
 }
 
 impl Object for MorphTarget {
-    ghost named = { ObjectName.morph_target };
-
     ghost rows = { morph_target_rows };
 
     ghost keeps = { false };
@@ -176,6 +181,10 @@ impl Object for MorphTarget {
     ghost unknown = { λ _. no_members };
 
     ghost sound = { morph_target_sound };
+
+    ghost height = { 1 };
+
+    ghost low = { (morph_target_height.1, lit≤ tt) };
 
     fn decode_members(alloc: Global, found: Map<String, Value>) -> Result<MorphTarget, Error> {
         let mut reading = Reading::from_members(alloc, found);

@@ -1,8 +1,9 @@
 -- The rows of a document's own description (glTF 2.0, section 5.9).
 use Rattle.std.specs.Prelude.{◌≡◌, true, false, codes, refl}
-use Rattle.gltf_schema.specs.Kind.{required, optional, Kind, Text, Object, ObjectName, Rows, ◌◂◌}
+use Rattle.gltf_schema.specs.Kind.{required, optional, Kind, Text, Object, Rows, ◌◂◌, no_rule}
 use Rattle.gltf_schema.specs.Extensions.{dropped_extensions, extensions_and_extras}
-use Rattle.gltf_schema.specs.Plain.{are_sound}
+use Rattle.gltf_schema.specs.Sound.{is_sound}
+use Rattle.gltf_schema.specs.Height.{IsFlat}
 
 unfoldable pub asset_rows : Rows
 asset_rows =
@@ -10,11 +11,17 @@ asset_rows =
     ◂ (codes "generator", optional, Text)
     ◂ (codes "minVersion", optional, Text)
     ◂ (codes "version", required, Text)
-    ◂ extensions_and_extras (dropped_extensions ObjectName.asset)
+    ◂ extensions_and_extras dropped_extensions
 
 abbrev pub asset_kind : Kind
-asset_kind = Object ObjectName.asset asset_rows false
+asset_kind = Object no_rule asset_rows false
 
-pub asset_sound : are_sound asset_rows ≡ true
+pub asset_sound : is_sound asset_kind ≡ true
 unfolding asset_rows
 asset_sound = refl
+
+-- ---- how far down something can be wrong
+
+pub asset_height : IsFlat asset_kind
+unfolding asset_rows
+asset_height = (refl, refl)

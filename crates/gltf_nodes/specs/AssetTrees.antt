@@ -1,12 +1,8 @@
 -- The members of a document's own description, in the rows' order.
 use Rattle.std.specs.Prelude.{ℕ, List, [], ◌∷◌}
 use Rattle.gltf_schema.specs.Tree.{Tree, Trees, trees, tree_or_absent, absent, text}
-use Rattle.gltf_schema.specs.Fields.{text_tree, any_tree, closed_object}
+use Rattle.gltf_schema.specs.Fields.{text_tree, any_tree, dropped_tree}
 use Rattle.gltf_nodes.specs.declared.asset.Asset.{Asset}
-use Rattle.gltf_nodes.specs.declared.extensions.asset.Asset.{Asset as AssetExtensions}
-
-abbrev pub asset_extensions : AssetExtensions → Tree
-asset_extensions e = closed_object (trees [])
 
 unfoldable pub asset_members : Asset → Trees
 asset_members v = trees (
@@ -14,7 +10,7 @@ asset_members v = trees (
     ∷ tree_or_absent text_tree v.generator
     ∷ tree_or_absent text_tree v.min_version
     ∷ text_tree v.version
-    ∷ tree_or_absent asset_extensions v.extensions
+    ∷ tree_or_absent dropped_tree v.extensions
     ∷ tree_or_absent any_tree v.extras
     ∷ [])
 

@@ -1,25 +1,12 @@
 -- The members of cameras and their projections, in the rows' order.
 use Rattle.std.specs.Prelude.{[], ◌∷◌}
-use Rattle.serde_json.specs.View.{members_view}
 use Rattle.gltf_choices.specs.SceneChoices.{camera_type_spelling}
 use Rattle.gltf_schema.specs.Tree.{Tree, Trees, trees, tree_or_absent}
 use Rattle.gltf_schema.specs.Leaves.{checked_tree}
-use Rattle.gltf_schema.specs.Fields.{text_tree, real_tree, any_tree, closed_object, unlisted_object}
+use Rattle.gltf_schema.specs.Fields.{text_tree, real_tree, any_tree, closed_object, kept_tree}
 use Rattle.gltf_nodes.specs.declared.camera.Camera.{Camera}
 use Rattle.gltf_nodes.specs.declared.camera.Orthographic.{Orthographic}
 use Rattle.gltf_nodes.specs.declared.camera.Perspective.{Perspective}
-use Rattle.gltf_nodes.specs.declared.extensions.camera.Camera.{Camera as CameraExtensions}
-use Rattle.gltf_nodes.specs.declared.extensions.camera.Orthographic.{Orthographic as OrthographicExtensions}
-use Rattle.gltf_nodes.specs.declared.extensions.camera.Perspective.{Perspective as PerspectiveExtensions}
-
-abbrev pub camera_extensions : CameraExtensions → Tree
-camera_extensions e = unlisted_object (members_view e.others.entries)
-
-abbrev pub orthographic_extensions : OrthographicExtensions → Tree
-orthographic_extensions e = unlisted_object (members_view e.others.entries)
-
-abbrev pub perspective_extensions : PerspectiveExtensions → Tree
-perspective_extensions e = unlisted_object (members_view e.others.entries)
 
 unfoldable pub orthographic_members : Orthographic → Trees
 orthographic_members v = trees (
@@ -27,7 +14,7 @@ orthographic_members v = trees (
     ∷ real_tree v.ymag
     ∷ real_tree v.zfar
     ∷ real_tree v.znear
-    ∷ tree_or_absent orthographic_extensions v.extensions
+    ∷ tree_or_absent kept_tree v.extensions
     ∷ tree_or_absent any_tree v.extras
     ∷ [])
 
@@ -37,7 +24,7 @@ perspective_members v = trees (
     ∷ real_tree v.yfov
     ∷ tree_or_absent real_tree v.zfar
     ∷ real_tree v.znear
-    ∷ tree_or_absent perspective_extensions v.extensions
+    ∷ tree_or_absent kept_tree v.extensions
     ∷ tree_or_absent any_tree v.extras
     ∷ [])
 
@@ -47,6 +34,6 @@ camera_members v = trees (
     ∷ tree_or_absent (λ x. closed_object (orthographic_members x)) v.orthographic
     ∷ tree_or_absent (λ x. closed_object (perspective_members x)) v.perspective
     ∷ checked_tree camera_type_spelling v.type_
-    ∷ tree_or_absent camera_extensions v.extensions
+    ∷ tree_or_absent kept_tree v.extensions
     ∷ tree_or_absent any_tree v.extras
     ∷ [])

@@ -3,9 +3,10 @@ use Rattle.std.specs.Prelude.{◌≡◌, true, false, codes, refl}
 use Rattle.gltf_paths.specs.Lists.{lights}
 use Rattle.gltf_choices.specs.SceneChoices.{light_type_spelling, light_types}
 use Rattle.gltf_checked.specs.declared.choice.Form.TheVariants as form
-use Rattle.gltf_schema.specs.Kind.{required, optional, sometimes, Kind, IndexInto, Number, Numbers, Text, Any, Object, ObjectName, Rows, no_rows, ◌◂◌}
+use Rattle.gltf_schema.specs.Kind.{required, optional, sometimes, Kind, IndexInto, Number, Numbers, Text, Any, Object, Rows, no_rows, ◌◂◌, no_rule, needs_cone}
 use Rattle.gltf_schema.specs.Leaves.{choice_of}
-use Rattle.gltf_schema.specs.Plain.{are_sound}
+use Rattle.gltf_schema.specs.Sound.{is_sound}
+use Rattle.gltf_schema.specs.Height.{IsFlat, IsHigh}
 
 abbrev pub light_type_kind : Kind
 light_type_kind = choice_of form.Name light_type_spelling light_types
@@ -16,7 +17,7 @@ light_of_node_rows =
     ◂ no_rows
 
 abbrev pub light_of_node_kind : Kind
-light_of_node_kind = Object ObjectName.light_of_node light_of_node_rows false
+light_of_node_kind = Object no_rule light_of_node_rows false
 
 unfoldable pub spot_rows : Rows
 spot_rows =
@@ -25,7 +26,7 @@ spot_rows =
     ◂ no_rows
 
 abbrev pub spot_kind : Kind
-spot_kind = Object ObjectName.spot spot_rows false
+spot_kind = Object no_rule spot_rows false
 
 unfoldable pub light_rows : Rows
 light_rows =
@@ -40,7 +41,7 @@ light_rows =
     ◂ no_rows
 
 abbrev pub light_kind : Kind
-light_kind = Object ObjectName.light light_rows false
+light_kind = Object needs_cone light_rows false
 
 unfoldable pub variant_rows : Rows
 variant_rows =
@@ -48,22 +49,40 @@ variant_rows =
     ◂ no_rows
 
 abbrev pub variant_kind : Kind
-variant_kind = Object ObjectName.variant variant_rows false
+variant_kind = Object no_rule variant_rows false
 
--- ---- the rows are sound
+-- ---- each kind is sound
 
-pub light_of_node_sound : are_sound light_of_node_rows ≡ true
+pub light_of_node_sound : is_sound light_of_node_kind ≡ true
 unfolding light_of_node_rows
 light_of_node_sound = refl
 
-pub spot_sound : are_sound spot_rows ≡ true
+pub spot_sound : is_sound spot_kind ≡ true
 unfolding spot_rows
 spot_sound = refl
 
-pub light_sound : are_sound light_rows ≡ true
+pub light_sound : is_sound light_kind ≡ true
 unfolding light_rows
 light_sound = rw spot_sound refl
 
-pub variant_sound : are_sound variant_rows ≡ true
+pub variant_sound : is_sound variant_kind ≡ true
 unfolding variant_rows
 variant_sound = refl
+
+-- ---- how far down something can be wrong
+
+pub light_of_node_height : IsHigh 1 light_of_node_kind
+unfolding light_of_node_rows
+light_of_node_height = (refl, refl)
+
+pub spot_height : IsFlat spot_kind
+unfolding spot_rows
+spot_height = (refl, refl)
+
+pub light_height : IsHigh 1 light_kind
+unfolding light_rows
+light_height = rw spot_height.0 (refl, refl)
+
+pub variant_height : IsFlat variant_kind
+unfolding variant_rows
+variant_height = (refl, refl)

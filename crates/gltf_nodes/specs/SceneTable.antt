@@ -2,10 +2,11 @@
 use Rattle.std.specs.Prelude.{◌≡◌, true, false, codes, refl}
 use Rattle.gltf_paths.specs.Lists.{accessors, cameras, meshes, nodes, skins}
 use Rattle.gltf_schema.specs.Tree.{list, end}
-use Rattle.gltf_schema.specs.Kind.{optional, unless, Kind, IndexInto, Number, Numbers, Text, Any, ListOf, Object, ObjectName, extensions_of, Rows, no_rows, ◌◂◌}
+use Rattle.gltf_schema.specs.Kind.{optional, unless, Kind, IndexInto, Number, Numbers, Text, Any, ListOf, Object, Rows, no_rows, ◌◂◌, no_rule}
 use Rattle.gltf_schema.specs.Extensions.{kept_extensions}
-use Rattle.gltf_nodes.specs.LightTable.{light_of_node_kind, light_of_node_sound}
-use Rattle.gltf_schema.specs.Plain.{are_sound}
+use Rattle.gltf_nodes.specs.LightTable.{light_of_node_kind, light_of_node_sound, light_of_node_height}
+use Rattle.gltf_schema.specs.Sound.{is_sound}
+use Rattle.gltf_schema.specs.Height.{IsHigh}
 
 unfoldable pub node_extension_rows : Rows
 node_extension_rows =
@@ -13,7 +14,7 @@ node_extension_rows =
     ◂ no_rows
 
 abbrev pub node_extensions_kind : Kind
-node_extensions_kind = Object (extensions_of ObjectName.node) node_extension_rows true
+node_extensions_kind = Object no_rule node_extension_rows true
 
 unfoldable pub node_rows : Rows
 node_rows =
@@ -32,22 +33,22 @@ node_rows =
     ◂ no_rows
 
 abbrev pub node_kind : Kind
-node_kind = Object ObjectName.node node_rows false
+node_kind = Object no_rule node_rows false
 
 unfoldable pub scene_rows : Rows
 scene_rows =
-    (codes "extensions", optional, kept_extensions ObjectName.scene)
+    (codes "extensions", optional, kept_extensions)
     ◂ (codes "extras", optional, Any)
     ◂ (codes "name", optional, Text)
     ◂ (codes "nodes", unless (list end), ListOf (IndexInto nodes))
     ◂ no_rows
 
 abbrev pub scene_kind : Kind
-scene_kind = Object ObjectName.scene scene_rows false
+scene_kind = Object no_rule scene_rows false
 
 unfoldable pub skin_rows : Rows
 skin_rows =
-    (codes "extensions", optional, kept_extensions ObjectName.skin)
+    (codes "extensions", optional, kept_extensions)
     ◂ (codes "extras", optional, Any)
     ◂ (codes "inverseBindMatrices", optional, IndexInto accessors)
     ◂ (codes "joints", unless (list end), ListOf (IndexInto nodes))
@@ -56,22 +57,40 @@ skin_rows =
     ◂ no_rows
 
 abbrev pub skin_kind : Kind
-skin_kind = Object ObjectName.skin skin_rows false
+skin_kind = Object no_rule skin_rows false
 
--- ---- the rows are sound
+-- ---- each kind is sound
 
-pub node_extension_sound : are_sound node_extension_rows ≡ true
+pub node_extension_sound : is_sound node_extensions_kind ≡ true
 unfolding node_extension_rows
 node_extension_sound = rw light_of_node_sound refl
 
-pub node_sound : are_sound node_rows ≡ true
+pub node_sound : is_sound node_kind ≡ true
 unfolding node_rows
 node_sound = rw node_extension_sound refl
 
-pub scene_sound : are_sound scene_rows ≡ true
+pub scene_sound : is_sound scene_kind ≡ true
 unfolding scene_rows
 scene_sound = refl
 
-pub skin_sound : are_sound skin_rows ≡ true
+pub skin_sound : is_sound skin_kind ≡ true
 unfolding skin_rows
 skin_sound = refl
+
+-- ---- how far down something can be wrong
+
+pub node_extension_height : IsHigh 2 node_extensions_kind
+unfolding node_extension_rows
+node_extension_height = rw (light_of_node_height.0, light_of_node_height.1) (refl, refl)
+
+pub node_height : IsHigh 3 node_kind
+unfolding node_rows
+node_height = rw (node_extension_height.0, node_extension_height.1) (refl, refl)
+
+pub scene_height : IsHigh 2 scene_kind
+unfolding scene_rows
+scene_height = (refl, refl)
+
+pub skin_height : IsHigh 2 skin_kind
+unfolding skin_rows
+skin_height = (refl, refl)

@@ -3,15 +3,13 @@ use Rattle.std.specs.Prelude.{[], ◌∷◌}
 use Rattle.serde_json.specs.Data.{unsigned}
 use Rattle.serde_json.specs.View.{members_view}
 use Rattle.gltf_schema.specs.Tree.{Tree, Trees, trees, tree_or_absent, numbers, object}
-use Rattle.gltf_schema.specs.Fields.{index_tree, text_tree, real_tree, reals_tree, any_tree, list_tree, closed_object, unlisted_object}
+use Rattle.gltf_schema.specs.Fields.{index_tree, text_tree, real_tree, reals_tree, any_tree, list_tree, closed_object, kept_tree}
 use Rattle.gltf_nodes.specs.LightTrees.{light_of_node_members}
 use Rattle.gltf_nodes.specs.declared.scene.Node.{Node}
 use Rattle.gltf_nodes.specs.declared.scene.Scene.{Scene}
 use Rattle.gltf_nodes.specs.declared.scene.UnitQuaternion.{UnitQuaternion}
 use Rattle.gltf_nodes.specs.declared.skin.Skin.{Skin}
 use Rattle.gltf_nodes.specs.declared.extensions.scene.Node.{Node as NodeExtensions}
-use Rattle.gltf_nodes.specs.declared.extensions.scene.Scene.{Scene as SceneExtensions}
-use Rattle.gltf_nodes.specs.declared.extensions.skin.Skin.{Skin as SkinExtensions}
 
 abbrev pub unit_quaternion_tree : UnitQuaternion → Tree
 unit_quaternion_tree q = reals_tree q.0
@@ -27,12 +25,6 @@ node_extension_members v = trees (
 
 abbrev pub node_extensions : NodeExtensions → Tree
 node_extensions e = object (node_extension_members e) (members_view e.others.entries)
-
-abbrev pub scene_extensions : SceneExtensions → Tree
-scene_extensions e = unlisted_object (members_view e.others.entries)
-
-abbrev pub skin_extensions : SkinExtensions → Tree
-skin_extensions e = unlisted_object (members_view e.others.entries)
 
 unfoldable pub node_members : Node → Trees
 node_members v = trees (
@@ -52,7 +44,7 @@ node_members v = trees (
 
 unfoldable pub scene_members : Scene → Trees
 scene_members v = trees (
-    tree_or_absent scene_extensions v.extensions
+    tree_or_absent kept_tree v.extensions
     ∷ tree_or_absent any_tree v.extras
     ∷ tree_or_absent text_tree v.name
     ∷ list_tree index_tree v.nodes.items
@@ -60,7 +52,7 @@ scene_members v = trees (
 
 unfoldable pub skin_members : Skin → Trees
 skin_members v = trees (
-    tree_or_absent skin_extensions v.extensions
+    tree_or_absent kept_tree v.extensions
     ∷ tree_or_absent any_tree v.extras
     ∷ tree_or_absent index_tree v.inverse_bind_matrices
     ∷ list_tree index_tree v.joints.items

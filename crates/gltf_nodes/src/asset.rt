@@ -1,9 +1,9 @@
 //! What a document says of itself (glTF 2.0, section 5.9).
 
 ghost use Rattle.std.specs.Prelude.{◌≡◌, false, IfOk, codes, None, string_bytes};
+ghost use Rattle.std.proofs.Common.{lit≤};
 ghost use Rattle.serde_json.specs.Data.{no_members};
-ghost use Rattle.gltf_schema.specs.Kind.{ObjectName};
-ghost use Rattle.gltf_nodes.specs.AssetTable.{asset_rows, asset_sound};
+ghost use Rattle.gltf_nodes.specs.AssetTable.{asset_rows, asset_sound, asset_height};
 ghost use Rattle.gltf_nodes.specs.AssetTrees.{asset_members, asset_of_version};
 
 use crate::extensions;
@@ -67,8 +67,6 @@ impl Asset {
 }
 
 impl Object for Asset {
-    ghost named = { ObjectName.asset };
-
     ghost rows = { asset_rows };
 
     ghost keeps = { false };
@@ -78,6 +76,10 @@ impl Object for Asset {
     ghost unknown = { λ _. no_members };
 
     ghost sound = { asset_sound };
+
+    ghost height = { 0 };
+
+    ghost low = { (asset_height.1, lit≤ tt) };
 
     fn decode_members(alloc: Global, found: Map<String, Value>) -> Result<Asset, Error> {
         let mut reading = Reading::from_members(alloc, found);

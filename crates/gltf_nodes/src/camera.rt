@@ -1,10 +1,11 @@
 //! Cameras (glTF 2.0, sections 5.12 to 5.14).
 
 ghost use Rattle.std.specs.Prelude.{false};
+ghost use Rattle.std.proofs.Common.{lit≤};
 ghost use Rattle.serde_json.specs.Data.{no_members};
 ghost use Rattle.gltf_paths.specs.Lists.{cameras};
-ghost use Rattle.gltf_schema.specs.Kind.{ObjectName};
-ghost use Rattle.gltf_nodes.specs.CameraTable.{camera_rows, camera_sound, orthographic_rows, orthographic_sound, perspective_rows, perspective_sound};
+ghost use Rattle.gltf_schema.specs.Kind.{needs_projection};
+ghost use Rattle.gltf_nodes.specs.CameraTable.{camera_rows, camera_sound, camera_height, orthographic_rows, orthographic_sound, orthographic_height, perspective_rows, perspective_sound, perspective_height};
 ghost use Rattle.gltf_nodes.specs.CameraTrees.{camera_members, orthographic_members, perspective_members};
 
 use crate::extensions;
@@ -50,7 +51,7 @@ impl Listed for Camera {
 }
 
 impl Object for Camera {
-    ghost named = { ObjectName.camera };
+    ghost rule = { needs_projection };
 
     ghost rows = { camera_rows };
 
@@ -61,6 +62,10 @@ impl Object for Camera {
     ghost unknown = { λ _. no_members };
 
     ghost sound = { camera_sound };
+
+    ghost height = { 1 };
+
+    ghost low = { (camera_height.1, lit≤ tt) };
 
     fn decode_members(alloc: Global, found: Map<String, Value>) -> Result<Camera, Error> {
         let mut reading = Reading::from_members(alloc, found);
@@ -108,8 +113,6 @@ pub struct Orthographic {
 }
 
 impl Object for Orthographic {
-    ghost named = { ObjectName.orthographic };
-
     ghost rows = { orthographic_rows };
 
     ghost keeps = { false };
@@ -119,6 +122,10 @@ impl Object for Orthographic {
     ghost unknown = { λ _. no_members };
 
     ghost sound = { orthographic_sound };
+
+    ghost height = { 0 };
+
+    ghost low = { (orthographic_height.1, lit≤ tt) };
 
     fn decode_members(alloc: Global, found: Map<String, Value>) -> Result<Orthographic, Error> {
         let mut reading = Reading::from_members(alloc, found);
@@ -166,8 +173,6 @@ pub struct Perspective {
 }
 
 impl Object for Perspective {
-    ghost named = { ObjectName.perspective };
-
     ghost rows = { perspective_rows };
 
     ghost keeps = { false };
@@ -177,6 +182,10 @@ impl Object for Perspective {
     ghost unknown = { λ _. no_members };
 
     ghost sound = { perspective_sound };
+
+    ghost height = { 0 };
+
+    ghost low = { (perspective_height.1, lit≤ tt) };
 
     fn decode_members(alloc: Global, found: Map<String, Value>) -> Result<Perspective, Error> {
         let mut reading = Reading::from_members(alloc, found);

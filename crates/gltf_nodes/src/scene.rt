@@ -1,11 +1,12 @@
 //! Scenes and their nodes (glTF 2.0, sections 5.25 and 5.27).
 
 ghost use Rattle.std.specs.Prelude.{◌≡◌, false, refl};
+ghost use Rattle.std.proofs.Common.{lit≤};
 ghost use Rattle.serde_json.specs.Data.{no_members};
 ghost use Rattle.gltf_paths.specs.Lists.{nodes, scenes};
-ghost use Rattle.gltf_schema.specs.Kind.{ObjectName, Numbers};
+ghost use Rattle.gltf_schema.specs.Kind.{Numbers};
 ghost use Rattle.gltf_schema.specs.Defaults.{defaults};
-ghost use Rattle.gltf_nodes.specs.SceneTable.{node_rows, node_sound, scene_rows, scene_sound};
+ghost use Rattle.gltf_nodes.specs.SceneTable.{node_rows, node_sound, node_height, scene_rows, scene_sound, scene_height};
 ghost use Rattle.gltf_nodes.specs.SceneTrees.{node_members, scene_members, unit_quaternion_tree, no_rotation};
 
 use crate::camera::Camera;
@@ -14,7 +15,7 @@ use crate::skin::Skin;
 use gltf_base::{Index, Listed, Real};
 use gltf_data::extras::Extras;
 use gltf_meshes::mesh::Mesh;
-use gltf_schema::{Error, Object, Reading, Schema, Writing};
+use gltf_schema::{Error, Object, Reading, Schema, Tabled, Writing};
 use serde_json::{Map, Value};
 use std::alloc::Global;
 
@@ -91,8 +92,6 @@ impl Listed for Node {
 }
 
 impl Object for Node {
-    ghost named = { ObjectName.node };
-
     ghost rows = { node_rows };
 
     ghost keeps = { false };
@@ -102,6 +101,10 @@ impl Object for Node {
     ghost unknown = { λ _. no_members };
 
     ghost sound = { node_sound };
+
+    ghost height = { 3 };
+
+    ghost low = { (node_height.1, lit≤ tt) };
 
     fn decode_members(alloc: Global, found: Map<String, Value>) -> Result<Node, Error> {
         let mut reading = Reading::from_members(alloc, found);
@@ -179,8 +182,6 @@ impl Listed for Scene {
 }
 
 impl Object for Scene {
-    ghost named = { ObjectName.scene };
-
     ghost rows = { scene_rows };
 
     ghost keeps = { false };
@@ -190,6 +191,10 @@ impl Object for Scene {
     ghost unknown = { λ _. no_members };
 
     ghost sound = { scene_sound };
+
+    ghost height = { 2 };
+
+    ghost low = { (scene_height.1, lit≤ tt) };
 
     fn decode_members(alloc: Global, found: Map<String, Value>) -> Result<Scene, Error> {
         let mut reading = Reading::from_members(alloc, found);
@@ -233,11 +238,13 @@ impl Default for UnitQuaternion {
     }
 }
 
-impl Schema for UnitQuaternion {
+impl Tabled for UnitQuaternion {
     ghost kind = { Numbers 4 };
 
     ghost tree = { unit_quaternion_tree };
+}
 
+impl Schema for UnitQuaternion {
     ghost present = { λ _. refl };
 
     fn decode(alloc: Global, value: Value) -> Result<UnitQuaternion, Error> {

@@ -1,10 +1,10 @@
 //! Skins: meshes that follow a skeleton (glTF 2.0, section 5.28).
 
 ghost use Rattle.std.specs.Prelude.{false};
+ghost use Rattle.std.proofs.Common.{lit≤};
 ghost use Rattle.serde_json.specs.Data.{no_members};
 ghost use Rattle.gltf_paths.specs.Lists.{skins};
-ghost use Rattle.gltf_schema.specs.Kind.{ObjectName};
-ghost use Rattle.gltf_nodes.specs.SceneTable.{skin_rows, skin_sound};
+ghost use Rattle.gltf_nodes.specs.SceneTable.{skin_rows, skin_sound, skin_height};
 ghost use Rattle.gltf_nodes.specs.SceneTrees.{skin_members};
 
 use crate::extensions;
@@ -51,8 +51,6 @@ impl Listed for Skin {
 }
 
 impl Object for Skin {
-    ghost named = { ObjectName.skin };
-
     ghost rows = { skin_rows };
 
     ghost keeps = { false };
@@ -62,6 +60,10 @@ impl Object for Skin {
     ghost unknown = { λ _. no_members };
 
     ghost sound = { skin_sound };
+
+    ghost height = { 2 };
+
+    ghost low = { (skin_height.1, lit≤ tt) };
 
     fn decode_members(alloc: Global, found: Map<String, Value>) -> Result<Skin, Error> {
         let mut reading = Reading::from_members(alloc, found);

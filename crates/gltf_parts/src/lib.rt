@@ -3,7 +3,10 @@
 //! under the modules of the format.
 #![tactic(auto)]
 
-pub use gltf_schema::{Blank, Error, Object, Omittable, Reading, Schema, Unlisted, Writing};
+pub use gltf_schema::{
+    Blank, DroppedExtensions, Error, KeptExtensions, Object, Omittable, Reading, Schema, Tabled,
+    Unlisted, Writing,
+};
 
 /// Accessors: how the data of a view is read as elements.
 pub mod accessor {
@@ -79,6 +82,31 @@ pub mod extras {
 pub mod image {
     pub use gltf_base::image::VALID_MIME_TYPES;
     pub use gltf_data::image::{Image, MimeType};
+}
+
+/// What holds of the table and of the objects, as contracts of functions that do nothing.
+pub mod laws {
+    pub use gltf_data::laws::strides_are_compared_as_numbers;
+    pub use gltf_schema::laws::{
+        keys_have_the_indexes_of_their_last_names, read_trees_are_plain,
+        read_trees_are_refused_where_invalid, trees_of_a_kind_are_refused_where_invalid,
+        written_trees_are_read_back, written_trees_hold_nothing_invalid,
+    };
+
+    /// Of the factors of materials.
+    pub mod material {
+        pub use gltf_materials::laws::factors_are_absent_by_default;
+    }
+
+    /// Of the factors of materials' extensions.
+    pub mod shading {
+        pub use gltf_shading::laws::factors_are_absent_by_default;
+    }
+
+    /// Of the factors of textures' extensions.
+    pub mod texture {
+        pub use gltf_textures::laws::factors_are_absent_by_default;
+    }
 }
 
 /// Materials, and their references to textures.

@@ -5,3 +5,4 @@ pub mod Text
 pub mod Reals
 pub mod Errors
 pub mod Pushes
+pub mod ErrorText

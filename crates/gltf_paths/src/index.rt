@@ -14,15 +14,11 @@ pub trait Listed {
 /// What the indexes into a list are written by: a pointer to what the list holds.
 pub trait Names {
     /// What the list holds.
-    type Item;
-
-    ghost list: { ListName };
+    type Item: Listed;
 }
 
 impl<T: Listed + 'static> Names for *const T {
     type Item = T;
-
-    ghost list = { T.list };
 }
 
 /// The place of a `T` in the document's list of them.

@@ -11,8 +11,8 @@ use Rattle.gltf_schema.specs.Plain.{is_plain}
 use Rattle.gltf_schema.specs.Read.{read}
 use Rattle.gltf_schema.specs.Tree.{Tree}
 use Rattle.gltf_schema.specs.Write.{write}
-use Rattle.gltf_schema.specs.declared.error.Error.{Error}
-use Rattle.gltf_schema.specs.declared.error.Error.TheVariants.{Json, Schema, InvalidItem, Read, Write, Memory, TooLong}
+use Rattle.gltf_paths.specs.declared.error.Error.{Error}
+use Rattle.gltf_paths.specs.declared.error.Error.TheVariants.{Json, Schema, InvalidItem, Read, Write, Memory, TooLong}
 use Rattle.gltf_root.specs.Answer.{Answer, no_json, tree_answer, answer, IsAnswer, IsReadAnswer, IsReading, IsRefusal}
 use Rattle.gltf_devices.specs.Device.{Seen, IsWithin, IsCause, IsReadError, IsReadToEnd}
 use Rattle.gltf_root.specs.RootTable.{root_kind}

@@ -2,8 +2,8 @@
 use Rattle.std.proofs.Common.{◌≡◌, ℕ, List, Bool, Option, Some, None, Result, Ok, Err, OnOk, IfErr, subst}
 use Rattle.std.specs.Io.KnownBytes.{Appends}
 use Rattle.serde_json.specs.Data.{Data}
-use Rattle.gltf_schema.specs.declared.error.Error.{Error}
-use Rattle.gltf_schema.specs.declared.error.Error.TheVariants.{Json, Schema, InvalidItem, Read, Write, Memory, TooLong}
+use Rattle.gltf_paths.specs.declared.error.Error.{Error}
+use Rattle.gltf_paths.specs.declared.error.Error.TheVariants.{Json, Schema, InvalidItem, Read, Write, Memory, TooLong}
 use Rattle.gltf_devices.specs.Device.{AppendsFront}
 use Rattle.gltf_root.specs.Written.{Prints, Takes}
 

@@ -5,8 +5,8 @@ use Rattle.serde_json.specs.Data.{Data}
 use Rattle.serde_json.specs.Read.{read as read_json}
 use Rattle.gltf_schema.specs.Tree.{Tree}
 use Rattle.gltf_schema.specs.Read.{read}
-use Rattle.gltf_schema.specs.declared.error.Error.{Error}
-use Rattle.gltf_schema.specs.declared.error.Error.TheVariants as errors
+use Rattle.gltf_paths.specs.declared.error.Error.{Error}
+use Rattle.gltf_paths.specs.declared.error.Error.TheVariants as errors
 use Rattle.gltf_devices.specs.Device.{Seen, IsWithin, IsCause, IsReadError}
 use Rattle.gltf_root.specs.RootTable.{root_kind}
 use Rattle.gltf_root.specs.RootTrees.{root_tree}

@@ -5,16 +5,19 @@ use Rattle.std.specs.declared.alloc.Global.{Global}
 use Rattle.std.specs.declared.vec.Vec.{Vec}
 use Rattle.serde_json.specs.View.{members_view}
 use Rattle.gltf_paths.specs.Lists.{ListName}
-use Rattle.gltf_schema.specs.Tree.{Tree, Trees, absent, is_absent, object, end, trees, tree_at, tree_or_absent, members_in}
+use Rattle.gltf_schema.specs.Tree.{Tree, Trees, absent, is_absent, list, object, end, trees, tree_or_absent, items_in, members_in}
 use Rattle.gltf_schema.specs.Fields.{closed_object}
 use Rattle.gltf_nodes.specs.LightTrees.{light_members, variant_members}
 use Rattle.gltf_nodes.specs.declared.extensions.scene.khr_lights_punctual.Light.{Light}
 use Rattle.gltf_nodes.specs.declared.extensions.scene.khr_materials_variants.Variant.{Variant}
 use Rattle.gltf_root.specs.Items.{listed_in, lights_in, lights_of, lights_put, lights_put_in, put_lights, variants_in, variants_of, variants_put, variants_put_in, put_variants}
-use Rattle.gltf_root.specs.Lists.{extensions_row, lights_row, variants_row, listed_row, list_at, is_there}
-use Rattle.gltf_root.specs.Pushed.{with_extension_list, with_extended_list, with_list}
+use Rattle.gltf_root.specs.Lists.{extensions_name, lights_name, variants_name, lights_way, variants_way, further_way, is_there}
+use Rattle.gltf_root.specs.Named.{member_named, put_named, reached, with_reached}
+use Rattle.gltf_root.specs.Pushed.{with_list}
+use Rattle.gltf_root.specs.RootExtensionTable.{lights_rows, variants_rows, root_extension_rows}
 use Rattle.gltf_root.specs.RootExtensionTrees.{root_extensions, root_extension_members, lights_members, variants_members}
-use Rattle.gltf_root.specs.RootTrees.{root_members, root_tree, put_at}
+use Rattle.gltf_root.specs.RootTable.{root_rows}
+use Rattle.gltf_root.specs.RootTrees.{root_members, root_tree}
 use Rattle.gltf_root.specs.declared.root.Root.{Root}
 use Rattle.gltf_root.specs.declared.extensions.root.KhrLightsPunctual.{KhrLightsPunctual}
 use Rattle.gltf_root.specs.declared.extensions.root.KhrMaterialsVariants.{KhrMaterialsVariants}
@@ -30,16 +33,16 @@ listed_in-trees items item place missing stands None = missing
 listed_in-trees items item place missing stands (Some found) = stands found
 
 pub lights_of-trees : (r : Root)
-    → list_at listed_row (tree_at lights_row (members_in (tree_or_absent root_extensions r.extensions))) ≡ trees (map (λ x. closed_object (light_members x)) (lights_of r))
-unfolding root_extension_members lights_members
-lights_of-trees r = listed_in-trees lights_in (λ x. closed_object (light_members x)) (λ t. list_at listed_row (tree_at lights_row (members_in t))) refl
-    (λ e. listed_in-trees (λ found. found.lights.items) (λ x. closed_object (light_members x)) (list_at listed_row) refl (λ found. refl) e.khr_lights_punctual) r.extensions
+    → items_in (reached (further_way ListName.lights) (tree_or_absent root_extensions r.extensions)) ≡ trees (map (λ x. closed_object (light_members x)) (lights_of r))
+unfolding root_extension_rows root_extension_members lights_rows lights_members
+lights_of-trees r = listed_in-trees lights_in (λ x. closed_object (light_members x)) (λ t. items_in (reached (further_way ListName.lights) t)) refl
+    (λ e. listed_in-trees (λ found. found.lights.items) (λ x. closed_object (light_members x)) (λ t. items_in (reached lights_way t)) refl (λ found. refl) e.khr_lights_punctual) r.extensions
 
 pub variants_of-trees : (r : Root)
-    → list_at listed_row (tree_at variants_row (members_in (tree_or_absent root_extensions r.extensions))) ≡ trees (map (λ x. closed_object (variant_members x)) (variants_of r))
-unfolding root_extension_members variants_members
-variants_of-trees r = listed_in-trees variants_in (λ x. closed_object (variant_members x)) (λ t. list_at listed_row (tree_at variants_row (members_in t))) refl
-    (λ e. listed_in-trees (λ found. found.variants.items) (λ x. closed_object (variant_members x)) (list_at listed_row) refl (λ found. refl) e.khr_materials_variants) r.extensions
+    → items_in (reached (further_way ListName.variants) (tree_or_absent root_extensions r.extensions)) ≡ trees (map (λ x. closed_object (variant_members x)) (variants_of r))
+unfolding root_extension_rows root_extension_members variants_rows variants_members
+variants_of-trees r = listed_in-trees variants_in (λ x. closed_object (variant_members x)) (λ t. items_in (reached (further_way ListName.variants) t)) refl
+    (λ e. listed_in-trees (λ found. found.variants.items) (λ x. closed_object (variant_members x)) (λ t. items_in (reached variants_way t)) refl (λ found. refl) e.khr_materials_variants) r.extensions
 
 -- ---- where those stand that are put there
 
@@ -47,8 +50,8 @@ lights_found : (items : Vec Light Global) (found : Option KhrLightsPunctual)
     → not (is_absent (tree_or_absent (λ v. closed_object (lights_members v)) found)) ≡ true
     → (listed_in (λ v. v.lights.items) (option_map (lights_put items) found) ≡ items.items)
     × (tree_or_absent (λ v. closed_object (lights_members v)) (option_map (lights_put items) found)
-    ≡ with_extension_list (trees (map (λ x. closed_object (light_members x)) items.items)) (tree_or_absent (λ v. closed_object (lights_members v)) found))
-unfolding lights_members
+    ≡ with_reached lights_way (list (trees (map (λ x. closed_object (light_members x)) items.items))) (tree_or_absent (λ v. closed_object (lights_members v)) found))
+unfolding lights_rows lights_members
 lights_found items None there = absurd cc
 lights_found items (Some v) there = (refl, refl)
 
@@ -56,45 +59,45 @@ variants_found : (items : Vec Variant Global) (found : Option KhrMaterialsVarian
     → not (is_absent (tree_or_absent (λ v. closed_object (variants_members v)) found)) ≡ true
     → (listed_in (λ v. v.variants.items) (option_map (variants_put items) found) ≡ items.items)
     × (tree_or_absent (λ v. closed_object (variants_members v)) (option_map (variants_put items) found)
-    ≡ with_extension_list (trees (map (λ x. closed_object (variant_members x)) items.items)) (tree_or_absent (λ v. closed_object (variants_members v)) found))
-unfolding variants_members
+    ≡ with_reached variants_way (list (trees (map (λ x. closed_object (variant_members x)) items.items))) (tree_or_absent (λ v. closed_object (variants_members v)) found))
+unfolding variants_rows variants_members
 variants_found items None there = absurd cc
 variants_found items (Some v) there = (refl, refl)
 
 lights_extended : (items : Vec Light Global) (found : Option RootExtensions)
-    → not (is_absent (tree_at lights_row (members_in (tree_or_absent root_extensions found)))) ≡ true
+    → not (is_absent (member_named lights_name root_extension_rows (members_in (tree_or_absent root_extensions found)))) ≡ true
     → (listed_in lights_in (option_map (lights_put_in items) found) ≡ items.items)
     × (tree_or_absent root_extensions (option_map (lights_put_in items) found)
-    ≡ with_extended_list lights_row (trees (map (λ x. closed_object (light_members x)) items.items)) (tree_or_absent root_extensions found))
-unfolding root_extension_members
+    ≡ with_reached (further_way ListName.lights) (list (trees (map (λ x. closed_object (light_members x)) items.items))) (tree_or_absent root_extensions found))
+unfolding root_extension_rows root_extension_members
 lights_extended items None there = absurd cc
 lights_extended items (Some e) there =
     let put = lights_found items e.khr_lights_punctual there in
-    (put.0, ap (λ t. object (put_at lights_row t (root_extension_members e)) (members_view e.others.entries)) put.1)
+    (put.0, ap (λ t. object (put_named lights_name root_extension_rows t (root_extension_members e)) (members_view e.others.entries)) put.1)
 
 variants_extended : (items : Vec Variant Global) (found : Option RootExtensions)
-    → not (is_absent (tree_at variants_row (members_in (tree_or_absent root_extensions found)))) ≡ true
+    → not (is_absent (member_named variants_name root_extension_rows (members_in (tree_or_absent root_extensions found)))) ≡ true
     → (listed_in variants_in (option_map (variants_put_in items) found) ≡ items.items)
     × (tree_or_absent root_extensions (option_map (variants_put_in items) found)
-    ≡ with_extended_list variants_row (trees (map (λ x. closed_object (variant_members x)) items.items)) (tree_or_absent root_extensions found))
-unfolding root_extension_members
+    ≡ with_reached (further_way ListName.variants) (list (trees (map (λ x. closed_object (variant_members x)) items.items))) (tree_or_absent root_extensions found))
+unfolding root_extension_rows root_extension_members
 variants_extended items None there = absurd cc
 variants_extended items (Some e) there =
     let put = variants_found items e.khr_materials_variants there in
-    (put.0, ap (λ t. object (put_at variants_row t (root_extension_members e)) (members_view e.others.entries)) put.1)
+    (put.0, ap (λ t. object (put_named variants_name root_extension_rows t (root_extension_members e)) (members_view e.others.entries)) put.1)
 
 pub put_lights-trees : (r : Root) (items : Vec Light Global) → is_there ListName.lights (root_tree r) ≡ true
     → (lights_of (put_lights items r) ≡ items.items)
     × (root_tree (put_lights items r) ≡ with_list ListName.lights (trees (map (λ x. closed_object (light_members x)) items.items)) (root_tree r))
-unfolding root_members
+unfolding root_rows root_members
 put_lights-trees r items there =
     let put = lights_extended items r.extensions there in
-    (put.0, ap (λ t. closed_object (put_at extensions_row t (root_members r))) put.1)
+    (put.0, ap (λ t. closed_object (put_named extensions_name root_rows t (root_members r))) put.1)
 
 pub put_variants-trees : (r : Root) (items : Vec Variant Global) → is_there ListName.variants (root_tree r) ≡ true
     → (variants_of (put_variants items r) ≡ items.items)
     × (root_tree (put_variants items r) ≡ with_list ListName.variants (trees (map (λ x. closed_object (variant_members x)) items.items)) (root_tree r))
-unfolding root_members
+unfolding root_rows root_members
 put_variants-trees r items there =
     let put = variants_extended items r.extensions there in
-    (put.0, ap (λ t. closed_object (put_at extensions_row t (root_members r))) put.1)
+    (put.0, ap (λ t. closed_object (put_named extensions_name root_rows t (root_members r))) put.1)

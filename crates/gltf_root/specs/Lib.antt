@@ -1,6 +1,7 @@
 pub mod RootTable
-pub mod RootTrees
 pub mod RootExtensionTable
+pub mod Named
+pub mod RootTrees
 pub mod RootExtensionTrees
 pub mod Lists
 pub mod Lending

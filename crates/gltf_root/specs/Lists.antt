@@ -1,68 +1,86 @@
--- The lists of a document, and the places in them that indexes name.
-use Rattle.std.specs.Prelude.{ℕ, Bool, true, not}
+-- The lists of a document, and the ways to them.
+use Rattle.std.specs.Prelude.{ℕ, List, [], ◌∷◌, Bool, true, not, codes}
 use Rattle.gltf_paths.specs.Lists.{ListName}
-use Rattle.gltf_schema.specs.Tree.{Tree, Trees, is_absent, tree_at, count_of, items_in, members_in}
+use Rattle.gltf_schema.specs.Tree.{Tree, Trees, is_absent, count_of, items_in, members_in}
+use Rattle.gltf_animations.specs.AnimationTable.{animation_rows}
+use Rattle.gltf_root.specs.Named.{Way, row_named, member_named, reached}
+use Rattle.gltf_root.specs.RootExtensionTable.{root_extension_rows, lights_rows, variants_rows}
+use Rattle.gltf_root.specs.RootTable.{root_rows}
 
--- the items of the list that is an object's member at a number
-abbrev pub list_at : ℕ → Tree → Trees
-list_at n t = items_in (tree_at n (members_in t))
+-- the name of a document's extensions
+abbrev pub extensions_name : List ℕ
+extensions_name = codes "extensions"
 
--- the row of a document's extensions, the rows of the two objects in them that hold a list, and the row of the list in either
-abbrev pub extensions_row : ℕ
-extensions_row = 6
+-- the name of the extension object that has the lights
+abbrev pub lights_name : List ℕ
+lights_name = codes "KHR_lights_punctual"
 
-abbrev pub lights_row : ℕ
-lights_row = 0
+-- the name of the extension object that has the variants
+abbrev pub variants_name : List ℕ
+variants_name = codes "KHR_materials_variants"
 
-abbrev pub variants_row : ℕ
-variants_row = 1
-
-abbrev pub listed_row : ℕ
-listed_row = 0
-
--- the extensions of a document, and the extension object at a number
+-- the extensions of a document
 abbrev pub extensions_in : Tree → Tree
-extensions_in root = tree_at extensions_row (members_in root)
+extensions_in root = member_named extensions_name root_rows (members_in root)
 
-abbrev pub extension_at : ℕ → Tree → Tree
-extension_at n root = tree_at n (members_in (extensions_in root))
+-- the extension object of a name
+abbrev pub extension_in : List ℕ → Tree → Tree
+extension_in name root = member_named name root_extension_rows (members_in (extensions_in root))
 
--- the row that a list stands in: its own, or that of the extensions
+-- the name of the document's member that is a list, or that a list stands in
+abbrev pub member_of : ListName → List ℕ
+member_of ListName.accessors = codes "accessors"
+member_of ListName.animations = codes "animations"
+member_of ListName.buffers = codes "buffers"
+member_of ListName.buffer_views = codes "bufferViews"
+member_of ListName.cameras = codes "cameras"
+member_of ListName.images = codes "images"
+member_of ListName.materials = codes "materials"
+member_of ListName.meshes = codes "meshes"
+member_of ListName.nodes = codes "nodes"
+member_of ListName.samplers = codes "samplers"
+member_of ListName.scenes = codes "scenes"
+member_of ListName.skins = codes "skins"
+member_of ListName.textures = codes "textures"
+member_of ListName.lights = extensions_name
+member_of ListName.variants = extensions_name
+
+-- the number of that member's row
 abbrev pub row_of : ListName → ℕ
-row_of ListName.accessors = 0
-row_of ListName.animations = 1
-row_of ListName.buffers = 3
-row_of ListName.buffer_views = 4
-row_of ListName.cameras = 10
-row_of ListName.images = 11
-row_of ListName.materials = 12
-row_of ListName.meshes = 13
-row_of ListName.nodes = 14
-row_of ListName.samplers = 15
-row_of ListName.scenes = 16
-row_of ListName.skins = 17
-row_of ListName.textures = 18
-row_of ListName.lights = extensions_row
-row_of ListName.variants = extensions_row
+row_of named = row_named (member_of named) root_rows
+
+-- the way from the extension object to the lights
+abbrev pub lights_way : Way
+lights_way = (codes "lights", lights_rows) ∷ []
+
+-- the way from the extension object to the variants
+abbrev pub variants_way : Way
+variants_way = (codes "variants", variants_rows) ∷ []
+
+-- the way from the document's member to a list; most lists are that member
+abbrev pub further_way : ListName → Way
+further_way ListName.lights = (lights_name, root_extension_rows) ∷ lights_way
+further_way ListName.variants = (variants_name, root_extension_rows) ∷ variants_way
+further_way named = []
+
+-- the way from a document to a list
+abbrev pub list_way : ListName → Way
+list_way named = (member_of named, root_rows) ∷ further_way named
 
 -- the items of a list; none where its extension object is missing
 abbrev pub list_in : ListName → Tree → Trees
-list_in ListName.lights root = list_at listed_row (extension_at lights_row root)
-list_in ListName.variants root = list_at listed_row (extension_at variants_row root)
-list_in named root = list_at (row_of named) root
+list_in named root = items_in (reached (list_way named) root)
 
 -- whether a list is there, which may be empty: not where its extension object is missing
 abbrev pub is_there : ListName → Tree → Bool
-is_there ListName.lights root = not (is_absent (extension_at lights_row root))
-is_there ListName.variants root = not (is_absent (extension_at variants_row root))
+is_there ListName.lights root = not (is_absent (extension_in lights_name root))
+is_there ListName.variants root = not (is_absent (extension_in variants_name root))
 is_there named root = true
 
+-- the number of items of a list
 abbrev pub count_in : ListName → Tree → ℕ
 count_in named root = count_of (list_in named root)
 
--- the samplers of an animation, and their row
-abbrev pub samplers_row : ℕ
-samplers_row = 0
-
+-- the number of an animation's samplers
 abbrev pub sampler_count : Tree → ℕ
-sampler_count animation = count_of (list_at samplers_row animation)
+sampler_count animation = count_of (items_in (member_named (codes "samplers") animation_rows (members_in animation)))

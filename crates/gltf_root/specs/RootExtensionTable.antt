@@ -1,8 +1,9 @@
 -- The rows of the extensions of a whole document.
 use Rattle.std.specs.Prelude.{◌≡◌, true, false, codes, refl}
-use Rattle.gltf_schema.specs.Kind.{required, optional, Kind, ListOf, Object, ObjectName, extensions_of, Rows, no_rows, ◌◂◌}
-use Rattle.gltf_schema.specs.Plain.{are_sound}
-use Rattle.gltf_nodes.specs.LightTable.{light_kind, light_sound, variant_kind, variant_sound}
+use Rattle.gltf_schema.specs.Kind.{required, optional, Kind, ListOf, Object, Rows, no_rows, ◌◂◌, no_rule}
+use Rattle.gltf_schema.specs.Sound.{is_sound}
+use Rattle.gltf_schema.specs.Height.{IsFlat, IsHigh}
+use Rattle.gltf_nodes.specs.LightTable.{light_kind, light_sound, variant_kind, variant_sound, light_height, variant_height}
 
 unfoldable pub lights_rows : Rows
 lights_rows =
@@ -10,7 +11,7 @@ lights_rows =
     ◂ no_rows
 
 abbrev pub lights_kind : Kind
-lights_kind = Object ObjectName.lights lights_rows false
+lights_kind = Object no_rule lights_rows false
 
 unfoldable pub variants_rows : Rows
 variants_rows =
@@ -18,7 +19,7 @@ variants_rows =
     ◂ no_rows
 
 abbrev pub variants_kind : Kind
-variants_kind = Object ObjectName.variants variants_rows false
+variants_kind = Object no_rule variants_rows false
 
 unfoldable pub root_extension_rows : Rows
 root_extension_rows =
@@ -27,18 +28,32 @@ root_extension_rows =
     ◂ no_rows
 
 abbrev pub root_extensions_kind : Kind
-root_extensions_kind = Object (extensions_of ObjectName.root) root_extension_rows true
+root_extensions_kind = Object no_rule root_extension_rows true
 
--- ---- the rows are sound
+-- ---- each kind is sound
 
-pub lights_sound : are_sound lights_rows ≡ true
+pub lights_sound : is_sound lights_kind ≡ true
 unfolding lights_rows
 lights_sound = rw light_sound refl
 
-pub variants_sound : are_sound variants_rows ≡ true
+pub variants_sound : is_sound variants_kind ≡ true
 unfolding variants_rows
 variants_sound = rw variant_sound refl
 
-pub root_extension_sound : are_sound root_extension_rows ≡ true
+pub root_extension_sound : is_sound root_extensions_kind ≡ true
 unfolding root_extension_rows
 root_extension_sound = rw (lights_sound, variants_sound) refl
+
+-- ---- how far down something can be wrong
+
+pub lights_height : IsHigh 3 lights_kind
+unfolding lights_rows
+lights_height = rw (light_height.0, light_height.1) (refl, refl)
+
+pub variants_height : IsFlat variants_kind
+unfolding variants_rows
+variants_height = rw variant_height.0 (refl, refl)
+
+pub root_extension_height : IsHigh 4 root_extensions_kind
+unfolding root_extension_rows
+root_extension_height = rw (lights_height.0, lights_height.1, variants_height.0) (refl, refl)

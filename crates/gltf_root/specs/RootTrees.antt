@@ -1,6 +1,6 @@
 -- The tree of a whole document: its members in the rows' order.
-use Rattle.std.specs.Prelude.{ℕ, zero, suc, [], ◌∷◌}
-use Rattle.gltf_schema.specs.Tree.{Tree, Trees, end, with_tree, trees, tree_or_absent}
+use Rattle.std.specs.Prelude.{[], ◌∷◌, codes}
+use Rattle.gltf_schema.specs.Tree.{Tree, Trees, trees, tree_or_absent}
 use Rattle.gltf_schema.specs.Defaults.{defaults}
 use Rattle.gltf_schema.specs.Fields.{index_tree, text_tree, any_tree, list_tree, closed_object}
 use Rattle.gltf_data.specs.AccessorTrees.{accessor_members}
@@ -13,6 +13,7 @@ use Rattle.gltf_nodes.specs.AssetTrees.{asset_members}
 use Rattle.gltf_nodes.specs.CameraTrees.{camera_members}
 use Rattle.gltf_nodes.specs.SceneTrees.{node_members, scene_members, skin_members}
 use Rattle.gltf_animations.specs.AnimationTrees.{animation_members}
+use Rattle.gltf_root.specs.Named.{put_named}
 use Rattle.gltf_root.specs.RootTable.{root_rows}
 use Rattle.gltf_root.specs.RootExtensionTrees.{root_extensions}
 use Rattle.gltf_root.specs.declared.root.Root.{Root}
@@ -43,12 +44,6 @@ root_members v = trees (
 abbrev pub root_tree : Root → Tree
 root_tree v = closed_object (root_members v)
 
--- the trees, with another one at a number
-abbrev pub put_at : ℕ → Tree → Trees → Trees
-put_at n t end = end
-put_at zero t (with_tree u ts) = with_tree t ts
-put_at (suc n) t (with_tree u ts) = with_tree u (put_at n t ts)
-
 -- an asset, and every other member left out
 abbrev pub root_of_asset : Trees → Trees
-root_of_asset asset = put_at 2 (closed_object asset) (defaults root_rows)
+root_of_asset asset = put_named (codes "asset") root_rows (closed_object asset) (defaults root_rows)

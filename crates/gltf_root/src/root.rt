@@ -1,10 +1,11 @@
 //! Whole documents, and the lists in them.
 
 ghost use Rattle.std.specs.Prelude.{◌≡◌, false, IfOk, codes};
+ghost use Rattle.std.proofs.Common.{lit≤};
 ghost use Rattle.serde_json.specs.Data.{no_members};
-ghost use Rattle.gltf_schema.specs.Kind.{ObjectName};
+ghost use Rattle.gltf_schema.specs.Kind.{requires_enabled};
 ghost use Rattle.gltf_nodes.specs.AssetTrees.{asset_of_version};
-ghost use Rattle.gltf_root.specs.RootTable.{root_rows, root_sound};
+ghost use Rattle.gltf_root.specs.RootTable.{root_rows, root_sound, root_height};
 ghost use Rattle.gltf_root.specs.RootTrees.{root_members, root_of_asset};
 
 use crate::extensions;
@@ -128,7 +129,7 @@ impl Root {
 }
 
 impl Object for Root {
-    ghost named = { ObjectName.root };
+    ghost rule = { requires_enabled };
 
     ghost rows = { root_rows };
 
@@ -139,6 +140,10 @@ impl Object for Root {
     ghost unknown = { λ _. no_members };
 
     ghost sound = { root_sound };
+
+    ghost height = { 7 };
+
+    ghost low = { (root_height.1, lit≤ tt) };
 
     fn decode_members(alloc: Global, found: Map<String, Value>) -> Result<Root, Error> {
         let mut reading = Reading::from_members(alloc, found);

@@ -72,6 +72,11 @@ pub mod extensions {
     }
 }
 
+/// What holds of the objects, as contracts of functions that do nothing.
+pub mod laws {
+    pub use gltf_nodes::laws::quaternions_turn_nothing_by_default;
+}
+
 /// Geometry, and what its attributes mean.
 pub mod mesh {
     pub use gltf_base::mesh::{

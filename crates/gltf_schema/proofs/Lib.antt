@@ -14,3 +14,4 @@ pub mod AttributesRead
 pub mod LastNames
 pub mod RefusedWhereInvalid
 pub mod WrittenWhereValid
+pub mod Heights

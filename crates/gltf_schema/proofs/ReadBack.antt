@@ -14,8 +14,9 @@ use Rattle.gltf_schema.specs.Tree.{Tree, Trees, end, with_tree, is_absent}
 use Rattle.gltf_schema.specs.Kind.{Mark, required, optional, always, unless, sometimes, or_null, Kind, IndexInto, SourceImage, ChannelSampler, U32, U64, Stride, Number, Numbers, Text, Truth, Any, Choice, Attributes, ListOf, Object, Rows, no_rows, row, has_row}
 use Rattle.gltf_schema.specs.Read.{read, read_rows, read_items, read_member, all_numbers, spelling_in, others}
 use Rattle.gltf_schema.specs.Write.{write, write_rows, write_items, write_member, write_entries, written, number_items, small_data, spelled, leaves_out, is_default, are_in_order}
-use Rattle.gltf_schema.specs.Plain.{is_plain, are_plain, is_sound, are_sound, none_named, are_none, all_trees, is_null, is_null_kept, is_of_form}
-use Rattle.gltf_schema.proofs.TakingOut.{sound_row}
+use Rattle.gltf_schema.specs.Plain.{is_plain, are_plain, none_named, are_none, all_trees, is_null, is_null_kept, is_of_form}
+use Rattle.gltf_schema.specs.Sound.{is_sound, are_sound}
+use Rattle.gltf_schema.proofs.TakingOut.{sound_row, sound_rows}
 use Rattle.gltf_schema.proofs.ReadPlain.{mapped, bound}
 use Rattle.gltf_schema.proofs.PuttingIn.{other_name, has_own, unnamed_missing, unnamed_fewer, unnamed_put, others_put, others_all, kept_all}
 use Rattle.gltf_schema.proofs.AttributesBack.{small_back, attributes_back}
@@ -81,7 +82,7 @@ written_some (Attributes named) (tree.attributes es) d h some =
     let ms = mapped json_object (write_entries es no_members) d w.1 in
     rw (← ms.2) refl
 written_some (ListOf kind) (tree.list ts) d h some = let ds = mapped array (write_items (write kind) ts) d h in rw (← ds.2) refl
-written_some (Object named rows keeps) (tree.object ts rest) d h some = let ms = mapped json_object (write_rows rows ts rest) d h in rw (← ms.2) refl
+written_some (Object rule rows keeps) (tree.object ts rest) d h some = let ms = mapped json_object (write_rows rows ts rest) d h in rw (← ms.2) refl
 written_some _ _ d h some = absurd cc
 
 -- ---- one row's member
@@ -197,11 +198,11 @@ mutual
   read_back (ListOf kind) (tree.list ts) d sound plain h =
       let ds = mapped array (write_items (write kind) ts) d h in
       rw (← ds.2, items_back (write kind) (read kind) (is_plain kind) (λ t e p g. read_back kind t e sound p g) ts ds.0 plain ds.1) refl
-  read_back (Object named rows keeps) (tree.object ts rest) d sound plain h =
+  read_back (Object rule rows keeps) (tree.object ts rest) d sound plain h =
       let two = (and_parts _ (keeps || are_none rest) plain).0 in
       let none = (and_parts (are_plain rows ts) _ two).1 in
       let ms = mapped json_object (write_rows rows ts rest) d h in
-      let back = rows_back rows ts rest ms.0 sound (and_parts _ (none_named rows rest) two).0 none ms.1 in
+      let back = rows_back rows ts rest ms.0 (sound_rows rule rows sound) (and_parts _ (none_named rows rest) two).0 none ms.1 in
       let same : others rows ms.0 ≡ rest = back.rest rows (λ q has. has) ∙ others_all rows rest none in
       rw (← ms.2, back.reads, kept_all keeps rows ms.0 rest same (and_parts (are_plain rows ts && none_named rows rest) _ plain).1) refl
   read_back _ _ d sound plain h = absurd cc

@@ -7,15 +7,16 @@ use Rattle.serde_json.specs.Find.{get_member, as_null, as_bool, as_number, as_st
 use Rattle.gltf_checked.specs.Spelling.{Spelling, by_number, by_name, is_spelled}
 use Rattle.gltf_checked.specs.declared.choice.Form.{Form}
 use Rattle.gltf_checked.specs.declared.choice.Form.TheVariants as form
-use Rattle.gltf_schema.specs.declared.error.Error.{Error}
+use Rattle.gltf_paths.specs.declared.error.Error.{Error}
 use Rattle.gltf_schema.specs.Outcome.{Reads}
 use Rattle.gltf_schema.specs.Maybe.{◌>>=◌}
 use Rattle.gltf_schema.specs.Tree as tree
 use Rattle.gltf_schema.specs.Tree.{Tree, Trees, end, with_tree}
 use Rattle.gltf_schema.specs.Kind.{Mark, required, optional, always, unless, sometimes, or_null, Kind, IndexInto, SourceImage, ChannelSampler, U32, U64, Stride, Number, Numbers, Text, Truth, Any, Choice, Attributes, ListOf, Object, Rows, no_rows, row, has_row}
 use Rattle.gltf_schema.specs.Read.{read, read_rows, read_items, read_member, read_entries, choice_among, spelling_in, small_number, whole_number, all_numbers, others, kept}
-use Rattle.gltf_schema.specs.Plain.{is_of_form, is_plain, are_plain, none_named, are_none, all_trees, is_null, is_null_kept, is_sound, are_sound, has_plain_default}
-use Rattle.gltf_schema.proofs.TakingOut.{sound_row}
+use Rattle.gltf_schema.specs.Plain.{is_of_form, is_plain, are_plain, none_named, are_none, all_trees, is_null, is_null_kept}
+use Rattle.gltf_schema.specs.Sound.{is_sound, are_sound, has_plain_default}
+use Rattle.gltf_schema.proofs.TakingOut.{sound_row, sound_rows}
 
 -- ---- what an optional step gave
 
@@ -63,7 +64,7 @@ choice_plain f listed d s h = choice_plain_at _ f listed s (spelled_of_form f d 
 absent_plain : (kind : Kind) → is_plain kind tree.absent ≡ true
 absent_plain (Choice form listed) = refl
 absent_plain (ListOf kind) = refl
-absent_plain (Object named rows keeps) = refl
+absent_plain (Object rule rows keeps) = refl
 absent_plain (IndexInto named) = refl
 absent_plain SourceImage = refl
 absent_plain ChannelSampler = refl
@@ -120,7 +121,7 @@ not_null (Attributes named) d t some h =
 not_null (ListOf kind) d t some h =
     let ds = bound (as_array d) _ t h in
     not_null_from tree.list (λ x. refl) (read_items (read kind) ds.0) t ds.2
-not_null (Object named rows keeps) d t some h =
+not_null (Object rule rows keeps) d t some h =
     let ms = bound (as_object d) _ t h in
     not_null_from (λ ts. tree.object ts (kept keeps rows ms.0)) (λ x. refl) (read_rows rows ms.0) t ms.2
 
@@ -185,10 +186,10 @@ mutual
       let ds = bound (as_array d) _ t h in
       let ts = mapped tree.list (read_items (read kind) ds.0) t ds.2 in
       rw (← ts.2) (items_plain (read kind) (is_plain kind) (λ x u e. read_plain kind x u sound e) ds.0 ts.0 ts.1)
-  read_plain (Object named rows keeps) d t sound h =
+  read_plain (Object rule rows keeps) d t sound h =
       let ms = bound (as_object d) _ t h in
       let ts = mapped (λ us. tree.object us (kept keeps rows ms.0)) (read_rows rows ms.0) t ms.2 in
-      rw (← ts.2) (and_from _ _ (and_from _ _ (rows_plain rows ms.0 ts.0 sound ts.1) (kept_unnamed keeps rows ms.0)) (kept_or_none keeps rows ms.0))
+      rw (← ts.2) (and_from _ _ (and_from _ _ (rows_plain rows ms.0 ts.0 (sound_rows rule rows sound) ts.1) (kept_unnamed keeps rows ms.0)) (kept_or_none keeps rows ms.0))
 
   rows_plain : (rows : Rows) (ms : Members) (ts : Trees) → are_sound rows ≡ true → read_rows rows ms ≡ Some ts → are_plain rows ts ≡ true
   rows_plain no_rows ms ts sound h = refl

@@ -14,7 +14,9 @@ use Rattle.gltf_schema.specs.Tree.{Tree, Trees, end, with_tree}
 use Rattle.gltf_schema.specs.Kind.{Mark, required, optional, always, unless, sometimes, or_null, Kind, IndexInto, SourceImage, ChannelSampler, U32, U64, Stride, Number, Numbers, Text, Truth, Any, Choice, Attributes, ListOf, Object, Rows, no_rows, row}
 use Rattle.gltf_schema.specs.Read.{read, read_rows, read_items, read_member, read_entries, all_numbers, spelling_in, choice_among, small_number, whole_number, kept}
 use Rattle.gltf_schema.specs.Write.{write, write_rows, write_items, write_member, write_entries, written, leaves_out, is_default, is_named, key_name, small_data, are_in_order}
-use Rattle.gltf_schema.specs.Invalid.{is_unknown, any_unknown, holds_invalid, any_holds_invalid, has_written_default, has_written_defaults, have_written_defaults}
+use Rattle.gltf_schema.specs.Invalid.{is_unknown, any_unknown, holds_invalid, any_holds_invalid}
+use Rattle.gltf_schema.specs.Sound.{has_written_default, is_sound, are_sound}
+use Rattle.gltf_schema.proofs.TakingOut.{sound_row, sound_rows}
 use Rattle.gltf_schema.proofs.ReadPlain.{mapped, bound}
 use Rattle.gltf_schema.proofs.ReadBack.{allowed, absent_is}
 use Rattle.gltf_schema.proofs.AttributesRead.{small_is, attributes_written}
@@ -78,7 +80,7 @@ mutual
   written_valid (ListOf kind) (tree.list ts) d h =
       let ds = mapped array (write_items (write kind) ts) d h in
       items_valid (write kind) (λ t e g. written_valid kind t e g) ts ds.0 ds.1
-  written_valid (Object named rows keeps) (tree.object ts rest) d h =
+  written_valid (Object rule rows keeps) (tree.object ts rest) d h =
       let ms = mapped json_object (write_rows rows ts rest) d h in
       rows_valid rows ts rest ms.0 ms.1
   written_valid _ tree.invalid d h = absurd cc
@@ -151,55 +153,53 @@ index_written : (d : Data) (n : ℕ) → small_number d ≡ Some n → is_some (
 index_written d n h = rw (small_is d n h) refl
 
 mutual
-  -- by any kind whose defaults are written
-  valid_written : (kind : Kind) (d : Data) (t : Tree) → has_written_defaults kind ≡ true → read kind d ≡ Some t → holds_invalid t ≡ false → is_some (write kind t) ≡ true
-  valid_written (IndexInto named) d t defaults h valid = let n = mapped tree.index (small_number d) t h in rw (← n.2) (index_written d n.0 n.1)
-  valid_written SourceImage d t defaults h valid = let n = mapped tree.index (small_number d) t h in rw (← n.2) (index_written d n.0 n.1)
-  valid_written ChannelSampler d t defaults h valid = let n = mapped tree.index (small_number d) t h in rw (← n.2) (index_written d n.0 n.1)
-  valid_written U32 d t defaults h valid = let n = mapped tree.whole (small_number d) t h in rw (← n.2) (index_written d n.0 n.1)
-  valid_written U64 d t defaults h valid = let n = mapped tree.whole (whole_number d) t h in rw (← n.2) refl
-  valid_written Stride d t defaults h valid = let n = mapped tree.whole (whole_number d) t h in rw (← n.2) refl
-  valid_written Number d t defaults h valid = let x = mapped tree.number (as_number d) t h in rw (← x.2) refl
-  valid_written (Numbers n) d t defaults h valid =
+  -- by any sound kind
+  valid_written : (kind : Kind) (d : Data) (t : Tree) → is_sound kind ≡ true → read kind d ≡ Some t → holds_invalid t ≡ false → is_some (write kind t) ≡ true
+  valid_written (IndexInto named) d t sound h valid = let n = mapped tree.index (small_number d) t h in rw (← n.2) (index_written d n.0 n.1)
+  valid_written SourceImage d t sound h valid = let n = mapped tree.index (small_number d) t h in rw (← n.2) (index_written d n.0 n.1)
+  valid_written ChannelSampler d t sound h valid = let n = mapped tree.index (small_number d) t h in rw (← n.2) (index_written d n.0 n.1)
+  valid_written U32 d t sound h valid = let n = mapped tree.whole (small_number d) t h in rw (← n.2) (index_written d n.0 n.1)
+  valid_written U64 d t sound h valid = let n = mapped tree.whole (whole_number d) t h in rw (← n.2) refl
+  valid_written Stride d t sound h valid = let n = mapped tree.whole (whole_number d) t h in rw (← n.2) refl
+  valid_written Number d t sound h valid = let x = mapped tree.number (as_number d) t h in rw (← x.2) refl
+  valid_written (Numbers n) d t sound h valid =
       let ds = bound (as_array d) _ t h in
       let xs = bound (all_numbers ds.0) _ t ds.2 in
       let w = allowed (nat_eq (length xs.0) n) _ t xs.2 in
       rw (← same_Some (tree.numbers xs.0) t w.1, w.0) refl
-  valid_written Text d t defaults h valid = let s = mapped tree.text (as_str d) t h in rw (← s.2) refl
-  valid_written Truth d t defaults h valid = let b = mapped tree.truth (as_bool d) t h in rw (← b.2) refl
-  valid_written Any d t defaults h valid = rw (← same_Some (tree.any d) t h) refl
-  valid_written (Choice f listed) d t defaults h valid =
+  valid_written Text d t sound h valid = let s = mapped tree.text (as_str d) t h in rw (← s.2) refl
+  valid_written Truth d t sound h valid = let b = mapped tree.truth (as_bool d) t h in rw (← b.2) refl
+  valid_written Any d t sound h valid = rw (← same_Some (tree.any d) t h) refl
+  valid_written (Choice f listed) d t sound h valid =
       let s = mapped (choice_among listed) (spelling_in f d) t h in
       rw (← s.2) (choice_written (list_any (λ u. is_spelled u s.0) listed) f listed s.0 (ap holds_invalid s.2 ∙ valid))
-  valid_written (Attributes named) d t defaults h valid =
+  valid_written (Attributes named) d t sound h valid =
       let ms = bound (as_object d) _ t h in
       let es = mapped tree.attributes (read_entries [] ms.0) t ms.2 in
       let done = attributes_written ms.0 es.0 es.1 (ap holds_invalid es.2 ∙ valid) in
       rw (← es.2, done.0) (some_mapped json_object (write_entries es.0 no_members) done.1)
-  valid_written (ListOf kind) d t defaults h valid =
+  valid_written (ListOf kind) d t sound h valid =
       let ds = bound (as_array d) _ t h in
       let ts = mapped tree.list (read_items (read kind) ds.0) t ds.2 in
       rw (← ts.2) (some_mapped array (write_items (write kind) ts.0)
-      (items_written (read kind) (write kind) (λ e u g fine. valid_written kind e u defaults g fine) ds.0 ts.0 ts.1 (ap holds_invalid ts.2 ∙ valid)))
-  valid_written (Object named rows keeps) d t defaults h valid =
+      (items_written (read kind) (write kind) (λ e u g fine. valid_written kind e u sound g fine) ds.0 ts.0 ts.1 (ap holds_invalid ts.2 ∙ valid)))
+  valid_written (Object rule rows keeps) d t sound h valid =
       let ms = bound (as_object d) _ t h in
       let ts = mapped (λ us. tree.object us (kept keeps rows ms.0)) (read_rows rows ms.0) t ms.2 in
       rw (← ts.2) (some_mapped json_object (write_rows rows ts.0 (kept keeps rows ms.0))
-      (rows_written rows ms.0 ts.0 defaults ts.1 (ap holds_invalid ts.2 ∙ valid) (kept keeps rows ms.0)))
+      (rows_written rows ms.0 ts.0 (sound_rows rule rows sound) ts.1 (ap holds_invalid ts.2 ∙ valid) (kept keeps rows ms.0)))
 
-  rows_written : (rows : Rows) (ms : Members) (ts : Trees) → have_written_defaults rows ≡ true → read_rows rows ms ≡ Some ts → any_holds_invalid ts ≡ false → (old : Members) → is_some (write_rows rows ts old) ≡ true
-  rows_written no_rows ms ts defaults h valid old = rw (← same_Some end ts h) refl
-  rows_written (row n mark kind rows) ms ts defaults h valid old =
+  rows_written : (rows : Rows) (ms : Members) (ts : Trees) → are_sound rows ≡ true → read_rows rows ms ≡ Some ts → any_holds_invalid ts ≡ false → (old : Members) → is_some (write_rows rows ts old) ≡ true
+  rows_written no_rows ms ts sound h valid old = rw (← same_Some end ts h) refl
+  rows_written (row n mark kind rows) ms ts sound h valid old =
       let first = bound (read_member mark (read kind) (get_member n ms)) _ ts h in
       let later = mapped (with_tree first.0) (read_rows rows ms) ts first.2 in
       let apart = or_parts (holds_invalid first.0) (any_holds_invalid later.0) (ap any_holds_invalid later.2 ∙ valid) in
-      let two = (and_parts (has_written_default mark kind && has_written_defaults kind) (have_written_defaults rows) defaults).0 in
-      let inner = (and_parts (has_written_default mark kind) (has_written_defaults kind) two).1 in
-      let rest = (and_parts (has_written_default mark kind && has_written_defaults kind) (have_written_defaults rows) defaults).1 in
-      let done = member_done mark kind (get_member n ms) first.0 (and_parts (has_written_default mark kind) (has_written_defaults kind) two).0 (λ d g. valid_written kind d first.0 inner g apart.0) first.1 in
+      let line = sound_row n mark kind rows sound in
+      let done = member_done mark kind (get_member n ms) first.0 line.written (λ d g. valid_written kind d first.0 line.inner g apart.0) first.1 in
       rw (← later.2) (some_bound (write_rows rows later.0) (write_member n mark (write kind) first.0 old)
       (done_put (leaves_out mark first.0) n (written mark (write kind) first.0) old done)
-      (λ new. rows_written rows ms later.0 rest later.1 apart.1 new))
+      (λ new. rows_written rows ms later.0 line.rest later.1 apart.1 new))
 
 -- ---- both ways
 
@@ -212,8 +212,8 @@ invalid_at None t each invalid = refl
 invalid_at (Some d) t each invalid = absurd (true≢false (sym invalid ∙ each d refl))
 
 -- what was read is refused exactly where something in it is invalid
-pub refused_where_invalid : (kind : Kind) (d : Data) (t : Tree) → has_written_defaults kind ≡ true → read kind d ≡ Some t → (write kind t ≡ None) ↔ (holds_invalid t ≡ true)
-refused_where_invalid kind d t defaults h = (
-  λ none. refused_at _ (write kind t) t refl (λ valid. valid_written kind d t defaults h valid) none,
+pub refused_where_invalid : (kind : Kind) (d : Data) (t : Tree) → is_sound kind ≡ true → read kind d ≡ Some t → (write kind t ≡ None) ↔ (holds_invalid t ≡ true)
+refused_where_invalid kind d t sound h = (
+  λ none. refused_at _ (write kind t) t refl (λ valid. valid_written kind d t sound h valid) none,
   λ invalid. invalid_at (write kind t) t (λ e g. written_valid kind t e g) invalid,
 )

@@ -2,7 +2,7 @@
 use Rattle.std.proofs.Common.{◌≡◌, ℕ, List, Option, Some, None, option_map, Bool, true, false, Result, Ok, Err, refl, sym, ap, ◌∙◌, subst}
 use Rattle.serde_json.specs.Data.{Data, Members, no_members}
 use Rattle.serde_json.specs.Find.{get_member}
-use Rattle.gltf_schema.specs.declared.error.Error.{Error}
+use Rattle.gltf_paths.specs.declared.error.Error.{Error}
 use Rattle.gltf_schema.specs.Outcome.{Reads, Refuses}
 use Rattle.gltf_schema.specs.Maybe.{◌>>=◌}
 use Rattle.gltf_schema.specs.Tree.{Tree, whole, index, Trees, end, with_tree}

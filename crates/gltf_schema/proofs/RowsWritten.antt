@@ -8,7 +8,7 @@ use Rattle.serde_json.specs.View.{view, members_view}
 use Rattle.serde_json.specs.declared.value.Value.{Value}
 use Rattle.serde_json.specs.declared.value.Value.TheVariants as values
 use Rattle.serde_json.proofs.Views.{view-Object}
-use Rattle.gltf_schema.specs.declared.error.Error.{Error}
+use Rattle.gltf_paths.specs.declared.error.Error.{Error}
 use Rattle.gltf_schema.specs.Outcome.{Writes, Withholds}
 use Rattle.gltf_schema.specs.Maybe.{◌>>=◌}
 use Rattle.gltf_schema.specs.Tree.{Tree, whole, index, Trees, end, with_tree}

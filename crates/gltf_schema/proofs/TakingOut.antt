@@ -2,8 +2,8 @@
 use Rattle.std.proofs.Common.{◌≡◌, ℕ, List, [], ◌∷◌, Bool, true, false, ◌&&◌, ◌||◌, not, cond, Option, Some, None, option_map, String, Global, string_bytes, bytes_eq, is_eq, nat_cmp, refl, sym, ap, ◌∙◌, true≢false, subst, Ordering, Less, Equal, Greater, Result, Ok, Err}
 use Rattle.std.proofs.lemmas.Bool.{and_parts, or_parts, not-true}
 use Rattle.std.specs.Ordering.{match_ordering}
-use Rattle.gltf_schema.specs.declared.error.Error.{Error}
-use Rattle.gltf_schema.specs.declared.error.Error.TheVariants as errors
+use Rattle.gltf_paths.specs.declared.error.Error.{Error}
+use Rattle.gltf_paths.specs.declared.error.Error.TheVariants as errors
 use Rattle.gltf_schema.specs.Outcome.{Reads, Refuses}
 use Rattle.std.proofs.lemmas.Map.Text.{is_eq-slice_cmp}
 use Rattle.std.proofs.lemmas.Slice.Eq.{bytes_eq-Decides}
@@ -16,10 +16,10 @@ use Rattle.serde_json.specs.View.{members_view, view}
 use Rattle.serde_json.specs.declared.value.Value.{Value}
 use Rattle.serde_json.proofs.Views.{Entry, view-lookup}
 use Rattle.gltf_schema.specs.Tree.{Tree, object, Trees, with_tree}
-use Rattle.gltf_schema.specs.Kind.{Mark, Kind, Rows, no_rows, row, has_row}
+use Rattle.gltf_schema.specs.Kind.{Mark, Kind, Rows, no_rows, row, has_row, Rule}
 use Rattle.gltf_schema.specs.Maybe.{◌>>=◌}
 use Rattle.gltf_schema.specs.Read.{read, read_member, read_rows, others, left, kept}
-use Rattle.gltf_schema.specs.Plain.{are_sound, has_plain_default, is_sound}
+use Rattle.gltf_schema.specs.Sound.{are_sound, has_plain_default, has_written_default, is_sound, suits}
 use Rattle.gltf_schema.specs.Taken.{without, take_member, take_rows, take_all}
 
 abbrev finds : List ℕ → String Global → Bool
@@ -84,20 +84,30 @@ get_without q n (member m d ms) apart = get_without_at _ q n m d ms refl apart (
 pub record IsSoundRow (n : List ℕ) (mark : Mark) (kind : Kind) (rows : Rows) : Type 0 where
   pub apart : has_row n rows ≡ false
   pub default : has_plain_default mark kind ≡ true
+  pub written : has_written_default mark kind ≡ true
   pub inner : is_sound kind ≡ true
   pub rest : are_sound rows ≡ true
 
 -- each line of a sound table says it
 pub sound_row : (n : List ℕ) (mark : Mark) (kind : Kind) (rows : Rows) → are_sound (row n mark kind rows) ≡ true → IsSoundRow n mark kind rows
 sound_row n mark kind rows h =
-    let three = (and_parts _ (are_sound rows) h).0 in
-    let two = (and_parts _ (is_sound kind) three).0 in
+    let apart = not (has_row n rows) in
+    let plain = has_plain_default mark kind in
+    let written = has_written_default mark kind in
+    let four = (and_parts (apart && plain && written && is_sound kind) (are_sound rows) h).0 in
+    let three = (and_parts (apart && plain && written) (is_sound kind) four).0 in
+    let two = (and_parts (apart && plain) written three).0 in
     record {
-      apart = not-true _ (and_parts _ (has_plain_default mark kind) two).0;
-      default = (and_parts (not (has_row n rows)) _ two).1;
-      inner = (and_parts (not (has_row n rows) && has_plain_default mark kind) _ three).1;
-      rest = (and_parts (not (has_row n rows) && has_plain_default mark kind && is_sound kind) _ h).1;
+      apart = not-true _ (and_parts apart plain two).0;
+      default = (and_parts apart plain two).1;
+      written = (and_parts (apart && plain) written three).1;
+      inner = (and_parts (apart && plain && written) (is_sound kind) four).1;
+      rest = (and_parts (apart && plain && written && is_sound kind) (are_sound rows) h).1;
     }
+
+-- the rows of a sound object are sound
+pub sound_rows : (rule : Rule) (rows : Rows) → (suits rule rows && are_sound rows) ≡ true → are_sound rows ≡ true
+sound_rows rule rows h = (and_parts (suits rule rows) (are_sound rows) h).1
 
 rows_without : (rows : Rows) (n : List ℕ) (ms : Members) → has_row n rows ≡ false → read_rows rows (without n ms) ≡ read_rows rows ms
 rows_without no_rows n ms h = refl

@@ -56,7 +56,7 @@ mutual
       (entries_written es no_members (and_parts (are_in_order es) (list_all is_attribute es) of_kind).1 valid))
   of_kind_written (ListOf kind) (tree.list ts) of_kind valid =
       some_mapped array (write_items (write kind) ts) (all_written (is_of_kind kind) (write kind) (λ t all fine. of_kind_written kind t all fine) ts of_kind valid)
-  of_kind_written (Object named rows keeps) (tree.object ts others) of_kind valid =
+  of_kind_written (Object rule rows keeps) (tree.object ts others) of_kind valid =
       some_mapped json_object (write_rows rows ts others) (of_kinds_written rows ts (and_parts (are_of_kinds rows ts) (keeps || are_none others) of_kind).0 valid others)
   of_kind_written _ _ of_kind valid = absurd cc
 

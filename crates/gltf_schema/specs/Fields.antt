@@ -1,9 +1,9 @@
 -- The trees of an object's fields.
-use Rattle.std.specs.Prelude.{ℕ, List, [], map, String, string_bytes}
+use Rattle.std.specs.Prelude.{ℕ, List, map, String, string_bytes}
 use Rattle.std.specs.declared.alloc.Global.{Global}
 use Rattle.std.specs.BTreeMap.{BTreeMap}
-use Rattle.serde_json.specs.Data.{Members, no_members}
-use Rattle.serde_json.specs.View.{view}
+use Rattle.serde_json.specs.Data.{no_members}
+use Rattle.serde_json.specs.View.{view, members_view}
 use Rattle.serde_json.specs.declared.value.Value.{Value}
 use Rattle.gltf_checked.specs.Keys.{Key}
 use Rattle.gltf_checked.specs.Semantics.{checked_key}
@@ -14,7 +14,9 @@ use Rattle.gltf_paths.specs.Reals.{real_number}
 use Rattle.gltf_paths.specs.declared.index.IndexTo.{IndexTo}
 use Rattle.gltf_paths.specs.declared.real.Real.{Real}
 use Rattle.gltf_paths.specs.declared.validation.USize64.{USize64}
-use Rattle.gltf_schema.specs.Tree.{Tree, Trees, trees, whole, number, numbers, text, any, index, list, attributes, object}
+use Rattle.gltf_schema.specs.declared.unlisted.KeptExtensions.{KeptExtensions}
+use Rattle.gltf_schema.specs.declared.unlisted.DroppedExtensions.{DroppedExtensions}
+use Rattle.gltf_schema.specs.Tree.{Tree, Trees, end, trees, whole, number, numbers, text, any, index, list, attributes, object}
 
 abbrev pub index_tree : {P : Type 0} → IndexTo P → Tree
 index_tree i = index (index_number i)
@@ -48,6 +50,9 @@ attributes_tree m = attributes (map entry_of m.entries)
 abbrev pub closed_object : Trees → Tree
 closed_object ts = object ts no_members
 
--- an extension object of which no member is known, with the members that it keeps
-abbrev pub unlisted_object : Members → Tree
-unlisted_object kept = object (trees []) kept
+-- the extensions of an object of which none is known: they are kept, or dropped
+abbrev pub kept_tree : KeptExtensions → Tree
+kept_tree e = object end (members_view e.others.entries)
+
+abbrev pub dropped_tree : DroppedExtensions → Tree
+dropped_tree e = object end no_members

@@ -6,54 +6,21 @@ use Rattle.gltf_checked.specs.Spelling.{Spelling}
 use Rattle.gltf_checked.specs.declared.choice.Form.{Form}
 use Rattle.gltf_schema.specs.Tree.{Tree}
 
--- the objects; some have an extension object of their own
-pub data ObjectName : Type 0 where
-  accessor : ObjectName
-  sparse : ObjectName
-  sparse_indices : ObjectName
-  sparse_values : ObjectName
-  animation : ObjectName
-  animation_channel : ObjectName
-  animation_target : ObjectName
-  animation_sampler : ObjectName
-  asset : ObjectName
-  buffer : ObjectName
-  buffer_view : ObjectName
-  camera : ObjectName
-  orthographic : ObjectName
-  perspective : ObjectName
-  image : ObjectName
-  material : ObjectName
-  pbr_metallic_roughness : ObjectName
-  normal_texture : ObjectName
-  occlusion_texture : ObjectName
-  texture_info : ObjectName
-  mesh : ObjectName
-  primitive : ObjectName
-  morph_target : ObjectName
-  node : ObjectName
-  scene : ObjectName
-  skin : ObjectName
-  sampler : ObjectName
-  texture : ObjectName
-  root : ObjectName
-  lights : ObjectName
-  light : ObjectName
-  light_of_node : ObjectName
-  spot : ObjectName
-  variants : ObjectName
-  variant : ObjectName
-  variant_mappings : ObjectName
-  variant_mapping : ObjectName
-  texture_transform : ObjectName
-  pbr_specular_glossiness : ObjectName
-  unlit : ObjectName
-  transmission : ObjectName
-  volume : ObjectName
-  specular : ObjectName
-  ior : ObjectName
-  emissive_strength : ObjectName
-  extensions_of : ObjectName → ObjectName
+-- what is asked of an object beside the kinds of its members; most objects have no rule
+pub data Rule : Type 0 where
+  no_rule : Rule
+  -- an accessor has data
+  needs_data : Rule
+  -- a camera has a projection
+  needs_projection : Rule
+  -- a spot light has its cone
+  needs_cone : Rule
+  -- a primitive has positions, and their accessor has bounds
+  needs_positions : Rule
+  -- a document requires only extensions that are enabled
+  requires_enabled : Rule
+  -- the channels of an animation name samplers of that animation
+  holds_samplers : Rule
 
 -- when a member may be missing, and when it is written
 pub data Mark : Type 0 where
@@ -92,8 +59,8 @@ mutual
     -- a map of semantics to indexes into a list
     Attributes : ListName → Kind
     ListOf : Kind → Kind
-    -- its name, its rows, and whether members that no row names are kept
-    Object : ObjectName → Rows → Bool → Kind
+    -- its rule, its rows, and whether members that no row names are kept
+    Object : Rule → Rows → Bool → Kind
 
   pub data Rows : Type 0 where
     no_rows : Rows

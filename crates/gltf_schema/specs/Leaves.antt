@@ -25,6 +25,6 @@ choice_of form spell listed = Choice form (map spell listed)
 
 -- the kind reads objects alone, and the value is none
 abbrev pub wants_object : Kind → Data → Bool
-wants_object (Object named rows keeps) d = is_none (as_object d)
+wants_object (Object rule rows keeps) d = is_none (as_object d)
 wants_object (Attributes named) d = is_none (as_object d)
 wants_object _ d = false

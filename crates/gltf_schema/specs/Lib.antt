@@ -6,9 +6,11 @@ pub mod Write
 pub mod Put
 pub mod Plain
 pub mod Invalid
+pub mod Sound
+pub mod Silence
+pub mod Height
 pub mod OfKind
 pub mod Outcome
-pub mod ErrorText
 pub mod Attributes
 pub mod Taken
 pub mod Readings

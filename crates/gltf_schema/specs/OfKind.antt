@@ -41,7 +41,7 @@ abbrev mutual
   is_of_kind (Choice form listed) invalid = true
   is_of_kind (Attributes named) (attributes es) = are_in_order es && list_all is_attribute es
   is_of_kind (ListOf kind) (list ts) = all_trees (is_of_kind kind) ts
-  is_of_kind (Object named rows keeps) (object ts others) = are_of_kinds rows ts && (keeps || are_none others)
+  is_of_kind (Object rule rows keeps) (object ts others) = are_of_kinds rows ts && (keeps || are_none others)
   is_of_kind _ _ = false
 
   -- each row's member is of the row's kind, or absent where it may be

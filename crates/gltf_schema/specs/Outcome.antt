@@ -1,7 +1,7 @@
 -- What a call that reads or writes answers, want of memory aside.
 use Rattle.std.specs.Prelude.{◌≡◌, Bool, true, Option, Some, None, Result, Ok, Err, ⊤}
-use Rattle.gltf_schema.specs.declared.error.Error.{Error}
-use Rattle.gltf_schema.specs.declared.error.Error.TheVariants as errors
+use Rattle.gltf_paths.specs.declared.error.Error.{Error}
+use Rattle.gltf_paths.specs.declared.error.Error.TheVariants as errors
 
 -- only what reads nothing is refused, and as no glTF
 abbrev pub Refuses : {Y : Type 0} → Error → Option Y → Type 0

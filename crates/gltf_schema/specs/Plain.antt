@@ -6,7 +6,7 @@ use Rattle.gltf_checked.specs.Spelling.{Spelling, by_number, by_name, is_spelled
 use Rattle.gltf_checked.specs.declared.choice.Form.{Form}
 use Rattle.gltf_checked.specs.declared.choice.Form.TheVariants as form
 use Rattle.gltf_schema.specs.Tree.{Tree, any, chosen, list, object, Trees, end, with_tree}
-use Rattle.gltf_schema.specs.Kind.{Mark, optional, always, unless, or_null, Kind, Choice, ListOf, Object, Rows, no_rows, row, has_row}
+use Rattle.gltf_schema.specs.Kind.{Mark, optional, or_null, Kind, Choice, ListOf, Object, Rows, no_rows, row, has_row}
 
 -- a null that is kept as it stands
 abbrev pub is_null : Tree → Bool
@@ -43,26 +43,9 @@ abbrev mutual
   pub is_plain : Kind → Tree → Bool
   is_plain (Choice form listed) (chosen s) = is_of_form form s && list_any (λ t. is_spelled t s) listed
   is_plain (ListOf kind) (list ts) = all_trees (is_plain kind) ts
-  is_plain (Object named rows keeps) (object ts others) = are_plain rows ts && none_named rows others && (keeps || are_none others)
+  is_plain (Object rule rows keeps) (object ts others) = are_plain rows ts && none_named rows others && (keeps || are_none others)
   is_plain _ _ = true
 
   pub are_plain : Rows → Trees → Bool
   are_plain (row n mark kind rows) (with_tree t ts) = not (is_null_kept mark t) && is_plain kind t && are_plain rows ts
   are_plain _ _ = true
-
--- a default is itself plain
-abbrev pub has_plain_default : Mark → Kind → Bool
-has_plain_default (always t) kind = is_plain kind t
-has_plain_default (unless t) kind = is_plain kind t
-has_plain_default _ kind = true
-
-abbrev mutual
-  -- no object of the kind has two rows of one name, and each default is plain
-  pub is_sound : Kind → Bool
-  is_sound (ListOf kind) = is_sound kind
-  is_sound (Object named rows keeps) = are_sound rows
-  is_sound _ = true
-
-  pub are_sound : Rows → Bool
-  are_sound no_rows = true
-  are_sound (row n mark kind rows) = not (has_row n rows) && has_plain_default mark kind && is_sound kind && are_sound rows

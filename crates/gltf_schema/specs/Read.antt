@@ -86,7 +86,7 @@ abbrev mutual
   read (Choice form listed) d = option_map (choice_among listed) (spelling_in form d)
   read (Attributes named) d = as_object d >>= λ ms. option_map attributes (read_entries [] ms)
   read (ListOf kind) d = as_array d >>= λ ds. option_map list (read_items (read kind) ds)
-  read (Object named rows keeps) d = as_object d >>= λ ms. option_map (λ ts. object ts (kept keeps rows ms)) (read_rows rows ms)
+  read (Object rule rows keeps) d = as_object d >>= λ ms. option_map (λ ts. object ts (kept keeps rows ms)) (read_rows rows ms)
 
   -- each row's member, in the rows' order
   pub read_rows : Rows → Members → Option Trees

@@ -6,7 +6,7 @@ use Rattle.serde_json.specs.View.{members_view}
 use Rattle.std.specs.declared.alloc.Global.{Global}
 use Rattle.std.specs.BTreeMap.{BTreeMap}
 use Rattle.serde_json.specs.declared.value.Value.{Value}
-use Rattle.gltf_schema.specs.declared.error.Error.{Error}
+use Rattle.gltf_paths.specs.declared.error.Error.{Error}
 use Rattle.gltf_schema.specs.declared.reading.Reading.{Reading}
 use Rattle.gltf_schema.specs.Outcome.{Reads}
 use Rattle.gltf_schema.specs.Tree.{Tree}

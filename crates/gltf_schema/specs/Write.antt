@@ -92,7 +92,7 @@ abbrev mutual
   write (Choice form listed) (chosen s) = Some (spelled s)
   write (Attributes named) (attributes es) = if are_in_order es then option_map json.object (write_entries es no_members) else None
   write (ListOf kind) (list ts) = option_map json.array (write_items (write kind) ts)
-  write (Object named rows keeps) (object ts others) = option_map json.object (write_rows rows ts others)
+  write (Object rule rows keeps) (object ts others) = option_map json.object (write_rows rows ts others)
   write _ _ = None
 
   -- each row's member, in the rows' order, onto the others

@@ -2,7 +2,7 @@
 -- Each definition stays folded in a record, so that an object's chain of rows isn't computed.
 use Rattle.std.specs.Prelude.{◌≡◌, ℕ, List, Bool, true, false, Some, Result, Ok, Err}
 use Rattle.serde_json.specs.Data.{Members}
-use Rattle.gltf_schema.specs.declared.error.Error.{Error}
+use Rattle.gltf_paths.specs.declared.error.Error.{Error}
 use Rattle.gltf_schema.specs.declared.writing.Writing.{Writing}
 use Rattle.gltf_schema.specs.Outcome.{Writes}
 use Rattle.gltf_schema.specs.Invalid.{holds_invalid}

@@ -11,20 +11,22 @@ ghost use Rattle.gltf_schema.specs.Invalid.{is_unknown, any_unknown};
 ghost use Rattle.gltf_schema.specs.Write.{key_name, are_in_order, write_entries};
 ghost use Rattle.gltf_schema.specs.Outcome.{Reads, Writes};
 
-use crate::error::Error;
 use crate::schema::Schema;
+use crate::tabled::Tabled;
 use gltf_base::mesh::Semantic;
 use gltf_base::validation::Checked;
-use gltf_base::{IndexTo, Names};
+use gltf_base::{Error, IndexTo, Names};
 use serde_json::{Map, Value};
 use std::alloc::Global;
 use std::collections::BTreeMap;
 
-impl<P: Names> Schema for BTreeMap<Checked<Semantic>, IndexTo<P>> {
-    ghost kind = { Attributes P.list };
+impl<P: Names> Tabled for BTreeMap<Checked<Semantic>, IndexTo<P>> {
+    ghost kind = { Attributes P.Item.list };
 
     ghost tree = { attributes_tree };
+}
 
+impl<P: Names> Schema for BTreeMap<Checked<Semantic>, IndexTo<P>> {
     ghost present = { λ _. refl };
 
     fn decode(

@@ -8,8 +8,9 @@ ghost use Rattle.gltf_checked.specs.Keys.{Key, colors};
 ghost use Rattle.gltf_schema.specs.Attributes.{index_at, last_index};
 ghost use Rattle.gltf_schema.specs.Tree.{Tree, attributes};
 ghost use Rattle.gltf_schema.specs.Kind.{Kind, Attributes};
-ghost use Rattle.gltf_schema.specs.Plain.{is_plain, is_sound};
-ghost use Rattle.gltf_schema.specs.Invalid.{holds_invalid, has_written_defaults};
+ghost use Rattle.gltf_schema.specs.Plain.{is_plain};
+ghost use Rattle.gltf_schema.specs.Sound.{is_sound};
+ghost use Rattle.gltf_schema.specs.Invalid.{holds_invalid};
 ghost use Rattle.gltf_schema.specs.OfKind.{is_of_kind};
 ghost use Rattle.gltf_schema.specs.Read.{read};
 ghost use Rattle.gltf_schema.specs.Write.{write};
@@ -32,10 +33,9 @@ pub fn written_trees_hold_nothing_invalid()
         → holds_invalid t ≡ false }
 {}
 
-/// What was read, by a kind whose defaults are written, is refused for writing exactly where an
-/// item or a key in it is invalid.
+/// What a sound kind reads is refused for writing exactly if an item or a key in it is invalid.
 pub fn read_trees_are_refused_where_invalid()
-    ensures { (kind : Kind) (d : Data) (t : Tree) → has_written_defaults kind ≡ true
+    ensures { (kind : Kind) (d : Data) (t : Tree) → is_sound kind ≡ true
         → read kind d ≡ Some t → (write kind t ≡ None) ↔ (holds_invalid t ≡ true) }
 {}
 

@@ -3,27 +3,29 @@
 ghost use Rattle.std.specs.Prelude.{◌≡◌, map, refl};
 ghost use Rattle.serde_json.specs.View.{view, items_view};
 ghost use Rattle.gltf_schema.specs.Tree.{whole, truth, trees};
-ghost use Rattle.gltf_schema.specs.Kind.{IndexInto, U32, U64, Number, Numbers, Text, Truth, Any, ListOf};
+ghost use Rattle.gltf_schema.specs.Kind.{IndexInto, U32, U64, Number, Numbers, Text, Truth, Any};
 ghost use Rattle.gltf_schema.specs.Read.{read, read_items, small_number as number_of_32_bits};
-ghost use Rattle.gltf_schema.specs.Fields.{any_tree, index_tree, list_tree, real_tree, reals_tree, size_tree, text_tree};
+ghost use Rattle.gltf_schema.specs.Fields.{any_tree, index_tree, real_tree, reals_tree, size_tree, text_tree};
 ghost use Rattle.gltf_schema.specs.Write.{write, write_items};
 ghost use Rattle.gltf_schema.specs.Invalid.{any_holds_invalid};
 ghost use Rattle.gltf_schema.specs.Outcome.{Reads, Writes};
 ghost use Rattle.gltf_schema.specs.Leaves.{checked_tree, choice_of, checked_tree-present};
 
-use crate::error::Error;
 use crate::schema::Schema;
+use crate::tabled::Tabled;
 use gltf_base::choice::{Choice, Form, Spelling, item_of};
 use gltf_base::validation::{Checked, USize64};
-use gltf_base::{IndexTo, Names, Real};
+use gltf_base::{Error, IndexTo, Names, Real};
 use serde_json::Value;
 use std::alloc::Global;
 
-impl Schema for u32 {
+impl Tabled for u32 {
     ghost kind = { U32 };
 
     ghost tree = { whole };
+}
 
+impl Schema for u32 {
     ghost present = { λ _. refl };
 
     fn decode(_alloc: Global, value: Value) -> Result<u32, Error> {
@@ -35,11 +37,13 @@ impl Schema for u32 {
     }
 }
 
-impl Schema for USize64 {
+impl Tabled for USize64 {
     ghost kind = { U64 };
 
     ghost tree = { size_tree };
+}
 
+impl Schema for USize64 {
     ghost present = { λ _. refl };
 
     fn decode(_alloc: Global, value: Value) -> Result<USize64, Error> {
@@ -51,11 +55,13 @@ impl Schema for USize64 {
     }
 }
 
-impl<P: Names> Schema for IndexTo<P> {
-    ghost kind = { IndexInto P.list };
+impl<P: Names> Tabled for IndexTo<P> {
+    ghost kind = { IndexInto P.Item.list };
 
     ghost tree = { index_tree };
+}
 
+impl<P: Names> Schema for IndexTo<P> {
     ghost present = { λ _. refl };
 
     fn decode(_alloc: Global, value: Value) -> Result<IndexTo<P>, Error> {
@@ -67,11 +73,13 @@ impl<P: Names> Schema for IndexTo<P> {
     }
 }
 
-impl Schema for Real {
+impl Tabled for Real {
     ghost kind = { Number };
 
     ghost tree = { real_tree };
+}
 
+impl Schema for Real {
     ghost present = { λ _. refl };
 
     fn decode(_alloc: Global, value: Value) -> Result<Real, Error> {
@@ -83,11 +91,13 @@ impl Schema for Real {
     }
 }
 
-impl<const N: usize> Schema for [Real; N] {
+impl<const N: usize> Tabled for [Real; N] {
     ghost kind = { Numbers N };
 
     ghost tree = { reals_tree };
+}
 
+impl<const N: usize> Schema for [Real; N] {
     ghost present = { λ _. refl };
 
     fn decode(alloc: Global, value: Value) -> Result<[Real; N], Error> {
@@ -104,11 +114,13 @@ impl<const N: usize> Schema for [Real; N] {
     }
 }
 
-impl Schema for bool {
+impl Tabled for bool {
     ghost kind = { Truth };
 
     ghost tree = { truth };
+}
 
+impl Schema for bool {
     ghost present = { λ _. refl };
 
     fn decode(_alloc: Global, value: Value) -> Result<bool, Error> {
@@ -123,11 +135,13 @@ impl Schema for bool {
     }
 }
 
-impl Schema for String {
+impl Tabled for String {
     ghost kind = { Text };
 
     ghost tree = { text_tree };
+}
 
+impl Schema for String {
     ghost present = { λ _. refl };
 
     fn decode(_alloc: Global, value: Value) -> Result<String, Error> {
@@ -142,11 +156,13 @@ impl Schema for String {
     }
 }
 
-impl Schema for Value {
+impl Tabled for Value {
     ghost kind = { Any };
 
     ghost tree = { any_tree };
+}
 
+impl Schema for Value {
     ghost present = { λ _. refl };
 
     fn decode(_alloc: Global, value: Value) -> Result<Value, Error> {
@@ -158,11 +174,13 @@ impl Schema for Value {
     }
 }
 
-impl<T: Choice> Schema for Checked<T> {
+impl<T: Choice> Tabled for Checked<T> {
     ghost kind = { choice_of T.form T.spelling T.listed };
 
     ghost tree = { checked_tree T.spelling };
+}
 
+impl<T: Choice> Schema for Checked<T> {
     ghost present = { checked_tree-present T.spelling };
 
     fn decode(_alloc: Global, value: Value) -> Result<Checked<T>, Error> {
@@ -190,10 +208,6 @@ impl<T: Choice> Schema for Checked<T> {
 }
 
 impl<T: Schema> Schema for Vec<T> {
-    ghost kind = { ListOf T.kind };
-
-    ghost tree = { λ v. list_tree T.tree v.items };
-
     ghost present = { λ _. refl };
 
     fn decode(alloc: Global, value: Value) -> Result<Vec<T>, Error> {

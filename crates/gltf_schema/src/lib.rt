@@ -3,7 +3,6 @@
 
 mod attributes;
 mod blank;
-pub mod error;
 pub mod laws;
 mod leaf;
 mod members;
@@ -11,13 +10,15 @@ mod omittable;
 mod put;
 mod reading;
 mod schema;
+mod tabled;
 mod unlisted;
 mod writing;
 
 pub use blank::Blank;
-pub use error::Error;
+pub use gltf_base::Error;
 pub use omittable::Omittable;
 pub use reading::Reading;
 pub use schema::{Object, Schema};
-pub use unlisted::Unlisted;
+pub use tabled::Tabled;
+pub use unlisted::{DroppedExtensions, KeptExtensions, Unlisted};
 pub use writing::Writing;

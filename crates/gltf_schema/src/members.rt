@@ -9,8 +9,8 @@ ghost use Rattle.gltf_schema.specs.Kind.{required as is_required, optional as is
 ghost use Rattle.gltf_schema.specs.Taken.{take_member, without};
 ghost use Rattle.gltf_schema.specs.Outcome.{Reads};
 
-use crate::error::Error;
 use crate::schema::Schema;
+use gltf_base::Error;
 use serde_json::{Map, Value};
 use std::alloc::Global;
 

@@ -8,9 +8,9 @@ ghost use Rattle.gltf_schema.specs.Invalid.{holds_invalid};
 ghost use Rattle.gltf_schema.specs.Put.{put_member};
 ghost use Rattle.gltf_schema.specs.Outcome.{Writes};
 
-use crate::error::Error;
 use crate::omittable::Omittable;
 use crate::schema::Schema;
+use gltf_base::Error;
 use serde_json::{Map, Value};
 use std::alloc::Global;
 

@@ -7,9 +7,9 @@ ghost use Rattle.gltf_schema.specs.Kind.{required as is_required, optional as is
 ghost use Rattle.gltf_schema.specs.Readings.{reading_state, ReadsMember, TakesOthers, Finishes};
 
 use crate::blank::Blank;
-use crate::error::Error;
 use crate::members::{optional, or_default, required, sometimes};
 use crate::schema::Schema;
+use gltf_base::Error;
 use serde_json::{Map, Value};
 use std::alloc::Global;
 use std::mem;

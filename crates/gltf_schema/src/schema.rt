@@ -1,49 +1,51 @@
 //! What is read and written by the table.
 
-ghost use Rattle.std.specs.Prelude.{◌≡◌, Bool, true, false, IsTrue, IfOk, OnOk, Some, Err, refl};
+ghost use Rattle.std.specs.Prelude.{◌≡◌, ◌≤◌, ℕ, Bool, true, false, IsTrue, IfOk, OnOk, Some, Err, refl};
 ghost use Rattle.serde_json.specs.Data.{Members};
 ghost use Rattle.serde_json.specs.View.{view, members_view};
-ghost use Rattle.gltf_schema.specs.Tree.{Tree, Trees, object, is_absent};
-ghost use Rattle.gltf_schema.specs.Kind.{Kind, ObjectName, Rows, Object as object_kind};
+ghost use Rattle.gltf_schema.specs.Tree.{Trees, object, is_absent};
+ghost use Rattle.gltf_schema.specs.Kind.{Rule, no_rule, Rows, Object as object_kind};
 ghost use Rattle.gltf_schema.specs.Read.{read};
 ghost use Rattle.gltf_schema.specs.Write.{write};
 ghost use Rattle.gltf_schema.specs.Invalid.{holds_invalid};
 ghost use Rattle.gltf_schema.specs.Put.{put_rows, some_invalid};
-ghost use Rattle.gltf_schema.specs.Plain.{is_plain, are_sound};
+ghost use Rattle.gltf_schema.specs.Plain.{is_plain};
+ghost use Rattle.gltf_schema.specs.Sound.{is_sound};
+ghost use Rattle.gltf_schema.specs.Height.{kind_height};
 ghost use Rattle.gltf_schema.specs.Taken.{take_all};
 ghost use Rattle.gltf_schema.specs.Leaves.{wants_object};
 ghost use Rattle.gltf_schema.specs.Outcome.{Reads, Writes};
 
-use crate::error::Error;
+use crate::tabled::Tabled;
+use gltf_base::Error;
 use serde_json::{Map, Value};
 use std::alloc::Global;
 
 /// A type whose values are read and written as those of a kind of the table.
-pub trait Schema: Drop {
-    ghost kind: { Kind };
-
-    ghost tree: { Self → Tree };
-
+pub trait Schema: Tabled + Drop {
     /// The value that a JSON value is: `Ok` exactly where the table reads it, as the table reads
     /// it, else `Schema`; `Memory` may come in place of either where a growth was refused.
     fn decode(alloc: Global, value: Value) -> Result<Self, Error>
-        ensures by_table { Reads tree result (read kind (view value)) }
+        ensures by_table { Reads Self.tree result (read Self.kind (view value)) }
         // What is no object needs no memory to be refused.
-        ensures no_object { IsTrue (wants_object kind (view value)) → result ≡ Err Error.Schema };
+        ensures no_object { IsTrue (wants_object Self.kind (view value))
+            → result ≡ Err Error.Schema };
 
     /// The JSON value that the value is written as. `InvalidItem` comes exactly where an item of a
     /// choice or the key of an attribute is invalid, here or below; `Memory` may come in place of
     /// either where a growth was refused.
     fn encode(&self, alloc: Global) -> Result<Value, Error>
-        ensures { Writes view result (write kind (tree self.now)) (holds_invalid (tree self.now)) };
+        ensures { Writes view result (write Self.kind (Self.tree self.now))
+            (holds_invalid (Self.tree self.now)) };
 
     // What is there is not seen as missing.
-    ghost present: { (x : Self) → is_absent (tree x) ≡ false };
+    ghost present: { (x : Self) → is_absent (Self.tree x) ≡ false };
 }
 
 /// An object of the table, by its rows.
 pub trait Object: Drop {
-    ghost named: { ObjectName };
+    /// What is asked of the object beside the kinds of its members.
+    ghost rule: { Rule } = { no_rule };
 
     ghost rows: { Rows };
 
@@ -66,24 +68,27 @@ pub trait Object: Drop {
             (put_rows rows (members self.now) (unknown self.now))
             (some_invalid (members self.now)) };
 
-    // No two rows have one name, here and below, and each default is plain.
-    ghost sound: { are_sound rows ≡ true };
+    // No two rows have one name, here and below, each default is plain and can be written, and the
+    // rule has the row that it looks up.
+    ghost sound: { is_sound (object_kind rule rows keeps) ≡ true };
+
+    /// The steps from the object to the deepest place at which something can be wrong.
+    ghost height: { ℕ };
+
+    // It is so by the rows, and a path has room for it below any six steps.
+    ghost low: { (kind_height (object_kind rule rows keeps) ≡ height) × (height ≤ 10) };
 }
 
 impl<T: Object> Schema for T {
-    ghost kind = { object_kind T.named T.rows T.keeps };
-
-    ghost tree = { λ x. object (T.members x) (T.unknown x) };
-
     ghost present = { λ _. refl };
 
     fn decode(alloc: Global, value: Value) -> Result<T, Error>
         ensures by_table { Reads (λ x. object (T.members x) (T.unknown x)) result
-            (read (object_kind T.named T.rows T.keeps) (view value)) }
-        ensures no_object { IsTrue (wants_object (object_kind T.named T.rows T.keeps) (view value))
+            (read (object_kind T.rule T.rows T.keeps) (view value)) }
+        ensures no_object { IsTrue (wants_object (object_kind T.rule T.rows T.keeps) (view value))
             → result ≡ Err Error.Schema }
         // What was read could be written and read back as it is.
-        ensures plain { IfOk result (λ x. is_plain (object_kind T.named T.rows T.keeps)
+        ensures plain { IfOk result (λ x. is_plain (object_kind T.rule T.rows T.keeps)
             (object (T.members x) (T.unknown x)) ≡ true) }
     {
         match value {
@@ -93,15 +98,15 @@ impl<T: Object> Schema for T {
     }
 
     fn encode(&self, alloc: Global) -> Result<Value, Error>
-        ensures by_table { Writes view result (write (object_kind T.named T.rows T.keeps)
+        ensures by_table { Writes view result (write (object_kind T.rule T.rows T.keeps)
             (object (T.members self.now) (T.unknown self.now)))
             (holds_invalid (object (T.members self.now) (T.unknown self.now))) }
         ensures valid { OnOk result (holds_invalid (object (T.members self.now)
             (T.unknown self.now)) ≡ false) }
         // What a plain value is written as is read back as that value.
-        ensures reads_back { IfOk result (λ v. is_plain (object_kind T.named T.rows T.keeps)
+        ensures reads_back { IfOk result (λ v. is_plain (object_kind T.rule T.rows T.keeps)
             (object (T.members self.now) (T.unknown self.now)) ≡ true
-            → read (object_kind T.named T.rows T.keeps) (view v)
+            → read (object_kind T.rule T.rows T.keeps) (view v)
             ≡ Some (object (T.members self.now) (T.unknown self.now))) }
     {
         Ok(Value::Object(self.encode_members(alloc)?))

@@ -1,23 +1,22 @@
 //! Extension objects of which no member is known.
 
-ghost use Rattle.std.specs.Prelude.{◌≡◌, Bool, refl};
+ghost use Rattle.std.specs.Prelude.{◌≡◌, Bool, true, false, refl};
+ghost use Rattle.std.proofs.Common.{lit≤};
 ghost use Rattle.std.specs.Option.{option_map_or};
 ghost use Rattle.serde_json.specs.Data.{Members, no_members};
 ghost use Rattle.serde_json.specs.View.{members_view};
 ghost use Rattle.gltf_schema.specs.Tree.{end};
-ghost use Rattle.gltf_schema.specs.Kind.{ObjectName, extensions_of, no_rows};
+ghost use Rattle.gltf_schema.specs.Kind.{no_rows};
 ghost use Rattle.gltf_schema.specs.Read.{left};
 
-use crate::error::Error;
 use crate::schema::Object;
 use crate::writing::copied;
+use gltf_base::Error;
 use serde_json::{Map, Value};
 use std::alloc::Global;
 
 /// An extension object of which no member is known: it keeps them all, or drops them all.
 pub trait Unlisted: Drop {
-    ghost extends: { ObjectName };
-
     ghost is_keeping: { Bool };
 
     ghost kept: { Self → Members };
@@ -34,8 +33,6 @@ pub trait Unlisted: Drop {
 
 #[tactic(auto, unfolding(crate::specs::Taken::take_all, crate::specs::Taken::take_rows, crate::specs::Put::put_rows, crate::specs::Put::some_invalid))]
 impl<T: Unlisted> Object for T {
-    ghost named = { extensions_of T.extends };
-
     ghost rows = { no_rows };
 
     ghost keeps = { T.is_keeping };
@@ -46,6 +43,10 @@ impl<T: Unlisted> Object for T {
 
     ghost sound = { refl };
 
+    ghost height = { 0 };
+
+    ghost low = { (refl, lit≤ tt) };
+
     fn decode_members(_alloc: Global, found: Map<String, Value>) -> Result<T, Error> {
         Ok(T::from_others(found))
     }
@@ -55,5 +56,62 @@ impl<T: Unlisted> Object for T {
             Some(others) => copied(others),
             None => Ok(Map::new(alloc)),
         }
+    }
+}
+
+/// The extensions of an object whose unknown extensions are kept: none of its members is known.
+#[derive(Clone, Debug, Drop)]
+pub struct KeptExtensions {
+    /// The extensions that are not known.
+    pub others: Map<String, Value>,
+}
+
+impl Unlisted for KeptExtensions {
+    ghost is_keeping = { true };
+
+    ghost kept = { λ e. members_view e.others.entries };
+
+    fn from_others(others: Map<String, Value>) -> KeptExtensions {
+        KeptExtensions { others }
+    }
+
+    fn others(&self) -> Option<&Map<String, Value>> {
+        Some(&self.others)
+    }
+}
+
+impl KeptExtensions {
+    /// No extension.
+    pub fn new(alloc: Global) -> KeptExtensions
+        ensures { members_view result.others.entries ≡ no_members }
+    {
+        KeptExtensions {
+            others: Map::new(alloc),
+        }
+    }
+}
+
+/// The extensions of an object whose unknown extensions are dropped: none of its members is known.
+#[derive(Clone, Debug, Drop)]
+pub struct DroppedExtensions {}
+
+impl Unlisted for DroppedExtensions {
+    ghost is_keeping = { false };
+
+    ghost kept = { λ _. no_members };
+
+    fn from_others(_others: Map<String, Value>) -> DroppedExtensions {
+        DroppedExtensions {}
+    }
+
+    fn others(&self) -> Option<&Map<String, Value>> {
+        None
+    }
+}
+
+impl DroppedExtensions {
+    /// No extension.
+    pub fn new() -> DroppedExtensions {
+        DroppedExtensions {}
     }
 }

@@ -9,10 +9,10 @@ ghost use Rattle.gltf_schema.specs.Readings.{members_or_error};
 ghost use Rattle.gltf_schema.specs.Outcome.{Writes};
 ghost use Rattle.gltf_schema.specs.Writings.{writing_state, BeginsWith, WritesMember};
 
-use crate::error::Error;
 use crate::omittable::Omittable;
 use crate::put::{put_always, put_list, put_optional, put_or_null, put_unless};
 use crate::schema::Schema;
+use gltf_base::Error;
 use serde_json::{Map, Value};
 use std::alloc::Global;
 

@@ -1,8 +1,9 @@
 -- The rows of the extensions of materials whose names begin with KHR, each by its own document.
 use Rattle.std.specs.Prelude.{◌≡◌, true, false, codes, refl}
-use Rattle.gltf_schema.specs.Kind.{optional, sometimes, Kind, Number, Numbers, Any, Object, ObjectName, extensions_of, Rows, no_rows, ◌◂◌}
-use Rattle.gltf_textures.specs.TextureTable.{info_kind, info_sound}
-use Rattle.gltf_schema.specs.Plain.{are_sound}
+use Rattle.gltf_schema.specs.Kind.{optional, sometimes, Kind, Number, Numbers, Any, Object, Rows, no_rows, ◌◂◌, no_rule}
+use Rattle.gltf_textures.specs.TextureTable.{info_kind, info_sound, info_height}
+use Rattle.gltf_schema.specs.Sound.{is_sound}
+use Rattle.gltf_schema.specs.Height.{IsFlat, IsHigh}
 
 unfoldable pub pbr_specular_glossiness_rows : Rows
 pbr_specular_glossiness_rows =
@@ -16,10 +17,10 @@ pbr_specular_glossiness_rows =
 
 -- members that no row names are kept here too
 abbrev pub pbr_specular_glossiness_kind : Kind
-pbr_specular_glossiness_kind = Object ObjectName.pbr_specular_glossiness pbr_specular_glossiness_rows true
+pbr_specular_glossiness_kind = Object no_rule pbr_specular_glossiness_rows true
 
 abbrev pub unlit_kind : Kind
-unlit_kind = Object ObjectName.unlit no_rows false
+unlit_kind = Object no_rule no_rows false
 
 unfoldable pub transmission_rows : Rows
 transmission_rows =
@@ -29,7 +30,7 @@ transmission_rows =
     ◂ no_rows
 
 abbrev pub transmission_kind : Kind
-transmission_kind = Object ObjectName.transmission transmission_rows false
+transmission_kind = Object no_rule transmission_rows false
 
 unfoldable pub volume_rows : Rows
 volume_rows =
@@ -41,7 +42,7 @@ volume_rows =
     ◂ no_rows
 
 abbrev pub volume_kind : Kind
-volume_kind = Object ObjectName.volume volume_rows false
+volume_kind = Object no_rule volume_rows false
 
 unfoldable pub specular_rows : Rows
 specular_rows =
@@ -53,7 +54,7 @@ specular_rows =
     ◂ no_rows
 
 abbrev pub specular_kind : Kind
-specular_kind = Object ObjectName.specular specular_rows false
+specular_kind = Object no_rule specular_rows false
 
 unfoldable pub ior_rows : Rows
 ior_rows =
@@ -62,7 +63,7 @@ ior_rows =
     ◂ no_rows
 
 abbrev pub ior_kind : Kind
-ior_kind = Object ObjectName.ior ior_rows false
+ior_kind = Object no_rule ior_rows false
 
 unfoldable pub emissive_strength_rows : Rows
 emissive_strength_rows =
@@ -70,7 +71,7 @@ emissive_strength_rows =
     ◂ no_rows
 
 abbrev pub emissive_strength_kind : Kind
-emissive_strength_kind = Object ObjectName.emissive_strength emissive_strength_rows false
+emissive_strength_kind = Object no_rule emissive_strength_rows false
 
 unfoldable pub material_extension_rows : Rows
 material_extension_rows =
@@ -84,35 +85,68 @@ material_extension_rows =
     ◂ no_rows
 
 abbrev pub material_extensions_kind : Kind
-material_extensions_kind = Object (extensions_of ObjectName.material) material_extension_rows true
+material_extensions_kind = Object no_rule material_extension_rows true
 
--- ---- the rows are sound
+-- ---- each kind is sound
 
-pub pbr_specular_glossiness_sound : are_sound pbr_specular_glossiness_rows ≡ true
+pub pbr_specular_glossiness_sound : is_sound pbr_specular_glossiness_kind ≡ true
 unfolding pbr_specular_glossiness_rows
 pbr_specular_glossiness_sound = rw info_sound refl
 
-pub transmission_sound : are_sound transmission_rows ≡ true
+pub transmission_sound : is_sound transmission_kind ≡ true
 unfolding transmission_rows
 transmission_sound = rw info_sound refl
 
-pub volume_sound : are_sound volume_rows ≡ true
+pub volume_sound : is_sound volume_kind ≡ true
 unfolding volume_rows
 volume_sound = rw info_sound refl
 
-pub specular_sound : are_sound specular_rows ≡ true
+pub specular_sound : is_sound specular_kind ≡ true
 unfolding specular_rows
 specular_sound = rw info_sound refl
 
-pub ior_sound : are_sound ior_rows ≡ true
+pub ior_sound : is_sound ior_kind ≡ true
 unfolding ior_rows
 ior_sound = refl
 
-pub emissive_strength_sound : are_sound emissive_strength_rows ≡ true
+pub emissive_strength_sound : is_sound emissive_strength_kind ≡ true
 unfolding emissive_strength_rows
 emissive_strength_sound = refl
 
-pub material_extension_sound : are_sound material_extension_rows ≡ true
+pub material_extension_sound : is_sound material_extensions_kind ≡ true
 unfolding material_extension_rows
 material_extension_sound =
     rw (pbr_specular_glossiness_sound, transmission_sound, volume_sound, specular_sound, ior_sound, emissive_strength_sound) refl
+
+-- ---- how far down something can be wrong
+
+pub pbr_specular_glossiness_height : IsHigh 2 pbr_specular_glossiness_kind
+unfolding pbr_specular_glossiness_rows
+pbr_specular_glossiness_height = rw (info_height.0, info_height.1) (refl, refl)
+
+pub unlit_height : IsFlat unlit_kind
+unlit_height = (refl, refl)
+
+pub transmission_height : IsHigh 2 transmission_kind
+unfolding transmission_rows
+transmission_height = rw (info_height.0, info_height.1) (refl, refl)
+
+pub volume_height : IsHigh 2 volume_kind
+unfolding volume_rows
+volume_height = rw (info_height.0, info_height.1) (refl, refl)
+
+pub specular_height : IsHigh 2 specular_kind
+unfolding specular_rows
+specular_height = rw (info_height.0, info_height.1) (refl, refl)
+
+pub ior_height : IsFlat ior_kind
+unfolding ior_rows
+ior_height = (refl, refl)
+
+pub emissive_strength_height : IsFlat emissive_strength_kind
+unfolding emissive_strength_rows
+emissive_strength_height = (refl, refl)
+
+pub material_extension_height : IsHigh 3 material_extensions_kind
+unfolding material_extension_rows
+material_extension_height = rw (pbr_specular_glossiness_height.0, pbr_specular_glossiness_height.1, unlit_height.0, transmission_height.0, transmission_height.1, volume_height.0, volume_height.1, specular_height.0, specular_height.1, ior_height.0, emissive_strength_height.0) (refl, refl)

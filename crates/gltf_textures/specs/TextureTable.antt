@@ -6,10 +6,11 @@ use Rattle.gltf_choices.specs.TextureChoices.{mag_filter_spelling, mag_filters, 
 use Rattle.gltf_checked.specs.declared.choice.Form.TheVariants as form
 use Rattle.gltf_choices.specs.declared.texture.WrappingMode.TheVariants as wrapping_mode
 use Rattle.gltf_schema.specs.Tree.{Tree, whole, chosen, index}
-use Rattle.gltf_schema.specs.Kind.{required, optional, always, unless, sometimes, or_null, Kind, IndexInto, SourceImage, U32, Number, Numbers, Text, Any, Object, ObjectName, extensions_of, Rows, no_rows, ◌◂◌}
+use Rattle.gltf_schema.specs.Kind.{required, optional, always, unless, sometimes, or_null, Kind, IndexInto, SourceImage, U32, Number, Numbers, Text, Any, Object, Rows, no_rows, ◌◂◌, no_rule}
 use Rattle.gltf_schema.specs.Leaves.{choice_of}
 use Rattle.gltf_schema.specs.Extensions.{kept_extensions, extensions_and_extras}
-use Rattle.gltf_schema.specs.Plain.{are_sound}
+use Rattle.gltf_schema.specs.Sound.{is_sound}
+use Rattle.gltf_schema.specs.Height.{IsFlat, IsHigh}
 
 abbrev pub mag_filter_kind : Kind
 mag_filter_kind = choice_of form.Number mag_filter_spelling mag_filters
@@ -31,10 +32,10 @@ sampler_rows =
     ◂ (codes "name", optional, Text)
     ◂ (codes "wrapS", always repeated, wrapping_mode_kind)
     ◂ (codes "wrapT", always repeated, wrapping_mode_kind)
-    ◂ extensions_and_extras (kept_extensions ObjectName.sampler)
+    ◂ extensions_and_extras kept_extensions
 
 abbrev pub sampler_kind : Kind
-sampler_kind = Object ObjectName.sampler sampler_rows false
+sampler_kind = Object no_rule sampler_rows false
 
 -- the index that stands for no image
 abbrev pub no_image : ℕ
@@ -45,13 +46,13 @@ unfoldable pub texture_rows : Rows
 texture_rows =
     (codes "name", optional, Text)
     ◂ (codes "sampler", optional, IndexInto samplers)
-    ◂ (codes "extensions", optional, kept_extensions ObjectName.texture)
+    ◂ (codes "extensions", optional, kept_extensions)
     ◂ (codes "source", unless (index no_image), SourceImage)
     ◂ (codes "extras", optional, Any)
     ◂ no_rows
 
 abbrev pub texture_kind : Kind
-texture_kind = Object ObjectName.texture texture_rows false
+texture_kind = Object no_rule texture_rows false
 
 unfoldable pub texture_transform_rows : Rows
 texture_transform_rows =
@@ -63,7 +64,7 @@ texture_transform_rows =
     ◂ no_rows
 
 abbrev pub texture_transform_kind : Kind
-texture_transform_kind = Object ObjectName.texture_transform texture_transform_rows false
+texture_transform_kind = Object no_rule texture_transform_rows false
 
 unfoldable pub info_extension_rows : Rows
 info_extension_rows =
@@ -71,7 +72,7 @@ info_extension_rows =
     ◂ no_rows
 
 abbrev pub info_extensions_kind : Kind
-info_extensions_kind = Object (extensions_of ObjectName.texture_info) info_extension_rows true
+info_extensions_kind = Object no_rule info_extension_rows true
 
 unfoldable pub info_rows : Rows
 info_rows =
@@ -80,26 +81,48 @@ info_rows =
     ◂ extensions_and_extras info_extensions_kind
 
 abbrev pub info_kind : Kind
-info_kind = Object ObjectName.texture_info info_rows false
+info_kind = Object no_rule info_rows false
 
--- ---- the rows are sound
+-- ---- each kind is sound
 
-pub sampler_sound : are_sound sampler_rows ≡ true
+pub sampler_sound : is_sound sampler_kind ≡ true
 unfolding sampler_rows
 sampler_sound = refl
 
-pub texture_sound : are_sound texture_rows ≡ true
+pub texture_sound : is_sound texture_kind ≡ true
 unfolding texture_rows
 texture_sound = refl
 
-pub texture_transform_sound : are_sound texture_transform_rows ≡ true
+pub texture_transform_sound : is_sound texture_transform_kind ≡ true
 unfolding texture_transform_rows
 texture_transform_sound = refl
 
-pub info_extension_sound : are_sound info_extension_rows ≡ true
+pub info_extension_sound : is_sound info_extensions_kind ≡ true
 unfolding info_extension_rows
 info_extension_sound = rw texture_transform_sound refl
 
-pub info_sound : are_sound info_rows ≡ true
+pub info_sound : is_sound info_kind ≡ true
 unfolding info_rows
 info_sound = rw info_extension_sound refl
+
+-- ---- how far down something can be wrong
+
+pub sampler_height : IsHigh 1 sampler_kind
+unfolding sampler_rows
+sampler_height = (refl, refl)
+
+pub texture_height : IsHigh 1 texture_kind
+unfolding texture_rows
+texture_height = (refl, refl)
+
+pub texture_transform_height : IsFlat texture_transform_kind
+unfolding texture_transform_rows
+texture_transform_height = (refl, refl)
+
+pub info_extension_height : IsFlat info_extensions_kind
+unfolding info_extension_rows
+info_extension_height = rw texture_transform_height.0 (refl, refl)
+
+pub info_height : IsHigh 1 info_kind
+unfolding info_rows
+info_height = rw info_extension_height.0 (refl, refl)

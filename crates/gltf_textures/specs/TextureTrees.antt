@@ -4,20 +4,12 @@ use Rattle.serde_json.specs.View.{members_view}
 use Rattle.gltf_choices.specs.TextureChoices.{mag_filter_spelling, min_filter_spelling, wrapping_mode_spelling}
 use Rattle.gltf_schema.specs.Tree.{Tree, Trees, trees, tree_or_absent, whole, object}
 use Rattle.gltf_schema.specs.Leaves.{checked_tree}
-use Rattle.gltf_schema.specs.Fields.{index_tree, text_tree, real_tree, reals_tree, any_tree, closed_object, unlisted_object}
+use Rattle.gltf_schema.specs.Fields.{index_tree, text_tree, real_tree, reals_tree, any_tree, closed_object, kept_tree}
 use Rattle.gltf_textures.specs.declared.texture.Sampler.{Sampler}
 use Rattle.gltf_textures.specs.declared.texture.Texture.{Texture}
 use Rattle.gltf_textures.specs.declared.texture.Info.{Info}
-use Rattle.gltf_textures.specs.declared.extensions.texture.Sampler.{Sampler as SamplerExtensions}
-use Rattle.gltf_textures.specs.declared.extensions.texture.Texture.{Texture as TextureExtensions}
 use Rattle.gltf_textures.specs.declared.extensions.texture.Info.{Info as InfoExtensions}
 use Rattle.gltf_textures.specs.declared.extensions.texture.TextureTransform.{TextureTransform}
-
-abbrev pub sampler_extensions : SamplerExtensions → Tree
-sampler_extensions e = unlisted_object (members_view e.others.entries)
-
-abbrev pub texture_extensions : TextureExtensions → Tree
-texture_extensions e = unlisted_object (members_view e.others.entries)
 
 unfoldable pub sampler_members : Sampler → Trees
 sampler_members v = trees (
@@ -26,7 +18,7 @@ sampler_members v = trees (
     ∷ tree_or_absent text_tree v.name
     ∷ checked_tree wrapping_mode_spelling v.wrap_s
     ∷ checked_tree wrapping_mode_spelling v.wrap_t
-    ∷ tree_or_absent sampler_extensions v.extensions
+    ∷ tree_or_absent kept_tree v.extensions
     ∷ tree_or_absent any_tree v.extras
     ∷ [])
 
@@ -34,7 +26,7 @@ unfoldable pub texture_members : Texture → Trees
 texture_members v = trees (
     tree_or_absent text_tree v.name
     ∷ tree_or_absent index_tree v.sampler
-    ∷ tree_or_absent texture_extensions v.extensions
+    ∷ tree_or_absent kept_tree v.extensions
     ∷ index_tree v.source
     ∷ tree_or_absent any_tree v.extras
     ∷ [])

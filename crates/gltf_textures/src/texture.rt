@@ -2,11 +2,11 @@
 //! and 5.30).
 
 ghost use Rattle.std.specs.Prelude.{◌≡◌, false};
+ghost use Rattle.std.proofs.Common.{lit≤};
 ghost use Rattle.serde_json.specs.Data.{no_members};
 ghost use Rattle.gltf_paths.specs.Lists.{samplers, textures};
-ghost use Rattle.gltf_schema.specs.Kind.{ObjectName};
 ghost use Rattle.gltf_schema.specs.Defaults.{defaults};
-ghost use Rattle.gltf_textures.specs.TextureTable.{sampler_rows, sampler_sound, texture_rows, texture_sound, info_rows, info_sound};
+ghost use Rattle.gltf_textures.specs.TextureTable.{sampler_rows, sampler_sound, sampler_height, texture_rows, texture_sound, texture_height, info_rows, info_sound, info_height};
 ghost use Rattle.gltf_textures.specs.TextureTrees.{sampler_members, texture_members, info_members};
 
 use crate::extensions;
@@ -74,8 +74,6 @@ impl Listed for Sampler {
 }
 
 impl Object for Sampler {
-    ghost named = { ObjectName.sampler };
-
     ghost rows = { sampler_rows };
 
     ghost keeps = { false };
@@ -85,6 +83,10 @@ impl Object for Sampler {
     ghost unknown = { λ _. no_members };
 
     ghost sound = { sampler_sound };
+
+    ghost height = { 1 };
+
+    ghost low = { (sampler_height.1, lit≤ tt) };
 
     fn decode_members(alloc: Global, found: Map<String, Value>) -> Result<Sampler, Error> {
         let mut reading = Reading::from_members(alloc, found);
@@ -154,8 +156,6 @@ impl Listed for Texture {
 }
 
 impl Object for Texture {
-    ghost named = { ObjectName.texture };
-
     ghost rows = { texture_rows };
 
     ghost keeps = { false };
@@ -165,6 +165,10 @@ impl Object for Texture {
     ghost unknown = { λ _. no_members };
 
     ghost sound = { texture_sound };
+
+    ghost height = { 1 };
+
+    ghost low = { (texture_height.1, lit≤ tt) };
 
     fn decode_members(alloc: Global, found: Map<String, Value>) -> Result<Texture, Error> {
         let mut reading = Reading::from_members(alloc, found);
@@ -217,8 +221,6 @@ impl Drop for Info {
 }
 
 impl Object for Info {
-    ghost named = { ObjectName.texture_info };
-
     ghost rows = { info_rows };
 
     ghost keeps = { false };
@@ -228,6 +230,10 @@ impl Object for Info {
     ghost unknown = { λ _. no_members };
 
     ghost sound = { info_sound };
+
+    ghost height = { 1 };
+
+    ghost low = { (info_height.1, lit≤ tt) };
 
     fn decode_members(alloc: Global, found: Map<String, Value>) -> Result<Info, Error> {
         let mut reading = Reading::from_members(alloc, found);

@@ -20,6 +20,8 @@ mod maps;
 mod table;
 mod within;
 
+pub use table::{InTable, TableObject};
+
 /// What can be validated.
 pub trait Validate {
     /// The kind in the table of what such a value is; `None` for a type whose reports are its own.

@@ -10,12 +10,9 @@ mod made;
 mod other_roots;
 mod refused_growths;
 mod refused_pushes;
-mod reports;
 mod rules;
-mod sources;
 mod taken_back;
 mod walks;
-mod written;
 
 use gltf_base::{Step, Steps};
 use gltf_json::validation::{Collect, Rules, Validate};
@@ -36,9 +33,6 @@ pub(crate) const PAST_32_BITS: &str =
 /// A document with a texture that names no image.
 const WITHOUT_SOURCE: &str = r#"{"asset":{"version":"2.0"},"textures":[{}]}"#;
 
-/// A document with a texture whose image is the number that stands for none.
-const EMPTY_SOURCE: &str = r#"{"asset":{"version":"2.0"},"textures":[{"source":4294967295}]}"#;
-
 const NO_SOURCE: &str = "textures[0].source: Missing data\n";
 
 /// A document with a texture that names an image past the end of the list.
@@ -50,11 +44,7 @@ const SOURCE_PAST_END: &str = "textures[0].source: Index out of bounds\n";
 const WRONG_LIGHTS: &str =
     r#"{"asset":{"version":"2.0"},"extensions":{"KHR_lights_punctual":{"lights":[{"type":"spot"}]}},"nodes":[{"extensions":{"KHR_lights_punctual":{"light":1}}}]}"#;
 
-/// A document with an extension that is null.
-const NULL_LIGHTS: &str =
-    r#"{"asset":{"version":"2.0"},"extensions":{"KHR_lights_punctual":null}}"#;
-
-/// What that document is written as.
+/// A document whose extension object is empty.
 const NO_EXTENSIONS: &str = r#"{"asset":{"version":"2.0"},"extensions":{}}"#;
 
 /// A document with one accessor, in which what is missing is its view.

@@ -1,5 +1,6 @@
 //! The ways in which a document is written.
 
+use crate::shown::shows;
 use gltf_json::root::Watched;
 use gltf_json::{Error, Root, Value};
 use std::alloc::Global;
@@ -50,6 +51,11 @@ fn taken(alloc: Global, root: &Root, layout: Layout) -> Result<Vec<u8>, Error> {
     Ok(writer.into_inner())
 }
 
+/// Whether bytes were made, and are those of a text.
+fn are_bytes(made: Result<Vec<u8>, Error>, text: &str) -> Result<bool, Error> {
+    Ok(made?.as_slice() == text.as_bytes())
+}
+
 /// Whether a document is written as this text, as a text, as bytes, and into a writer.
 pub(crate) fn is_text(
     alloc: Global,
@@ -58,9 +64,9 @@ pub(crate) fn is_text(
     text: &str,
 ) -> Result<bool, Error> {
     Ok(
-        text_of(alloc, root, layout)?.as_str() == text
-            && bytes_of(alloc, root, layout)?.as_slice() == text.as_bytes()
-            && taken(alloc, root, layout)?.as_slice() == text.as_bytes(),
+        shows(text_of(alloc, root, layout), text)?
+            && are_bytes(bytes_of(alloc, root, layout), text)?
+            && are_bytes(taken(alloc, root, layout), text)?,
     )
 }
 
@@ -74,15 +80,9 @@ pub(crate) fn by_value(alloc: Global, root: &Root) -> Result<Root, Error> {
     Root::from_value(alloc, root.to_value(alloc)?)
 }
 
-/// Whether a document is written as this line in every way.
+/// Whether a document is written as this line.
 pub(crate) fn is_line(alloc: Global, root: &Root, line: &str) -> Result<bool, Fail> {
-    Ok(is_text(alloc, root, Layout::InOneLine, line)? && is_value(alloc, root, line)?)
-}
-
-/// Whether a document is written as this line in every way, and what is read of its value too.
-pub(crate) fn is_line_twice(alloc: Global, root: &Root, line: &str) -> Result<bool, Fail> {
-    let again = by_value(alloc, root)?;
-    Ok(is_line(alloc, root, line)? && is_line(alloc, &again, line)?)
+    Ok(is_text(alloc, root, Layout::InOneLine, line)?)
 }
 
 /// Whether a document is refused, for an invalid item, as a text, as bytes, and by a writer.
@@ -90,38 +90,4 @@ pub(crate) fn is_invalid_in(alloc: Global, root: &Root, layout: Layout) -> bool 
     matches!(text_of(alloc, root, layout), Err(Error::InvalidItem))
         && matches!(bytes_of(alloc, root, layout), Err(Error::InvalidItem))
         && matches!(taken(alloc, root, layout), Err(Error::InvalidItem))
-}
-
-/// Whether a document that was written in a layout, and read, is written in one line as before.
-fn lasts_in(alloc: Global, root: &Root, layout: Layout) -> Result<bool, Error> {
-    let line = bytes_of(alloc, root, Layout::InOneLine)?;
-    let again = Root::from_slice(alloc, bytes_of(alloc, root, layout)?.as_slice())?;
-    Ok(bytes_of(alloc, &again, Layout::InOneLine)?.as_slice() == line.as_slice())
-}
-
-/// Whether the faults of a document tell of an item that can't be written. A wrong stride can.
-fn has_invalid_item(lines: &str) -> bool {
-    lines.contains("Invalid value") && !lines.contains("byteStride")
-}
-
-/// Whether a document with these faults stays what it is when it is written and read, or is refused
-/// for an item that can't be written.
-fn is_lasting(alloc: Global, root: &Root, layout: Layout, lines: &str) -> bool {
-    match lasts_in(alloc, root, layout) {
-        Ok(is_same) => is_same && !has_invalid_item(lines),
-        Err(Error::InvalidItem) => has_invalid_item(lines),
-        Err(_) => false,
-    }
-}
-
-/// Whether a text is no document, or one with these faults that stays what it is, or can't be
-/// written for one of them.
-pub(crate) fn stays(alloc: Global, document: &str, lines: &str) -> bool {
-    match Root::from_slice(alloc, document.as_bytes()) {
-        Ok(root) => {
-            is_lasting(alloc, &root, Layout::InOneLine, lines)
-                && is_lasting(alloc, &root, Layout::InLines, lines)
-        }
-        Err(_) => true,
-    }
 }

@@ -1,4 +1,3 @@
 pub mod Plan
 pub mod Planned
-pub mod Height
 pub mod Parts

@@ -6,14 +6,14 @@ use Rattle.gltf_paths.specs.Lists.{ListName}
 use Rattle.gltf_paths.specs.Steps.{Step, field, item, key, value}
 use Rattle.gltf_paths.specs.declared.validation.Error.{Error}
 use Rattle.gltf_schema.specs.Tree.{Tree, text, object, Trees, end, with_tree, items_in, members_in, entries_in}
-use Rattle.gltf_schema.specs.Kind.{Kind, IndexInto, SourceImage, ChannelSampler, Stride, Choice, Attributes, ListOf, Object, ObjectName, Rows, no_rows, row}
+use Rattle.gltf_schema.specs.Kind.{Kind, IndexInto, SourceImage, ChannelSampler, Stride, Choice, Attributes, ListOf, Object, Rows, no_rows, row, Rule, needs_data, needs_projection, needs_cone, needs_positions, requires_enabled}
 use Rattle.gltf_root.specs.Lists.{count_in, sampler_count}
 use Rattle.gltf_sinks.specs.Report.{Report, From, first_error}
 use Rattle.gltf_faults.specs.Context.{Context}
 use Rattle.gltf_faults.specs.Faults.{index_faults, source_faults, stride_faults, choice_faults, key_faults, number_faults}
 use Rattle.gltf_faults.specs.Reports.{animation_below}
 use Rattle.gltf_faults.specs.Rules.{accessor_rule, camera_rule, light_rule, positions_faults, is_positions, primitive_attributes, root_extensions_required, extension_faults}
-use Rattle.gltf_faults.specs.Silence.{is_silent}
+use Rattle.gltf_schema.specs.Silence.{is_silent}
 use Rattle.gltf_faults.specs.Standing.{same_step}
 use Rattle.gltf_visits.specs.Plan.{Plan, place, Plans, nothing, below, errors, leaf, also}
 
@@ -70,18 +70,18 @@ abbrev pub name_plan : List (List ℕ) → Tree → Plan
 name_plan enabled (text s) = place (below (value s) (leaf_of (extension_faults enabled (text s))) nothing) []
 name_plan enabled _ = leaf None
 
-abbrev pub rule_plans : ObjectName → Tree → Context → Plans
-rule_plans ObjectName.accessor (object ts others) context = below (field (codes "bufferView")) (leaf_of (accessor_rule ts)) nothing
-rule_plans ObjectName.light (object ts others) context = below (field (codes "spot")) (leaf_of (light_rule ts)) nothing
-rule_plans ObjectName.primitive (object ts others) context =
+abbrev pub rule_plans : Rule → Tree → Context → Plans
+rule_plans needs_data (object ts others) context = below (field (codes "bufferView")) (leaf_of (accessor_rule ts)) nothing
+rule_plans needs_cone (object ts others) context = below (field (codes "spot")) (leaf_of (light_rule ts)) nothing
+rule_plans needs_positions (object ts others) context =
     below (field (codes "attributes")) (at_positions (positions_plan (positions_faults (lookup is_positions (entries_in (primitive_attributes ts))) context.root))) nothing
-rule_plans ObjectName.root (object ts others) context =
+rule_plans requires_enabled (object ts others) context =
     below (field (codes "extensionsRequired")) (place (item_plans (name_plan context.rules.enabled) 0 (items_in (root_extensions_required ts))) []) nothing
 rule_plans _ _ context = nothing
 
 -- the rule of an object, as far as it speaks of the object itself
-abbrev pub own_error : ObjectName → Tree → Option Error
-own_error ObjectName.camera (object ts others) = error_of (camera_rule ts)
+abbrev pub own_error : Rule → Tree → Option Error
+own_error needs_projection (object ts others) = error_of (camera_rule ts)
 own_error _ _ = None
 
 -- ---- kinds
@@ -99,8 +99,8 @@ abbrev mutual
   planned (Choice form listed) t context animation = leaf_of (choice_faults t)
   planned (Attributes named) t context animation = place (entry_plans (count_in named context.root) (entries_in t)) []
   planned (ListOf kind) t context animation = place (item_plans (λ x. planned kind x context animation) 0 (items_in t)) []
-  planned (Object named rows keeps) t context animation =
-      place (also (member_plans (members_in t) rows context (animation_below named t animation)) (rule_plans named t context)) (errors (own_error named t))
+  planned (Object rule rows keeps) t context animation =
+      place (also (member_plans (members_in t) rows context (animation_below rule t animation)) (rule_plans rule t context)) (errors (own_error rule t))
   planned _ t context animation = leaf None
 
   pub member_plans : Trees → Rows → Context → Tree → Plans

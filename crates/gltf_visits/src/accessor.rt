@@ -1,19 +1,14 @@
 //! Accessors.
 
 ghost use Rattle.gltf_data.specs.AccessorTable.{accessor_kind, sparse_kind, sparse_indices_kind, sparse_values_kind};
-ghost use Rattle.gltf_data.specs.AccessorTrees.{accessor_members, sparse_members, sparse_indices_members, sparse_values_members, accessor_extensions, sparse_extensions, indices_extensions, values_extensions};
+ghost use Rattle.gltf_data.specs.AccessorTrees.{accessor_members, sparse_members, sparse_indices_members, sparse_values_members};
 ghost use Rattle.gltf_schema.specs.Fields.{closed_object, list_tree};
-ghost use Rattle.gltf_schema.specs.Kind.{ListOf, ObjectName};
-ghost use Rattle.std.specs.Prelude.{refl};
-ghost use Rattle.gltf_schema.specs.Extensions.{kept_extensions, dropped_extensions};
+ghost use Rattle.gltf_schema.specs.Kind.{ListOf};
 
 use crate::part::Part;
-use crate::silent::Silent;
 use crate::visited::Visited;
 use gltf_data::accessor::Accessor;
 use gltf_data::accessor::sparse::{Indices, Sparse, Values};
-use gltf_data::extensions::accessor as extensions;
-use gltf_data::extensions::accessor::sparse as sparse_extensions;
 use gltf_faults::Context;
 
 impl Visited for Accessor {
@@ -64,36 +59,4 @@ impl Visited for Values {
     fn part<'a>(&'a self, _context: &Context<'_>) -> Part<'a> {
         Part::SparseValues(self)
     }
-}
-
-impl Silent for extensions::Accessor {
-    ghost kind = { kept_extensions ObjectName.accessor };
-
-    ghost tree = { accessor_extensions };
-
-    ghost silent = { λ _ _. refl };
-}
-
-impl Silent for sparse_extensions::Sparse {
-    ghost kind = { dropped_extensions ObjectName.sparse };
-
-    ghost tree = { sparse_extensions };
-
-    ghost silent = { λ _ _. refl };
-}
-
-impl Silent for sparse_extensions::Indices {
-    ghost kind = { dropped_extensions ObjectName.sparse_indices };
-
-    ghost tree = { indices_extensions };
-
-    ghost silent = { λ _ _. refl };
-}
-
-impl Silent for sparse_extensions::Values {
-    ghost kind = { dropped_extensions ObjectName.sparse_values };
-
-    ghost tree = { values_extensions };
-
-    ghost silent = { λ _ _. refl };
 }

@@ -1,17 +1,13 @@
 //! Animations.
 
 ghost use Rattle.gltf_animations.specs.AnimationTable.{animation_target_kind, animation_sampler_kind, animation_kind};
-ghost use Rattle.gltf_animations.specs.AnimationTrees.{animation_target_members, animation_sampler_members, animation_members, animation_extensions, channel_extensions, target_extensions, sampler_extensions};
+ghost use Rattle.gltf_animations.specs.AnimationTrees.{animation_target_members, animation_sampler_members, animation_members};
 ghost use Rattle.gltf_schema.specs.Fields.{closed_object, list_tree};
-ghost use Rattle.gltf_schema.specs.Kind.{ListOf, ObjectName};
-ghost use Rattle.std.specs.Prelude.{refl};
-ghost use Rattle.gltf_schema.specs.Extensions.{kept_extensions, dropped_extensions};
+ghost use Rattle.gltf_schema.specs.Kind.{ListOf};
 
 use crate::part::Part;
-use crate::silent::Silent;
 use crate::visited::Visited;
 use gltf_animations::animation::{Animation, Sampler, Target};
-use gltf_animations::extensions::animation as extensions;
 use gltf_faults::Context;
 
 impl Visited for Target {
@@ -62,36 +58,4 @@ impl Visited for Vec<Animation> {
     fn part<'a>(&'a self, _context: &Context<'_>) -> Part<'a> {
         Part::Animations(self)
     }
-}
-
-impl Silent for extensions::Animation {
-    ghost kind = { kept_extensions ObjectName.animation };
-
-    ghost tree = { animation_extensions };
-
-    ghost silent = { λ _ _. refl };
-}
-
-impl Silent for extensions::Channel {
-    ghost kind = { dropped_extensions ObjectName.animation_channel };
-
-    ghost tree = { channel_extensions };
-
-    ghost silent = { λ _ _. refl };
-}
-
-impl Silent for extensions::Target {
-    ghost kind = { dropped_extensions ObjectName.animation_target };
-
-    ghost tree = { target_extensions };
-
-    ghost silent = { λ _ _. refl };
-}
-
-impl Silent for extensions::Sampler {
-    ghost kind = { dropped_extensions ObjectName.animation_sampler };
-
-    ghost tree = { sampler_extensions };
-
-    ghost silent = { λ _ _. refl };
 }

@@ -1,19 +1,17 @@
 //! Views of buffers, and images.
 
 ghost use Rattle.gltf_data.specs.BufferTable.{view_kind, buffer_kind, buffer_rows};
-ghost use Rattle.gltf_data.specs.BufferTrees.{view_members, buffer_members, buffer_extensions, view_extensions};
+ghost use Rattle.gltf_data.specs.BufferTrees.{view_members, buffer_members};
 ghost use Rattle.gltf_data.specs.ImageTable.{image_kind};
-ghost use Rattle.gltf_data.specs.ImageTrees.{image_members, image_extensions, mime_type_tree};
+ghost use Rattle.gltf_data.specs.ImageTrees.{image_members, mime_type_tree};
 ghost use Rattle.gltf_schema.specs.Fields.{closed_object, list_tree};
-ghost use Rattle.gltf_schema.specs.Kind.{ListOf, ObjectName, Text};
+ghost use Rattle.gltf_schema.specs.Kind.{ListOf, Text};
 ghost use Rattle.std.specs.Prelude.{refl};
-ghost use Rattle.gltf_schema.specs.Extensions.{kept_extensions};
 
 use crate::part::Part;
 use crate::silent::Silent;
 use crate::visited::Visited;
 use gltf_data::buffer::{Buffer, View};
-use gltf_data::extensions::{buffer as extensions, image as image_extensions};
 use gltf_data::image::{Image, MimeType};
 use gltf_faults::Context;
 
@@ -65,34 +63,10 @@ impl Silent for Buffer {
     ghost silent = { λ _ _. unfold buffer_rows buffer_members in refl };
 }
 
-impl Silent for extensions::Buffer {
-    ghost kind = { kept_extensions ObjectName.buffer };
-
-    ghost tree = { buffer_extensions };
-
-    ghost silent = { λ _ _. refl };
-}
-
-impl Silent for extensions::View {
-    ghost kind = { kept_extensions ObjectName.buffer_view };
-
-    ghost tree = { view_extensions };
-
-    ghost silent = { λ _ _. refl };
-}
-
 impl Silent for MimeType {
     ghost kind = { Text };
 
     ghost tree = { mime_type_tree };
-
-    ghost silent = { λ _ _. refl };
-}
-
-impl Silent for image_extensions::Image {
-    ghost kind = { kept_extensions ObjectName.image };
-
-    ghost tree = { image_extensions };
 
     ghost silent = { λ _ _. refl };
 }

@@ -1,18 +1,16 @@
 //! Cameras.
 
 ghost use Rattle.gltf_nodes.specs.CameraTable.{camera_kind, orthographic_rows, orthographic_kind, perspective_rows, perspective_kind};
-ghost use Rattle.gltf_nodes.specs.CameraTrees.{camera_members, orthographic_members, perspective_members, camera_extensions, orthographic_extensions, perspective_extensions};
+ghost use Rattle.gltf_nodes.specs.CameraTrees.{camera_members, orthographic_members, perspective_members};
 ghost use Rattle.gltf_schema.specs.Fields.{closed_object, list_tree};
-ghost use Rattle.gltf_schema.specs.Kind.{ListOf, ObjectName};
+ghost use Rattle.gltf_schema.specs.Kind.{ListOf};
 ghost use Rattle.std.specs.Prelude.{refl};
-ghost use Rattle.gltf_schema.specs.Extensions.{kept_extensions};
 
 use crate::part::Part;
 use crate::silent::Silent;
 use crate::visited::Visited;
 use gltf_faults::Context;
 use gltf_nodes::camera::{Camera, Orthographic, Perspective};
-use gltf_nodes::extensions::camera as extensions;
 
 impl Visited for Camera {
     ghost kind = { camera_kind };
@@ -48,28 +46,4 @@ impl Silent for Perspective {
     ghost tree = { λ v. closed_object (perspective_members v) };
 
     ghost silent = { λ _ _. unfold perspective_rows perspective_members in refl };
-}
-
-impl Silent for extensions::Camera {
-    ghost kind = { kept_extensions ObjectName.camera };
-
-    ghost tree = { camera_extensions };
-
-    ghost silent = { λ _ _. refl };
-}
-
-impl Silent for extensions::Orthographic {
-    ghost kind = { kept_extensions ObjectName.orthographic };
-
-    ghost tree = { orthographic_extensions };
-
-    ghost silent = { λ _ _. refl };
-}
-
-impl Silent for extensions::Perspective {
-    ghost kind = { kept_extensions ObjectName.perspective };
-
-    ghost tree = { perspective_extensions };
-
-    ghost silent = { λ _ _. refl };
 }

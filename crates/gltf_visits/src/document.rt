@@ -7,9 +7,7 @@ ghost use Rattle.gltf_root.specs.RootExtensionTrees.{root_extensions, lights_mem
 ghost use Rattle.gltf_schema.specs.Fields.{closed_object};
 ghost use Rattle.std.specs.Prelude.{refl};
 ghost use Rattle.gltf_nodes.specs.AssetTable.{asset_kind, asset_rows};
-ghost use Rattle.gltf_nodes.specs.AssetTrees.{asset_members, asset_extensions};
-ghost use Rattle.gltf_schema.specs.Extensions.{dropped_extensions};
-ghost use Rattle.gltf_schema.specs.Kind.{ObjectName};
+ghost use Rattle.gltf_nodes.specs.AssetTrees.{asset_members};
 ghost use Rattle.gltf_nodes.specs.LightTable.{variant_rows};
 
 use crate::part::Part;
@@ -17,7 +15,6 @@ use crate::silent::Silent;
 use crate::visited::Visited;
 use gltf_faults::Context;
 use gltf_nodes::asset::Asset;
-use gltf_nodes::extensions::asset::Asset as AssetExtensions;
 use gltf_root::extensions::root as extensions;
 use gltf_root::extensions::root::{KhrLightsPunctual, KhrMaterialsVariants};
 use gltf_root::root::Root;
@@ -66,12 +63,4 @@ impl Silent for Asset {
     ghost tree = { λ v. closed_object (asset_members v) };
 
     ghost silent = { λ _ _. unfold asset_rows asset_members in refl };
-}
-
-impl Silent for AssetExtensions {
-    ghost kind = { dropped_extensions ObjectName.asset };
-
-    ghost tree = { asset_extensions };
-
-    ghost silent = { λ _ _. refl };
 }

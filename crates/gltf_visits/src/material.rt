@@ -1,11 +1,10 @@
 //! Materials.
 
 ghost use Rattle.gltf_materials.specs.MaterialTable.{material_kind, pbr_metallic_roughness_kind, normal_texture_kind, occlusion_texture_kind};
-ghost use Rattle.gltf_materials.specs.MaterialTrees.{material_members, pbr_metallic_roughness_members, normal_texture_members, occlusion_texture_members, pbr_metallic_roughness_extensions, alpha_cutoff_tree, normal_texture_extensions, occlusion_texture_extensions};
+ghost use Rattle.gltf_materials.specs.MaterialTrees.{material_members, pbr_metallic_roughness_members, normal_texture_members, occlusion_texture_members, alpha_cutoff_tree};
 ghost use Rattle.gltf_schema.specs.Fields.{closed_object, list_tree};
-ghost use Rattle.gltf_schema.specs.Kind.{ListOf, ObjectName, Number};
+ghost use Rattle.gltf_schema.specs.Kind.{ListOf, Number};
 ghost use Rattle.std.specs.Prelude.{refl};
-ghost use Rattle.gltf_schema.specs.Extensions.{kept_extensions};
 
 use crate::part::Part;
 use crate::silent::Silent;
@@ -15,7 +14,6 @@ use gltf_materials::material::{
     AlphaCutoff, EmissiveFactor, Material, NormalTexture, OcclusionTexture, PbrBaseColorFactor,
     PbrMetallicRoughness,
 };
-use gltf_shading::extensions::material as extensions;
 use gltf_shading::material::StrengthFactor;
 
 impl Visited for Material {
@@ -85,29 +83,5 @@ impl Silent for PbrBaseColorFactor {
 }
 
 impl Silent for StrengthFactor {
-    ghost silent = { λ _ _. refl };
-}
-
-impl Silent for extensions::PbrMetallicRoughness {
-    ghost kind = { kept_extensions ObjectName.pbr_metallic_roughness };
-
-    ghost tree = { pbr_metallic_roughness_extensions };
-
-    ghost silent = { λ _ _. refl };
-}
-
-impl Silent for extensions::NormalTexture {
-    ghost kind = { kept_extensions ObjectName.normal_texture };
-
-    ghost tree = { normal_texture_extensions };
-
-    ghost silent = { λ _ _. refl };
-}
-
-impl Silent for extensions::OcclusionTexture {
-    ghost kind = { kept_extensions ObjectName.occlusion_texture };
-
-    ghost tree = { occlusion_texture_extensions };
-
     ghost silent = { λ _ _. refl };
 }

@@ -1,11 +1,10 @@
 //! Meshes.
 
 ghost use Rattle.gltf_meshes.specs.MeshTable.{mesh_kind, primitive_kind, morph_target_kind, primitive_extensions_kind, primitive_extension_rows, variant_mappings_kind, variant_mappings_rows, variant_mapping_kind, variant_mapping_rows};
-ghost use Rattle.gltf_meshes.specs.MeshTrees.{mesh_members, primitive_members, morph_target_members, mesh_extensions, primitive_extensions, primitive_extension_members, variant_mappings_members, variant_mapping_members};
+ghost use Rattle.gltf_meshes.specs.MeshTrees.{mesh_members, primitive_members, morph_target_members, primitive_extensions, primitive_extension_members, variant_mappings_members, variant_mapping_members};
 ghost use Rattle.gltf_schema.specs.Fields.{closed_object, list_tree};
-ghost use Rattle.gltf_schema.specs.Kind.{ListOf, ObjectName};
+ghost use Rattle.gltf_schema.specs.Kind.{ListOf};
 ghost use Rattle.std.specs.Prelude.{refl};
-ghost use Rattle.gltf_schema.specs.Extensions.{kept_extensions};
 
 use crate::part::Part;
 use crate::silent::Silent;
@@ -99,12 +98,4 @@ impl Silent for extensions::Primitive {
 
     ghost silent = { λ _ _. unfold primitive_extension_rows variant_mappings_rows
         variant_mapping_rows primitive_extension_members in refl };
-}
-
-impl Silent for extensions::Mesh {
-    ghost kind = { kept_extensions ObjectName.mesh };
-
-    ghost tree = { mesh_extensions };
-
-    ghost silent = { λ _ _. refl };
 }

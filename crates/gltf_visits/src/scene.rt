@@ -1,19 +1,18 @@
 //! Nodes, scenes and skins.
 
 ghost use Rattle.gltf_nodes.specs.SceneTable.{node_kind, node_extensions_kind, scene_kind, skin_kind};
-ghost use Rattle.gltf_nodes.specs.SceneTrees.{node_members, node_extensions, scene_members, skin_members, scene_extensions, skin_extensions, unit_quaternion_tree};
+ghost use Rattle.gltf_nodes.specs.SceneTrees.{node_members, node_extensions, scene_members, skin_members, unit_quaternion_tree};
 ghost use Rattle.gltf_schema.specs.Fields.{closed_object, list_tree, index_tree};
-ghost use Rattle.gltf_schema.specs.Kind.{ListOf, IndexInto, ObjectName, Numbers};
+ghost use Rattle.gltf_schema.specs.Kind.{ListOf, IndexInto, Numbers};
 ghost use Rattle.gltf_paths.specs.Lists.{ListName};
 ghost use Rattle.std.specs.Prelude.{refl};
-ghost use Rattle.gltf_schema.specs.Extensions.{kept_extensions};
 
 use crate::part::Part;
 use crate::silent::Silent;
 use crate::visited::Visited;
 use gltf_base::Index;
 use gltf_faults::Context;
-use gltf_nodes::extensions::{scene as extensions, skin as skin_extensions};
+use gltf_nodes::extensions::scene as extensions;
 use gltf_nodes::scene::{Node, Scene, UnitQuaternion};
 use gltf_nodes::skin::Skin;
 
@@ -101,22 +100,6 @@ impl Silent for UnitQuaternion {
     ghost kind = { Numbers 4 };
 
     ghost tree = { unit_quaternion_tree };
-
-    ghost silent = { λ _ _. refl };
-}
-
-impl Silent for extensions::Scene {
-    ghost kind = { kept_extensions ObjectName.scene };
-
-    ghost tree = { scene_extensions };
-
-    ghost silent = { λ _ _. refl };
-}
-
-impl Silent for skin_extensions::Skin {
-    ghost kind = { kept_extensions ObjectName.skin };
-
-    ghost tree = { skin_extensions };
 
     ghost silent = { λ _ _. refl };
 }

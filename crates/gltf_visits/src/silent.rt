@@ -3,7 +3,8 @@
 ghost use Rattle.std.specs.Prelude.{◌≡◌, None, refl};
 ghost use Rattle.gltf_schema.specs.Tree.{Tree, absent, whole, truth};
 ghost use Rattle.gltf_schema.specs.Kind.{Kind, U32, U64, Number, Numbers, Text, Truth, Any};
-ghost use Rattle.gltf_schema.specs.Fields.{size_tree, real_tree, reals_tree, text_tree, any_tree};
+ghost use Rattle.gltf_schema.specs.Fields.{size_tree, real_tree, reals_tree, text_tree, any_tree, kept_tree, dropped_tree};
+ghost use Rattle.gltf_schema.specs.Extensions.{kept_extensions, dropped_extensions};
 ghost use Rattle.gltf_faults.specs.Context.{Context as MathematicalContext};
 ghost use Rattle.gltf_visits.specs.Plan.{leaf};
 ghost use Rattle.gltf_visits.specs.Planned.{planned};
@@ -14,6 +15,7 @@ use gltf_base::Real;
 use gltf_base::validation::USize64;
 use gltf_data::extras::Void;
 use gltf_faults::Context;
+use gltf_schema::{DroppedExtensions, KeptExtensions};
 use serde_json::Value;
 
 /// A type in which nothing can be wrong.
@@ -104,6 +106,23 @@ impl Silent for Value {
     ghost kind = { Any };
 
     ghost tree = { any_tree };
+
+    ghost silent = { λ _ _. refl };
+}
+
+/// Nothing is said of extensions that are not known.
+impl Silent for KeptExtensions {
+    ghost kind = { kept_extensions };
+
+    ghost tree = { kept_tree };
+
+    ghost silent = { λ _ _. refl };
+}
+
+impl Silent for DroppedExtensions {
+    ghost kind = { dropped_extensions };
+
+    ghost tree = { dropped_tree };
 
     ghost silent = { λ _ _. refl };
 }

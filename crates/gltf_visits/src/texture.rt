@@ -1,11 +1,10 @@
 //! Textures and samplers.
 
 ghost use Rattle.gltf_textures.specs.TextureTable.{sampler_kind, texture_kind, info_kind, info_extensions_kind, info_extension_rows, texture_transform_kind, texture_transform_rows};
-ghost use Rattle.gltf_textures.specs.TextureTrees.{sampler_members, texture_members, info_members, info_extensions, info_extension_members, sampler_extensions, texture_extensions, texture_transform_members};
+ghost use Rattle.gltf_textures.specs.TextureTrees.{sampler_members, texture_members, info_members, info_extensions, info_extension_members, texture_transform_members};
 ghost use Rattle.gltf_schema.specs.Fields.{closed_object, list_tree};
-ghost use Rattle.gltf_schema.specs.Kind.{ListOf, ObjectName};
+ghost use Rattle.gltf_schema.specs.Kind.{ListOf};
 ghost use Rattle.std.specs.Prelude.{refl};
-ghost use Rattle.gltf_schema.specs.Extensions.{kept_extensions};
 
 use crate::part::Part;
 use crate::silent::Silent;
@@ -94,20 +93,4 @@ impl Silent for extensions::Info {
 
     ghost silent = { λ _ _. unfold info_extension_rows texture_transform_rows info_extension_members
         in refl };
-}
-
-impl Silent for extensions::Sampler {
-    ghost kind = { kept_extensions ObjectName.sampler };
-
-    ghost tree = { sampler_extensions };
-
-    ghost silent = { λ _ _. refl };
-}
-
-impl Silent for extensions::Texture {
-    ghost kind = { kept_extensions ObjectName.texture };
-
-    ghost tree = { texture_extensions };
-
-    ghost silent = { λ _ _. refl };
 }

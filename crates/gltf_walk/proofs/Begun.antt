@@ -5,7 +5,7 @@ use Rattle.gltf_schema.specs.Kind.{Kind}
 use Rattle.gltf_schema.specs.Tree.{Tree, absent}
 use Rattle.gltf_faults.specs.Context.{Context}
 use Rattle.gltf_faults.specs.Reports.{reports}
-use Rattle.gltf_visits.specs.Height.{kind_height}
+use Rattle.gltf_schema.specs.Height.{kind_height}
 use Rattle.gltf_visits.specs.Parts.{plan_of}
 use Rattle.gltf_visits.specs.Planned.{planned}
 use Rattle.gltf_visits.specs.declared.part.Part.{Part}

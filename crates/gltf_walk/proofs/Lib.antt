@@ -4,4 +4,3 @@ pub mod Stacks
 pub mod Begun
 pub mod Moves
 pub mod AttributesBehind
-pub mod DocumentHeight

@@ -3,13 +3,13 @@ use Rattle.std.proofs.Common.{◌≤◌, ℕ, suc, max, cond, List, [], ◌∷�
 use Rattle.gltf_checked.specs.Keys.{Key}
 use Rattle.gltf_schema.specs.Tree as tree
 use Rattle.gltf_schema.specs.Tree.{Tree, Trees, end, with_tree, items_in, members_in, entries_in}
-use Rattle.gltf_schema.specs.Kind.{Kind, Attributes, ListOf, Object, ObjectName, Rows, no_rows, row}
+use Rattle.gltf_schema.specs.Kind.{Kind, Attributes, ListOf, Object, Rows, no_rows, row, Rule, needs_data, needs_cone, needs_positions, requires_enabled}
 use Rattle.gltf_faults.specs.Context.{Context}
 use Rattle.gltf_faults.specs.Reports.{animation_below}
-use Rattle.gltf_faults.specs.Silence.{is_silent}
+use Rattle.gltf_schema.specs.Silence.{is_silent}
 use Rattle.gltf_faults.specs.Rules.{root_extensions_required}
 use Rattle.gltf_root.specs.Lists.{count_in}
-use Rattle.gltf_visits.specs.Height.{rule_height, kind_height, rows_height}
+use Rattle.gltf_schema.specs.Height.{rule_height, kind_height, rows_height}
 use Rattle.gltf_visits.specs.Plan.{Plan, Plans, nothing, below, also, height, heights}
 use Rattle.gltf_visits.specs.Planned.{entry_plans, item_plans, name_plan, rule_plans, unless_silent, planned, member_plans}
 
@@ -35,13 +35,13 @@ name_height : (enabled : List (List ℕ)) (t : Tree) → height (name_plan enabl
 name_height enabled (tree.text s) = omega arith
 name_height enabled t = omega arith
 
-rules_height : (named : ObjectName) (t : Tree) (context : Context) → heights (rule_plans named t context) ≤ rule_height named
-rules_height ObjectName.accessor (tree.object ts others) context = omega arith
-rules_height ObjectName.light (tree.object ts others) context = omega arith
-rules_height ObjectName.primitive (tree.object ts others) context = omega arith
-rules_height ObjectName.root (tree.object ts others) context =
+rules_height : (rule : Rule) (t : Tree) (context : Context) → heights (rule_plans rule t context) ≤ rule_height rule
+rules_height needs_data (tree.object ts others) context = omega arith
+rules_height needs_cone (tree.object ts others) context = omega arith
+rules_height needs_positions (tree.object ts others) context = omega arith
+rules_height requires_enabled (tree.object ts others) context =
     let names = items_height (name_plan context.rules.enabled) 1 (name_height context.rules.enabled) 0 (items_in (root_extensions_required ts)) in omega (arith, names)
-rules_height named t context = omega arith
+rules_height rule t context = omega arith
 
 -- ---- kinds
 
@@ -56,12 +56,12 @@ mutual
   bounded (Attributes named) t context animation = entries_height (count_in named context.root) (entries_in t)
   bounded (ListOf kind) t context animation =
       items_height (λ x. planned kind x context animation) (kind_height kind) (λ x. bounded kind x context animation) 0 (items_in t)
-  bounded (Object named rows keeps) t context animation =
-      let above = animation_below named t animation in
+  bounded (Object rule rows keeps) t context animation =
+      let above = animation_below rule t animation in
       let members = rows_bounded (members_in t) rows context above in
-      let rule = rules_height named t context in
-      also_height (member_plans (members_in t) rows context above) (rule_plans named t context) (max (rows_height rows) (rule_height named))
-      (omega (arith, members)) (omega (arith, rule))
+      let ruled = rules_height rule t context in
+      also_height (member_plans (members_in t) rows context above) (rule_plans rule t context) (max (rows_height rows) (rule_height rule))
+      (omega (arith, members)) (omega (arith, ruled))
   bounded kind t context animation = omega arith
 
   rows_bounded : (ts : Trees) (rows : Rows) (context : Context) (animation : Tree) → heights (member_plans ts rows context animation) ≤ rows_height rows

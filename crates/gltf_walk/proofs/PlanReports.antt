@@ -10,15 +10,15 @@ use Rattle.gltf_paths.specs.declared.validation.Error.{Error}
 use Rattle.gltf_paths.specs.declared.validation.Error.TheVariants.{Missing}
 use Rattle.gltf_schema.specs.Tree as tree
 use Rattle.gltf_schema.specs.Tree.{Tree, Trees, end, with_tree, tree_at, items_in, members_in, entries_in}
-use Rattle.gltf_schema.specs.Kind.{Kind, IndexInto, SourceImage, ChannelSampler, Stride, Choice, Attributes, ListOf, Object, ObjectName, Rows, no_rows, row}
+use Rattle.gltf_schema.specs.Kind.{Kind, IndexInto, SourceImage, ChannelSampler, Stride, Choice, Attributes, ListOf, Object, Rows, no_rows, row, Rule, needs_data, needs_projection, needs_cone, needs_positions, requires_enabled}
 use Rattle.gltf_textures.specs.TextureTable.{no_image}
 use Rattle.gltf_root.specs.Lists.{list_in, count_in, sampler_count}
 use Rattle.gltf_sinks.specs.Report.{From, Report, report}
 use Rattle.gltf_faults.specs.Context.{Context}
 use Rattle.gltf_faults.specs.Faults.{report_if, number_faults, index_faults, source_faults, stride_faults, choice_faults, key_faults, entries_faults, items_reports}
 use Rattle.gltf_faults.specs.Reports.{animation_below, reports, member_reports}
-use Rattle.gltf_faults.specs.Rules.{is_positions, accessor_min, accessor_max, primitive_attributes, root_extensions_required, bound_faults, bounds_faults, positions_faults, extension_faults, rule, object_faults}
-use Rattle.gltf_faults.specs.Silence.{is_silent}
+use Rattle.gltf_faults.specs.Rules.{is_positions, accessor_min, accessor_max, primitive_attributes, root_extensions_required, bound_faults, bounds_faults, positions_faults, extension_faults, rule_faults, object_faults}
+use Rattle.gltf_schema.specs.Silence.{is_silent}
 use Rattle.gltf_faults.proofs.Joining.{joined}
 use Rattle.gltf_faults.proofs.Silent.{silent}
 use Rattle.gltf_visits.specs.Plan.{Plan, Plans, nothing, below, errors, leaf, also, told, told_below, told_here}
@@ -128,31 +128,31 @@ name_told enabled (tree.text s) base = append-nil _ ∙ if_told_below _ _ (value
 name_told enabled t base = refl
 
 -- nothing is wrong with an object without a rule
-unruled : (named : ObjectName) (t : Tree) (context : Context) (base : List Step)
-    → ((ts : Trees) → rule named ts context base ≡ []) → [] ≡ object_faults t named context base
-unruled named (tree.object ts others) context base none = sym (none ts)
-unruled named t context base none = refl
+unruled : (rule : Rule) (t : Tree) (context : Context) (base : List Step)
+    → ((ts : Trees) → rule_faults rule ts context base ≡ []) → [] ≡ object_faults t rule context base
+unruled rule (tree.object ts others) context base none = sym (none ts)
+unruled rule t context base none = refl
 
-rule_told : (named : ObjectName) (t : Tree) (context : Context) (base : List Step)
-    → told_below (rule_plans named t context) base ++ told_here (errors (own_error named t)) base ≡ object_faults t named context base
-rule_told ObjectName.accessor (tree.object ts others) context base = append-nil _ ∙ if_told_below _ _ (field (codes "bufferView")) base
-rule_told ObjectName.light (tree.object ts others) context base = append-nil _ ∙ if_told_below _ _ (field (codes "spot")) base
-rule_told ObjectName.camera (tree.object ts others) context base = if_told _ _ base
-rule_told ObjectName.primitive (tree.object ts others) context base =
+rule_told : (rule : Rule) (t : Tree) (context : Context) (base : List Step)
+    → told_below (rule_plans rule t context) base ++ told_here (errors (own_error rule t)) base ≡ object_faults t rule context base
+rule_told needs_data (tree.object ts others) context base = append-nil _ ∙ if_told_below _ _ (field (codes "bufferView")) base
+rule_told needs_cone (tree.object ts others) context base = append-nil _ ∙ if_told_below _ _ (field (codes "spot")) base
+rule_told needs_projection (tree.object ts others) context base = if_told _ _ base
+rule_told needs_positions (tree.object ts others) context base =
     let found = lookup is_positions (entries_in (primitive_attributes ts)) in
     let at = base ++ field (codes "attributes") ∷ [] in
     append-nil _ ∙ append-nil _ ∙ append-nil _ ∙ append-nil _ ∙ positions_told found context.root (at ++ key (codes "POSITION") ∷ [])
-rule_told ObjectName.root (tree.object ts others) context base =
+rule_told requires_enabled (tree.object ts others) context base =
     let names = items_in (root_extensions_required ts) in
     let at = base ++ field (codes "extensionsRequired") ∷ [] in
     let enabled = context.rules.enabled in
     append-nil _ ∙ append-nil _ ∙ append-nil _ ∙ items_told (name_plan enabled) (extension_faults enabled) (name_told enabled) 0 names at
-rule_told ObjectName.accessor t context base = refl
-rule_told ObjectName.light t context base = refl
-rule_told ObjectName.camera t context base = refl
-rule_told ObjectName.primitive t context base = refl
-rule_told ObjectName.root t context base = refl
-rule_told named t context base = unruled named t context base (λ ts. refl)
+rule_told needs_data t context base = refl
+rule_told needs_cone t context base = refl
+rule_told needs_projection t context base = refl
+rule_told needs_positions t context base = refl
+rule_told requires_enabled t context base = refl
+rule_told rule t context base = unruled rule t context base (λ ts. refl)
 
 -- ---- kinds
 
@@ -173,12 +173,12 @@ mutual
   planned_told (ListOf kind) t context animation base =
       append-nil _
       ∙ items_told (λ x. planned kind x context animation) (λ x. reports kind x context animation) (λ x at. planned_told kind x context animation at) 0 (items_in t) base
-  planned_told (Object named rows keeps) t context animation base =
-      let ps = member_plans (members_in t) rows context (animation_below named t animation) in
-      let qs = rule_plans named t context in
-      let own = told_here (errors (own_error named t)) base in
+  planned_told (Object rule rows keeps) t context animation base =
+      let ps = member_plans (members_in t) rows context (animation_below rule t animation) in
+      let qs = rule_plans rule t context in
+      let own = told_here (errors (own_error rule t)) base in
       ap (λ rs. rs ++ own) (also_told ps qs base) ∙ append_assoc (told_below ps base) (told_below qs base) own
-      ∙ joined (members_told (members_in t) rows context (animation_below named t animation) base) (rule_told named t context base)
+      ∙ joined (members_told (members_in t) rows context (animation_below rule t animation) base) (rule_told rule t context base)
   planned_told kind t context animation base = refl
 
   members_told : (ts : Trees) (rows : Rows) (context : Context) (animation : Tree) (base : List Step)

@@ -6,7 +6,7 @@ ghost use Rattle.gltf_root.specs.RootTrees.{root_tree};
 ghost use Rattle.gltf_faults.specs.Context.{rules_of, standard_rules};
 ghost use Rattle.gltf_faults.specs.Reports.{document_reports, reports_by_rules};
 ghost use Rattle.gltf_visits.specs.Parts.{plan_of};
-ghost use Rattle.gltf_visits.specs.Height.{kind_height};
+ghost use Rattle.gltf_schema.specs.Height.{kind_height};
 ghost use Rattle.gltf_visits.specs.Plan.{leaf};
 ghost use Rattle.gltf_walk.specs.ToCome.{base_count, depth_of_descent, left_of_descent, path_of_descent, to_come, path_of, IsNext, IsNextOf};
 

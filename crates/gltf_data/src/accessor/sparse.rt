@@ -2,9 +2,9 @@
 //! to 5.4).
 
 ghost use Rattle.std.specs.Prelude.{false};
+ghost use Rattle.std.proofs.Common.{lit≤};
 ghost use Rattle.serde_json.specs.Data.{no_members};
-ghost use Rattle.gltf_schema.specs.Kind.{ObjectName};
-ghost use Rattle.gltf_data.specs.AccessorTable.{sparse_rows, sparse_sound, sparse_indices_rows, sparse_indices_sound, sparse_values_rows, sparse_values_sound};
+ghost use Rattle.gltf_data.specs.AccessorTable.{sparse_rows, sparse_sound, sparse_height, sparse_indices_rows, sparse_indices_sound, sparse_indices_height, sparse_values_rows, sparse_values_sound, sparse_values_height};
 ghost use Rattle.gltf_data.specs.AccessorTrees.{sparse_members, sparse_indices_members, sparse_values_members};
 
 use crate::buffer::View;
@@ -32,8 +32,6 @@ pub struct Sparse {
 }
 
 impl Object for Sparse {
-    ghost named = { ObjectName.sparse };
-
     ghost rows = { sparse_rows };
 
     ghost keeps = { false };
@@ -43,6 +41,10 @@ impl Object for Sparse {
     ghost unknown = { λ _. no_members };
 
     ghost sound = { sparse_sound };
+
+    ghost height = { 2 };
+
+    ghost low = { (sparse_height.1, lit≤ tt) };
 
     fn decode_members(alloc: Global, found: Map<String, Value>) -> Result<Sparse, Error> {
         let mut reading = Reading::from_members(alloc, found);
@@ -85,8 +87,6 @@ pub struct Indices {
 }
 
 impl Object for Indices {
-    ghost named = { ObjectName.sparse_indices };
-
     ghost rows = { sparse_indices_rows };
 
     ghost keeps = { false };
@@ -96,6 +96,10 @@ impl Object for Indices {
     ghost unknown = { λ _. no_members };
 
     ghost sound = { sparse_indices_sound };
+
+    ghost height = { 1 };
+
+    ghost low = { (sparse_indices_height.1, lit≤ tt) };
 
     fn decode_members(alloc: Global, found: Map<String, Value>) -> Result<Indices, Error> {
         let mut reading = Reading::from_members(alloc, found);
@@ -148,8 +152,6 @@ pub struct Values {
 }
 
 impl Object for Values {
-    ghost named = { ObjectName.sparse_values };
-
     ghost rows = { sparse_values_rows };
 
     ghost keeps = { false };
@@ -159,6 +161,10 @@ impl Object for Values {
     ghost unknown = { λ _. no_members };
 
     ghost sound = { sparse_values_sound };
+
+    ghost height = { 1 };
+
+    ghost low = { (sparse_values_height.1, lit≤ tt) };
 
     fn decode_members(alloc: Global, found: Map<String, Value>) -> Result<Values, Error> {
         let mut reading = Reading::from_members(alloc, found);

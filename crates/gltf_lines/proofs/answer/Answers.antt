@@ -1,6 +1,6 @@
 -- What was written of a reading: the refusal, or the reading's output.
 use Rattle.std.proofs.Common.{◌≡◌, inl, inr, Err, arith, rules}
-use Rattle.gltf_schema.specs.declared.error.Error.TheVariants.{Json, Schema}
+use Rattle.gltf_paths.specs.declared.error.Error.TheVariants.{Json, Schema}
 use Rattle.gltf_faults.specs.Context.{rules_of}
 use Rattle.gltf_lines.proofs.RunLemmas.{output-known, same-either}
 use Rattle.gltf_lines.proofs.answer.Goals as goal

@@ -1,51 +1,20 @@
 //! The extension objects of meshes and their primitives.
 
 ghost use Rattle.std.specs.Prelude.{◌≡◌, true, false};
+ghost use Rattle.std.proofs.Common.{lit≤};
 ghost use Rattle.serde_json.specs.Data.{no_members};
 ghost use Rattle.serde_json.specs.View.{members_view};
-ghost use Rattle.gltf_schema.specs.Kind.{ObjectName, extensions_of};
 ghost use Rattle.gltf_schema.specs.Tree.{end, list, whole, with_tree};
 ghost use Rattle.gltf_schema.specs.Defaults.{defaults};
-ghost use Rattle.gltf_meshes.specs.MeshTable.{primitive_extension_rows, primitive_extension_sound, variant_mappings_rows, variant_mappings_sound, variant_mapping_rows, variant_mapping_sound};
+ghost use Rattle.gltf_meshes.specs.MeshTable.{primitive_extension_rows, primitive_extension_sound, primitive_extension_height, variant_mappings_rows, variant_mappings_sound, variant_mappings_height, variant_mapping_rows, variant_mapping_sound, variant_mapping_height};
 ghost use Rattle.gltf_meshes.specs.MeshTrees.{primitive_extension_members, variant_mappings_members, variant_mapping_members};
 
-use gltf_schema::{Error, Object, Reading, Unlisted, Writing};
+use gltf_schema::{Error, KeptExtensions, Object, Reading, Writing};
 use serde_json::{Map, Value};
 use std::alloc::Global;
 
 /// The extensions of a mesh.
-#[derive(Clone, Debug, Drop)]
-pub struct Mesh {
-    /// The extensions that are not known.
-    pub others: Map<String, Value>,
-}
-
-impl Unlisted for Mesh {
-    ghost extends = { ObjectName.mesh };
-
-    ghost is_keeping = { true };
-
-    ghost kept = { λ e. members_view e.others.entries };
-
-    fn from_others(others: Map<String, Value>) -> Mesh {
-        Mesh { others }
-    }
-
-    fn others(&self) -> Option<&Map<String, Value>> {
-        Some(&self.others)
-    }
-}
-
-impl Mesh {
-    /// No extension.
-    pub fn new(alloc: Global) -> Mesh
-        ensures { members_view result.others.entries ≡ no_members }
-    {
-        Mesh {
-            others: Map::new(alloc),
-        }
-    }
-}
+pub type Mesh = KeptExtensions;
 
 /// The extensions of a primitive.
 #[derive(Clone, Debug, Drop)]
@@ -57,8 +26,6 @@ pub struct Primitive {
 }
 
 impl Object for Primitive {
-    ghost named = { extensions_of ObjectName.primitive };
-
     ghost rows = { primitive_extension_rows };
 
     ghost keeps = { true };
@@ -68,6 +35,10 @@ impl Object for Primitive {
     ghost unknown = { λ e. members_view e.others.entries };
 
     ghost sound = { primitive_extension_sound };
+
+    ghost height = { 0 };
+
+    ghost low = { (primitive_extension_height.1, lit≤ tt) };
 
     fn decode_members(alloc: Global, found: Map<String, Value>) -> Result<Primitive, Error> {
         let mut reading = Reading::from_members(alloc, found);
@@ -107,8 +78,6 @@ pub struct KhrMaterialsVariants {
 }
 
 impl Object for KhrMaterialsVariants {
-    ghost named = { ObjectName.variant_mappings };
-
     ghost rows = { variant_mappings_rows };
 
     ghost keeps = { false };
@@ -118,6 +87,10 @@ impl Object for KhrMaterialsVariants {
     ghost unknown = { λ _. no_members };
 
     ghost sound = { variant_mappings_sound };
+
+    ghost height = { 0 };
+
+    ghost low = { (variant_mappings_height.1, lit≤ tt) };
 
     fn decode_members(
         alloc: Global,
@@ -157,8 +130,6 @@ pub struct Mapping {
 }
 
 impl Object for Mapping {
-    ghost named = { ObjectName.variant_mapping };
-
     ghost rows = { variant_mapping_rows };
 
     ghost keeps = { false };
@@ -168,6 +139,10 @@ impl Object for Mapping {
     ghost unknown = { λ _. no_members };
 
     ghost sound = { variant_mapping_sound };
+
+    ghost height = { 0 };
+
+    ghost low = { (variant_mapping_height.1, lit≤ tt) };
 
     fn decode_members(alloc: Global, found: Map<String, Value>) -> Result<Mapping, Error> {
         let mut reading = Reading::from_members(alloc, found);

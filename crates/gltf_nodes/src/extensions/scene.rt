@@ -1,14 +1,14 @@
 //! The extension objects of nodes and scenes.
 
 ghost use Rattle.std.specs.Prelude.{◌≡◌, true};
+ghost use Rattle.std.proofs.Common.{lit≤};
 ghost use Rattle.serde_json.specs.Data.{no_members};
 ghost use Rattle.serde_json.specs.View.{members_view};
-ghost use Rattle.gltf_schema.specs.Kind.{ObjectName, extensions_of};
 ghost use Rattle.gltf_schema.specs.Defaults.{defaults};
-ghost use Rattle.gltf_nodes.specs.SceneTable.{node_extension_rows, node_extension_sound};
+ghost use Rattle.gltf_nodes.specs.SceneTable.{node_extension_rows, node_extension_sound, node_extension_height};
 ghost use Rattle.gltf_nodes.specs.SceneTrees.{node_extension_members};
 
-use gltf_schema::{Error, Object, Reading, Unlisted, Writing};
+use gltf_schema::{Error, KeptExtensions, Object, Reading, Writing};
 use serde_json::{Map, Value};
 use std::alloc::Global;
 
@@ -25,8 +25,6 @@ pub struct Node {
 }
 
 impl Object for Node {
-    ghost named = { extensions_of ObjectName.node };
-
     ghost rows = { node_extension_rows };
 
     ghost keeps = { true };
@@ -36,6 +34,10 @@ impl Object for Node {
     ghost unknown = { λ e. members_view e.others.entries };
 
     ghost sound = { node_extension_sound };
+
+    ghost height = { 2 };
+
+    ghost low = { (node_extension_height.1, lit≤ tt) };
 
     fn decode_members(alloc: Global, found: Map<String, Value>) -> Result<Node, Error> {
         let mut reading = Reading::from_members(alloc, found);
@@ -69,35 +71,4 @@ impl Node {
 }
 
 /// The extensions of a scene.
-#[derive(Clone, Debug, Drop)]
-pub struct Scene {
-    /// The extensions that are not known.
-    pub others: Map<String, Value>,
-}
-
-impl Unlisted for Scene {
-    ghost extends = { ObjectName.scene };
-
-    ghost is_keeping = { true };
-
-    ghost kept = { λ e. members_view e.others.entries };
-
-    fn from_others(others: Map<String, Value>) -> Scene {
-        Scene { others }
-    }
-
-    fn others(&self) -> Option<&Map<String, Value>> {
-        Some(&self.others)
-    }
-}
-
-impl Scene {
-    /// No extension.
-    pub fn new(alloc: Global) -> Scene
-        ensures { members_view result.others.entries ≡ no_members }
-    {
-        Scene {
-            others: Map::new(alloc),
-        }
-    }
-}
+pub type Scene = KeptExtensions;

@@ -1,44 +1,6 @@
 //! The extension objects of skins.
 
-ghost use Rattle.std.specs.Prelude.{◌≡◌, true};
-ghost use Rattle.serde_json.specs.Data.{no_members};
-ghost use Rattle.serde_json.specs.View.{members_view};
-ghost use Rattle.gltf_schema.specs.Kind.{ObjectName};
-
-use gltf_schema::Unlisted;
-use serde_json::{Map, Value};
-use std::alloc::Global;
+use gltf_schema::KeptExtensions;
 
 /// The extensions of a skin.
-#[derive(Clone, Debug, Drop)]
-pub struct Skin {
-    /// The extensions that are not known.
-    pub others: Map<String, Value>,
-}
-
-impl Unlisted for Skin {
-    ghost extends = { ObjectName.skin };
-
-    ghost is_keeping = { true };
-
-    ghost kept = { λ e. members_view e.others.entries };
-
-    fn from_others(others: Map<String, Value>) -> Skin {
-        Skin { others }
-    }
-
-    fn others(&self) -> Option<&Map<String, Value>> {
-        Some(&self.others)
-    }
-}
-
-impl Skin {
-    /// No extension.
-    pub fn new(alloc: Global) -> Skin
-        ensures { members_view result.others.entries ≡ no_members }
-    {
-        Skin {
-            others: Map::new(alloc),
-        }
-    }
-}
+pub type Skin = KeptExtensions;

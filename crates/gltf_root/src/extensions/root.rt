@@ -1,12 +1,12 @@
 //! The extension objects of a whole document.
 
 ghost use Rattle.std.specs.Prelude.{◌≡◌, true, false};
+ghost use Rattle.std.proofs.Common.{lit≤};
 ghost use Rattle.serde_json.specs.Data.{no_members};
 ghost use Rattle.serde_json.specs.View.{members_view};
-ghost use Rattle.gltf_schema.specs.Kind.{ObjectName, extensions_of};
 ghost use Rattle.gltf_schema.specs.Tree.{end, list, with_tree};
 ghost use Rattle.gltf_schema.specs.Defaults.{defaults};
-ghost use Rattle.gltf_root.specs.RootExtensionTable.{root_extension_rows, root_extension_sound, lights_rows, lights_sound, variants_rows, variants_sound};
+ghost use Rattle.gltf_root.specs.RootExtensionTable.{root_extension_rows, root_extension_sound, root_extension_height, lights_rows, lights_sound, lights_height, variants_rows, variants_sound, variants_height};
 ghost use Rattle.gltf_root.specs.RootExtensionTrees.{root_extension_members, lights_members, variants_members};
 
 use gltf_nodes::extensions::scene::khr_lights_punctual::Light;
@@ -27,8 +27,6 @@ pub struct Root {
 }
 
 impl Object for Root {
-    ghost named = { extensions_of ObjectName.root };
-
     ghost rows = { root_extension_rows };
 
     ghost keeps = { true };
@@ -38,6 +36,10 @@ impl Object for Root {
     ghost unknown = { λ e. members_view e.others.entries };
 
     ghost sound = { root_extension_sound };
+
+    ghost height = { 4 };
+
+    ghost low = { (root_extension_height.1, lit≤ tt) };
 
     fn decode_members(alloc: Global, found: Map<String, Value>) -> Result<Root, Error> {
         let mut reading = Reading::from_members(alloc, found);
@@ -81,8 +83,6 @@ pub struct KhrLightsPunctual {
 }
 
 impl Object for KhrLightsPunctual {
-    ghost named = { ObjectName.lights };
-
     ghost rows = { lights_rows };
 
     ghost keeps = { false };
@@ -92,6 +92,10 @@ impl Object for KhrLightsPunctual {
     ghost unknown = { λ _. no_members };
 
     ghost sound = { lights_sound };
+
+    ghost height = { 3 };
+
+    ghost low = { (lights_height.1, lit≤ tt) };
 
     fn decode_members(
         alloc: Global,
@@ -126,8 +130,6 @@ pub struct KhrMaterialsVariants {
 }
 
 impl Object for KhrMaterialsVariants {
-    ghost named = { ObjectName.variants };
-
     ghost rows = { variants_rows };
 
     ghost keeps = { false };
@@ -137,6 +139,10 @@ impl Object for KhrMaterialsVariants {
     ghost unknown = { λ _. no_members };
 
     ghost sound = { variants_sound };
+
+    ghost height = { 0 };
+
+    ghost low = { (variants_height.1, lit≤ tt) };
 
     fn decode_members(
         alloc: Global,

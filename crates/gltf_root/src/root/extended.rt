@@ -6,6 +6,7 @@ ghost use Rattle.gltf_schema.specs.Fields.{closed_object};
 ghost use Rattle.gltf_nodes.specs.LightTrees.{light_members, variant_members};
 ghost use Rattle.gltf_root.specs.Items.{lights_of, put_lights, put_variants, variants_of};
 ghost use Rattle.gltf_root.specs.ItemTrees.{lights_of-trees, put_lights-trees, put_variants-trees, variants_of-trees};
+ghost use Rattle.gltf_root.specs.RootTable.{root_rows};
 ghost use Rattle.gltf_root.specs.RootTrees.{root_members};
 
 use super::Root;
@@ -17,7 +18,7 @@ use gltf_base::{Index, PushError};
 use gltf_nodes::extensions::scene::khr_lights_punctual::Light;
 use gltf_nodes::extensions::scene::khr_materials_variants::Variant;
 
-#[tactic(auto, using(crate::proofs::Pushing::trees_push, crate::proofs::Undoing::trees_pop, crate::proofs::Undoing::last_or_pop), unfolding(crate::specs::RootTrees::root_members, crate::specs::RootExtensionTrees::root_extension_members, crate::specs::RootExtensionTrees::lights_members, crate::specs::RootExtensionTable::root_extension_rows))]
+#[tactic(auto, using(crate::proofs::Pushing::trees_push, crate::proofs::Undoing::trees_pop, crate::proofs::Undoing::last_or_pop), unfolding(crate::specs::RootTable::root_rows, crate::specs::RootTrees::root_members, crate::specs::RootExtensionTrees::root_extension_members, crate::specs::RootExtensionTrees::lights_members, crate::specs::RootExtensionTable::root_extension_rows, crate::specs::RootExtensionTable::lights_rows))]
 impl RootItem for Light {
     ghost tree = { λ x. closed_object (light_members x) };
 
@@ -25,7 +26,7 @@ impl RootItem for Light {
 
     ghost put = { put_lights };
 
-    ghost lists = { λ r. unfold root_members in lights_of-trees r };
+    ghost lists = { λ r. unfold root_rows root_members in lights_of-trees r };
 
     ghost puts = { λ r list there. put_lights-trees r list there };
 
@@ -90,7 +91,7 @@ impl RootItem for Light {
     }
 }
 
-#[tactic(auto, using(crate::proofs::Pushing::trees_push, crate::proofs::Undoing::trees_pop, crate::proofs::Undoing::last_or_pop), unfolding(crate::specs::RootTrees::root_members, crate::specs::RootExtensionTrees::root_extension_members, crate::specs::RootExtensionTrees::variants_members, crate::specs::RootExtensionTable::root_extension_rows))]
+#[tactic(auto, using(crate::proofs::Pushing::trees_push, crate::proofs::Undoing::trees_pop, crate::proofs::Undoing::last_or_pop), unfolding(crate::specs::RootTable::root_rows, crate::specs::RootTrees::root_members, crate::specs::RootExtensionTrees::root_extension_members, crate::specs::RootExtensionTrees::variants_members, crate::specs::RootExtensionTable::root_extension_rows, crate::specs::RootExtensionTable::variants_rows))]
 impl RootItem for Variant {
     ghost tree = { λ x. closed_object (variant_members x) };
 
@@ -98,7 +99,7 @@ impl RootItem for Variant {
 
     ghost put = { put_variants };
 
-    ghost lists = { λ r. unfold root_members in variants_of-trees r };
+    ghost lists = { λ r. unfold root_rows root_members in variants_of-trees r };
 
     ghost puts = { λ r list there. put_variants-trees r list there };
 

@@ -89,6 +89,7 @@ pub trait RootItem: Listed + Drop {
     ghost use Rattle.gltf_root.specs.declared.root.Root.{Root};
     ghost use Rattle.gltf_root.specs.contracts.root.Root.{the_row};
 
+    // The tree of an item, which is that of the table (`Tabled`) for each type that has this trait.
     ghost tree: { Self → Tree };
 
     ghost items: { Root → List Self };

@@ -3,6 +3,7 @@
 #![tactic(auto, unfolding(crate::specs::RootTrees::root_members))]
 
 ghost use Rattle.std.specs.Prelude.{refl};
+ghost use Rattle.gltf_root.specs.RootTable.{root_rows};
 ghost use Rattle.gltf_root.specs.RootTrees.{root_members};
 
 use super::Root;
@@ -23,9 +24,11 @@ impl TopLevel for Accessor {
 
     ghost put = { λ list r. record r { accessors = list } };
 
-    ghost stands = { λ r. unfold root_members in refl };
+    ghost kinded = { refl };
 
-    ghost puts = { λ r list. unfold root_members in (refl, refl) };
+    ghost stands = { λ r. unfold root_rows root_members in refl };
+
+    ghost puts = { λ r list. unfold root_rows root_members in (refl, refl) };
 
     ghost same = { λ r. refl };
 
@@ -45,9 +48,11 @@ impl TopLevel for Animation {
 
     ghost put = { λ list r. record r { animations = list } };
 
-    ghost stands = { λ r. unfold root_members in refl };
+    ghost kinded = { refl };
 
-    ghost puts = { λ r list. unfold root_members in (refl, refl) };
+    ghost stands = { λ r. unfold root_rows root_members in refl };
+
+    ghost puts = { λ r list. unfold root_rows root_members in (refl, refl) };
 
     ghost same = { λ r. refl };
 
@@ -67,9 +72,11 @@ impl TopLevel for Buffer {
 
     ghost put = { λ list r. record r { buffers = list } };
 
-    ghost stands = { λ r. unfold root_members in refl };
+    ghost kinded = { refl };
 
-    ghost puts = { λ r list. unfold root_members in (refl, refl) };
+    ghost stands = { λ r. unfold root_rows root_members in refl };
+
+    ghost puts = { λ r list. unfold root_rows root_members in (refl, refl) };
 
     ghost same = { λ r. refl };
 
@@ -89,9 +96,11 @@ impl TopLevel for View {
 
     ghost put = { λ list r. record r { buffer_views = list } };
 
-    ghost stands = { λ r. unfold root_members in refl };
+    ghost kinded = { refl };
 
-    ghost puts = { λ r list. unfold root_members in (refl, refl) };
+    ghost stands = { λ r. unfold root_rows root_members in refl };
+
+    ghost puts = { λ r list. unfold root_rows root_members in (refl, refl) };
 
     ghost same = { λ r. refl };
 
@@ -111,9 +120,11 @@ impl TopLevel for Camera {
 
     ghost put = { λ list r. record r { cameras = list } };
 
-    ghost stands = { λ r. unfold root_members in refl };
+    ghost kinded = { refl };
 
-    ghost puts = { λ r list. unfold root_members in (refl, refl) };
+    ghost stands = { λ r. unfold root_rows root_members in refl };
+
+    ghost puts = { λ r list. unfold root_rows root_members in (refl, refl) };
 
     ghost same = { λ r. refl };
 
@@ -133,9 +144,11 @@ impl TopLevel for Image {
 
     ghost put = { λ list r. record r { images = list } };
 
-    ghost stands = { λ r. unfold root_members in refl };
+    ghost kinded = { refl };
 
-    ghost puts = { λ r list. unfold root_members in (refl, refl) };
+    ghost stands = { λ r. unfold root_rows root_members in refl };
+
+    ghost puts = { λ r list. unfold root_rows root_members in (refl, refl) };
 
     ghost same = { λ r. refl };
 
@@ -155,9 +168,11 @@ impl TopLevel for Material {
 
     ghost put = { λ list r. record r { materials = list } };
 
-    ghost stands = { λ r. unfold root_members in refl };
+    ghost kinded = { refl };
 
-    ghost puts = { λ r list. unfold root_members in (refl, refl) };
+    ghost stands = { λ r. unfold root_rows root_members in refl };
+
+    ghost puts = { λ r list. unfold root_rows root_members in (refl, refl) };
 
     ghost same = { λ r. refl };
 
@@ -177,9 +192,11 @@ impl TopLevel for Mesh {
 
     ghost put = { λ list r. record r { meshes = list } };
 
-    ghost stands = { λ r. unfold root_members in refl };
+    ghost kinded = { refl };
 
-    ghost puts = { λ r list. unfold root_members in (refl, refl) };
+    ghost stands = { λ r. unfold root_rows root_members in refl };
+
+    ghost puts = { λ r list. unfold root_rows root_members in (refl, refl) };
 
     ghost same = { λ r. refl };
 
@@ -199,9 +216,11 @@ impl TopLevel for Node {
 
     ghost put = { λ list r. record r { nodes = list } };
 
-    ghost stands = { λ r. unfold root_members in refl };
+    ghost kinded = { refl };
 
-    ghost puts = { λ r list. unfold root_members in (refl, refl) };
+    ghost stands = { λ r. unfold root_rows root_members in refl };
+
+    ghost puts = { λ r list. unfold root_rows root_members in (refl, refl) };
 
     ghost same = { λ r. refl };
 
@@ -221,9 +240,11 @@ impl TopLevel for Sampler {
 
     ghost put = { λ list r. record r { samplers = list } };
 
-    ghost stands = { λ r. unfold root_members in refl };
+    ghost kinded = { refl };
 
-    ghost puts = { λ r list. unfold root_members in (refl, refl) };
+    ghost stands = { λ r. unfold root_rows root_members in refl };
+
+    ghost puts = { λ r list. unfold root_rows root_members in (refl, refl) };
 
     ghost same = { λ r. refl };
 
@@ -243,9 +264,11 @@ impl TopLevel for Scene {
 
     ghost put = { λ list r. record r { scenes = list } };
 
-    ghost stands = { λ r. unfold root_members in refl };
+    ghost kinded = { refl };
 
-    ghost puts = { λ r list. unfold root_members in (refl, refl) };
+    ghost stands = { λ r. unfold root_rows root_members in refl };
+
+    ghost puts = { λ r list. unfold root_rows root_members in (refl, refl) };
 
     ghost same = { λ r. refl };
 
@@ -265,9 +288,11 @@ impl TopLevel for Skin {
 
     ghost put = { λ list r. record r { skins = list } };
 
-    ghost stands = { λ r. unfold root_members in refl };
+    ghost kinded = { refl };
 
-    ghost puts = { λ r list. unfold root_members in (refl, refl) };
+    ghost stands = { λ r. unfold root_rows root_members in refl };
+
+    ghost puts = { λ r list. unfold root_rows root_members in (refl, refl) };
 
     ghost same = { λ r. refl };
 
@@ -287,9 +312,11 @@ impl TopLevel for Texture {
 
     ghost put = { λ list r. record r { textures = list } };
 
-    ghost stands = { λ r. unfold root_members in refl };
+    ghost kinded = { refl };
 
-    ghost puts = { λ r list. unfold root_members in (refl, refl) };
+    ghost stands = { λ r. unfold root_rows root_members in refl };
+
+    ghost puts = { λ r list. unfold root_rows root_members in (refl, refl) };
 
     ghost same = { λ r. refl };
 

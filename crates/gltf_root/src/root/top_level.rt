@@ -5,10 +5,11 @@
 ghost use Rattle.std.specs.Prelude.{◌≡◌, true, map};
 ghost use Rattle.std.proofs.Common.{ap};
 ghost use Rattle.std.specs.Borrow.{sem};
+ghost use Rattle.gltf_schema.specs.Kind.{Object as object_kind};
 ghost use Rattle.gltf_schema.specs.Tree.{Tree, object, trees};
 ghost use Rattle.gltf_root.specs.Lending.{lends};
 ghost use Rattle.gltf_root.specs.Lists.{is_there, list_in};
-ghost use Rattle.gltf_root.specs.Pushed.{with_list};
+ghost use Rattle.gltf_root.specs.Pushed.{item_kind, with_list};
 ghost use Rattle.gltf_root.specs.RootTrees.{root_tree};
 ghost use Rattle.gltf_root.specs.Undone.{mark_in, undone, without_last_item};
 ghost use Rattle.gltf_root.specs.declared.root.mark.Mark.{Mark};
@@ -40,6 +41,9 @@ pub trait TopLevel: Listed + Object {
     fn list_in_mut(root: &mut Root) -> &mut Vec<Self>
         ensures* writes_back { sem 𝓛 (lends the_row Self.row put root.entry result) }
         ensures lent { result.now ≡ held root.old };
+
+    // The table has the items of the list by the kind of the object.
+    ghost kinded: { object_kind Self.rule Self.rows Self.keeps ≡ item_kind Self.list };
 
     // The list of the root's tree holds the trees of the items.
     ghost stands: { (r : Root)

@@ -1,18 +1,20 @@
 //! The extension objects of materials and of their references to textures.
 
 ghost use Rattle.std.specs.Prelude.{◌≡◌, true, false, refl};
+ghost use Rattle.std.proofs.Common.{lit≤};
 ghost use Rattle.serde_json.specs.Data.{no_members};
 ghost use Rattle.serde_json.specs.View.{members_view};
-ghost use Rattle.gltf_schema.specs.Kind.{ObjectName, extensions_of, no_rows};
-ghost use Rattle.gltf_schema.specs.Tree.{end};
+ghost use Rattle.gltf_schema.specs.Kind.{no_rows, Number, Numbers};
+ghost use Rattle.gltf_schema.specs.Tree.{end, tree_or_absent};
 ghost use Rattle.gltf_schema.specs.Defaults.{defaults};
-ghost use Rattle.gltf_shading.specs.MaterialExtensionTable.{material_extension_rows, material_extension_sound, pbr_specular_glossiness_rows, pbr_specular_glossiness_sound, transmission_rows, transmission_sound, volume_rows, volume_sound, specular_rows, specular_sound, ior_rows, ior_sound, emissive_strength_rows, emissive_strength_sound};
+ghost use Rattle.gltf_shading.specs.MaterialExtensionTable.{material_extension_rows, material_extension_sound, material_extension_height, pbr_specular_glossiness_rows, pbr_specular_glossiness_sound, pbr_specular_glossiness_height, transmission_rows, transmission_sound, transmission_height, volume_rows, volume_sound, volume_height, specular_rows, specular_sound, specular_height, ior_rows, ior_sound, ior_height, emissive_strength_rows, emissive_strength_sound, emissive_strength_height};
 ghost use Rattle.gltf_shading.specs.MaterialExtensionTrees.{material_extension_members, pbr_specular_glossiness_members, transmission_members, volume_members, specular_members, ior_members, emissive_strength_members};
+ghost use Rattle.gltf_schema.specs.Fields.{real_tree, reals_tree};
 
 use crate::material::StrengthFactor;
 use gltf_base::Real;
 use gltf_data::extras::Extras;
-use gltf_schema::{Error, Object, Reading, Unlisted, Writing};
+use gltf_schema::{Error, KeptExtensions, Object, Reading, Tabled, Writing};
 use gltf_textures::texture::Info;
 use serde_json::{Map, Value};
 use std::alloc::Global;
@@ -56,8 +58,6 @@ impl Drop for Material {
 }
 
 impl Object for Material {
-    ghost named = { extensions_of ObjectName.material };
-
     ghost rows = { material_extension_rows };
 
     ghost keeps = { true };
@@ -67,6 +67,10 @@ impl Object for Material {
     ghost unknown = { λ e. members_view e.others.entries };
 
     ghost sound = { material_extension_sound };
+
+    ghost height = { 3 };
+
+    ghost low = { (material_extension_height.1, lit≤ tt) };
 
     fn decode_members(alloc: Global, found: Map<String, Value>) -> Result<Material, Error> {
         let mut reading = Reading::from_members(alloc, found);
@@ -127,106 +131,13 @@ impl Material {
 }
 
 /// The extensions of the parameters of the metallic-roughness model.
-#[derive(Clone, Debug, Drop)]
-pub struct PbrMetallicRoughness {
-    /// The extensions that are not known.
-    pub others: Map<String, Value>,
-}
-
-impl Unlisted for PbrMetallicRoughness {
-    ghost extends = { ObjectName.pbr_metallic_roughness };
-
-    ghost is_keeping = { true };
-
-    ghost kept = { λ e. members_view e.others.entries };
-
-    fn from_others(others: Map<String, Value>) -> PbrMetallicRoughness {
-        PbrMetallicRoughness { others }
-    }
-
-    fn others(&self) -> Option<&Map<String, Value>> {
-        Some(&self.others)
-    }
-}
-
-impl PbrMetallicRoughness {
-    /// No extension.
-    pub fn new(alloc: Global) -> PbrMetallicRoughness
-        ensures { members_view result.others.entries ≡ no_members }
-    {
-        PbrMetallicRoughness {
-            others: Map::new(alloc),
-        }
-    }
-}
+pub type PbrMetallicRoughness = KeptExtensions;
 
 /// The extensions of a reference to a texture of normals.
-#[derive(Clone, Debug, Drop)]
-pub struct NormalTexture {
-    /// The extensions that are not known.
-    pub others: Map<String, Value>,
-}
-
-impl Unlisted for NormalTexture {
-    ghost extends = { ObjectName.normal_texture };
-
-    ghost is_keeping = { true };
-
-    ghost kept = { λ e. members_view e.others.entries };
-
-    fn from_others(others: Map<String, Value>) -> NormalTexture {
-        NormalTexture { others }
-    }
-
-    fn others(&self) -> Option<&Map<String, Value>> {
-        Some(&self.others)
-    }
-}
-
-impl NormalTexture {
-    /// No extension.
-    pub fn new(alloc: Global) -> NormalTexture
-        ensures { members_view result.others.entries ≡ no_members }
-    {
-        NormalTexture {
-            others: Map::new(alloc),
-        }
-    }
-}
+pub type NormalTexture = KeptExtensions;
 
 /// The extensions of a reference to a texture of occlusion.
-#[derive(Clone, Debug, Drop)]
-pub struct OcclusionTexture {
-    /// The extensions that are not known.
-    pub others: Map<String, Value>,
-}
-
-impl Unlisted for OcclusionTexture {
-    ghost extends = { ObjectName.occlusion_texture };
-
-    ghost is_keeping = { true };
-
-    ghost kept = { λ e. members_view e.others.entries };
-
-    fn from_others(others: Map<String, Value>) -> OcclusionTexture {
-        OcclusionTexture { others }
-    }
-
-    fn others(&self) -> Option<&Map<String, Value>> {
-        Some(&self.others)
-    }
-}
-
-impl OcclusionTexture {
-    /// No extension.
-    pub fn new(alloc: Global) -> OcclusionTexture
-        ensures { members_view result.others.entries ≡ no_members }
-    {
-        OcclusionTexture {
-            others: Map::new(alloc),
-        }
-    }
-}
+pub type OcclusionTexture = KeptExtensions;
 
 /// The parameters of the specular-glossiness model (`KHR_materials_pbrSpecularGlossiness`).
 #[derive(Clone, Debug)]
@@ -262,8 +173,6 @@ impl Drop for PbrSpecularGlossiness {
 }
 
 impl Object for PbrSpecularGlossiness {
-    ghost named = { ObjectName.pbr_specular_glossiness };
-
     ghost rows = { pbr_specular_glossiness_rows };
 
     ghost keeps = { true };
@@ -273,6 +182,10 @@ impl Object for PbrSpecularGlossiness {
     ghost unknown = { λ e. members_view e.others.entries };
 
     ghost sound = { pbr_specular_glossiness_sound };
+
+    ghost height = { 2 };
+
+    ghost low = { (pbr_specular_glossiness_height.1, lit≤ tt) };
 
     fn decode_members(
         alloc: Global,
@@ -336,9 +249,21 @@ impl PbrSpecularGlossiness {
 #[derive(Clone, Debug, Default, Drop)]
 pub struct PbrDiffuseFactor(pub Option<[Real; 4]>);
 
+impl Tabled for PbrDiffuseFactor {
+    ghost kind = { Numbers 4 };
+
+    ghost tree = { λ factor. tree_or_absent reals_tree factor.0 };
+}
+
 /// The factors of a specular color: red, green, blue; `None` stands for ones.
 #[derive(Clone, Debug, Default, Drop)]
 pub struct PbrSpecularFactor(pub Option<[Real; 3]>);
+
+impl Tabled for PbrSpecularFactor {
+    ghost kind = { Numbers 3 };
+
+    ghost tree = { λ factor. tree_or_absent reals_tree factor.0 };
+}
 
 /// A surface that shows its base color, whatever the light (`KHR_materials_unlit`).
 #[derive(Clone, Debug, Drop)]
@@ -346,8 +271,6 @@ pub struct Unlit {}
 
 #[tactic(auto, unfolding(gltf_schema::specs::Taken::take_all, gltf_schema::specs::Taken::take_rows))]
 impl Object for Unlit {
-    ghost named = { ObjectName.unlit };
-
     ghost rows = { no_rows };
 
     ghost keeps = { false };
@@ -357,6 +280,10 @@ impl Object for Unlit {
     ghost unknown = { λ _. no_members };
 
     ghost sound = { refl };
+
+    ghost height = { 0 };
+
+    ghost low = { (refl, lit≤ tt) };
 
     fn decode_members(_alloc: Global, _found: Map<String, Value>) -> Result<Unlit, Error> {
         Ok(Unlit {})
@@ -396,8 +323,6 @@ impl Drop for Transmission {
 }
 
 impl Object for Transmission {
-    ghost named = { ObjectName.transmission };
-
     ghost rows = { transmission_rows };
 
     ghost keeps = { false };
@@ -407,6 +332,10 @@ impl Object for Transmission {
     ghost unknown = { λ _. no_members };
 
     ghost sound = { transmission_sound };
+
+    ghost height = { 2 };
+
+    ghost low = { (transmission_height.1, lit≤ tt) };
 
     fn decode_members(alloc: Global, found: Map<String, Value>) -> Result<Transmission, Error> {
         let mut reading = Reading::from_members(alloc, found);
@@ -447,6 +376,12 @@ impl Transmission {
 #[derive(Clone, Debug, Default, Drop)]
 pub struct TransmissionFactor(pub Option<Real>);
 
+impl Tabled for TransmissionFactor {
+    ghost kind = { Number };
+
+    ghost tree = { λ factor. tree_or_absent real_tree factor.0 };
+}
+
 /// The body that a surface bounds (`KHR_materials_volume`).
 #[derive(Clone, Debug)]
 pub struct Volume {
@@ -475,8 +410,6 @@ impl Drop for Volume {
 }
 
 impl Object for Volume {
-    ghost named = { ObjectName.volume };
-
     ghost rows = { volume_rows };
 
     ghost keeps = { false };
@@ -486,6 +419,10 @@ impl Object for Volume {
     ghost unknown = { λ _. no_members };
 
     ghost sound = { volume_sound };
+
+    ghost height = { 2 };
+
+    ghost low = { (volume_height.1, lit≤ tt) };
 
     fn decode_members(alloc: Global, found: Map<String, Value>) -> Result<Volume, Error> {
         let mut reading = Reading::from_members(alloc, found);
@@ -534,13 +471,31 @@ impl Volume {
 #[derive(Clone, Debug, Default, Drop)]
 pub struct ThicknessFactor(pub Option<Real>);
 
+impl Tabled for ThicknessFactor {
+    ghost kind = { Number };
+
+    ghost tree = { λ factor. tree_or_absent real_tree factor.0 };
+}
+
 /// A distance, in the units of the scene; `None` stands for one without end.
 #[derive(Clone, Debug, Default, Drop)]
 pub struct AttenuationDistance(pub Option<Real>);
 
+impl Tabled for AttenuationDistance {
+    ghost kind = { Number };
+
+    ghost tree = { λ factor. tree_or_absent real_tree factor.0 };
+}
+
 /// A color: red, green, blue; `None` stands for ones.
 #[derive(Clone, Debug, Default, Drop)]
 pub struct AttenuationColor(pub Option<[Real; 3]>);
+
+impl Tabled for AttenuationColor {
+    ghost kind = { Numbers 3 };
+
+    ghost tree = { λ factor. tree_or_absent reals_tree factor.0 };
+}
 
 /// How strong the specular reflection is, and its color (`KHR_materials_specular`).
 #[derive(Clone, Debug)]
@@ -570,8 +525,6 @@ impl Drop for Specular {
 }
 
 impl Object for Specular {
-    ghost named = { ObjectName.specular };
-
     ghost rows = { specular_rows };
 
     ghost keeps = { false };
@@ -581,6 +534,10 @@ impl Object for Specular {
     ghost unknown = { λ _. no_members };
 
     ghost sound = { specular_sound };
+
+    ghost height = { 2 };
+
+    ghost low = { (specular_height.1, lit≤ tt) };
 
     fn decode_members(alloc: Global, found: Map<String, Value>) -> Result<Specular, Error> {
         let mut reading = Reading::from_members(alloc, found);
@@ -629,9 +586,21 @@ impl Specular {
 #[derive(Clone, Debug, Default, Drop)]
 pub struct SpecularFactor(pub Option<Real>);
 
+impl Tabled for SpecularFactor {
+    ghost kind = { Number };
+
+    ghost tree = { λ factor. tree_or_absent real_tree factor.0 };
+}
+
 /// The factors of the color of a reflection: red, green, blue; `None` stands for ones.
 #[derive(Clone, Debug, Default, Drop)]
 pub struct SpecularColorFactor(pub Option<[Real; 3]>);
+
+impl Tabled for SpecularColorFactor {
+    ghost kind = { Numbers 3 };
+
+    ghost tree = { λ factor. tree_or_absent reals_tree factor.0 };
+}
 
 /// How light is bent at a surface (`KHR_materials_ior`).
 #[derive(Clone, Debug, Drop)]
@@ -642,8 +611,6 @@ pub struct Ior {
 }
 
 impl Object for Ior {
-    ghost named = { ObjectName.ior };
-
     ghost rows = { ior_rows };
 
     ghost keeps = { false };
@@ -653,6 +620,10 @@ impl Object for Ior {
     ghost unknown = { λ _. no_members };
 
     ghost sound = { ior_sound };
+
+    ghost height = { 0 };
+
+    ghost low = { (ior_height.1, lit≤ tt) };
 
     fn decode_members(alloc: Global, found: Map<String, Value>) -> Result<Ior, Error> {
         let mut reading = Reading::from_members(alloc, found);
@@ -689,6 +660,12 @@ impl Ior {
 #[derive(Clone, Debug, Default, Drop)]
 pub struct IndexOfRefraction(pub Option<Real>);
 
+impl Tabled for IndexOfRefraction {
+    ghost kind = { Number };
+
+    ghost tree = { λ factor. tree_or_absent real_tree factor.0 };
+}
+
 /// How strong the light is that a surface emits (`KHR_materials_emissive_strength`).
 #[derive(Clone, Debug, Drop)]
 pub struct EmissiveStrength {
@@ -697,8 +674,6 @@ pub struct EmissiveStrength {
 }
 
 impl Object for EmissiveStrength {
-    ghost named = { ObjectName.emissive_strength };
-
     ghost rows = { emissive_strength_rows };
 
     ghost keeps = { false };
@@ -708,6 +683,10 @@ impl Object for EmissiveStrength {
     ghost unknown = { λ _. no_members };
 
     ghost sound = { emissive_strength_sound };
+
+    ghost height = { 0 };
+
+    ghost low = { (emissive_strength_height.1, lit≤ tt) };
 
     fn decode_members(alloc: Global, found: Map<String, Value>) -> Result<EmissiveStrength, Error> {
         let mut reading = Reading::from_members(alloc, found);
@@ -739,3 +718,9 @@ impl EmissiveStrength {
 /// The factor of an emitted light; `None` stands for 1.
 #[derive(Clone, Debug, Default, Drop)]
 pub struct EmissiveStrengthFactor(pub Option<Real>);
+
+impl Tabled for EmissiveStrengthFactor {
+    ghost kind = { Number };
+
+    ghost tree = { λ factor. tree_or_absent real_tree factor.0 };
+}

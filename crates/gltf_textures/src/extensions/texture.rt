@@ -1,86 +1,27 @@
 //! The extension objects of textures, their samplers and the references to them.
 
 ghost use Rattle.std.specs.Prelude.{◌≡◌, true, false};
+ghost use Rattle.std.proofs.Common.{lit≤};
 ghost use Rattle.serde_json.specs.Data.{no_members};
 ghost use Rattle.serde_json.specs.View.{members_view};
-ghost use Rattle.gltf_schema.specs.Kind.{ObjectName, extensions_of};
 ghost use Rattle.gltf_schema.specs.Defaults.{defaults};
-ghost use Rattle.gltf_textures.specs.TextureTable.{info_extension_rows, info_extension_sound, texture_transform_rows, texture_transform_sound};
+ghost use Rattle.gltf_textures.specs.TextureTable.{info_extension_rows, info_extension_sound, info_extension_height, texture_transform_rows, texture_transform_sound, texture_transform_height};
 ghost use Rattle.gltf_textures.specs.TextureTrees.{info_extension_members, texture_transform_members};
+ghost use Rattle.gltf_schema.specs.Fields.{real_tree, reals_tree};
+ghost use Rattle.gltf_schema.specs.Kind.{Number, Numbers};
+ghost use Rattle.gltf_schema.specs.Tree.{tree_or_absent};
 
 use gltf_base::Real;
 use gltf_data::extras::Extras;
-use gltf_schema::{Error, Object, Reading, Unlisted, Writing};
+use gltf_schema::{Error, KeptExtensions, Object, Reading, Tabled, Writing};
 use serde_json::{Map, Value};
 use std::alloc::Global;
 
 /// The extensions of a sampler.
-#[derive(Clone, Debug, Drop)]
-pub struct Sampler {
-    /// The extensions that are not known.
-    pub others: Map<String, Value>,
-}
-
-impl Unlisted for Sampler {
-    ghost extends = { ObjectName.sampler };
-
-    ghost is_keeping = { true };
-
-    ghost kept = { λ e. members_view e.others.entries };
-
-    fn from_others(others: Map<String, Value>) -> Sampler {
-        Sampler { others }
-    }
-
-    fn others(&self) -> Option<&Map<String, Value>> {
-        Some(&self.others)
-    }
-}
-
-impl Sampler {
-    /// No extension.
-    pub fn new(alloc: Global) -> Sampler
-        ensures { members_view result.others.entries ≡ no_members }
-    {
-        Sampler {
-            others: Map::new(alloc),
-        }
-    }
-}
+pub type Sampler = KeptExtensions;
 
 /// The extensions of a texture.
-#[derive(Clone, Debug, Drop)]
-pub struct Texture {
-    /// The extensions that are not known.
-    pub others: Map<String, Value>,
-}
-
-impl Unlisted for Texture {
-    ghost extends = { ObjectName.texture };
-
-    ghost is_keeping = { true };
-
-    ghost kept = { λ e. members_view e.others.entries };
-
-    fn from_others(others: Map<String, Value>) -> Texture {
-        Texture { others }
-    }
-
-    fn others(&self) -> Option<&Map<String, Value>> {
-        Some(&self.others)
-    }
-}
-
-impl Texture {
-    /// No extension.
-    pub fn new(alloc: Global) -> Texture
-        ensures { members_view result.others.entries ≡ no_members }
-    {
-        Texture {
-            others: Map::new(alloc),
-        }
-    }
-}
+pub type Texture = KeptExtensions;
 
 /// The extensions of a reference to a texture.
 #[derive(Clone, Debug, Drop)]
@@ -92,8 +33,6 @@ pub struct Info {
 }
 
 impl Object for Info {
-    ghost named = { extensions_of ObjectName.texture_info };
-
     ghost rows = { info_extension_rows };
 
     ghost keeps = { true };
@@ -103,6 +42,10 @@ impl Object for Info {
     ghost unknown = { λ e. members_view e.others.entries };
 
     ghost sound = { info_extension_sound };
+
+    ghost height = { 0 };
+
+    ghost low = { (info_extension_height.1, lit≤ tt) };
 
     fn decode_members(alloc: Global, found: Map<String, Value>) -> Result<Info, Error> {
         let mut reading = Reading::from_members(alloc, found);
@@ -148,8 +91,6 @@ pub struct TextureTransform {
 }
 
 impl Object for TextureTransform {
-    ghost named = { ObjectName.texture_transform };
-
     ghost rows = { texture_transform_rows };
 
     ghost keeps = { false };
@@ -159,6 +100,10 @@ impl Object for TextureTransform {
     ghost unknown = { λ _. no_members };
 
     ghost sound = { texture_transform_sound };
+
+    ghost height = { 0 };
+
+    ghost low = { (texture_transform_height.1, lit≤ tt) };
 
     fn decode_members(alloc: Global, found: Map<String, Value>) -> Result<TextureTransform, Error> {
         let mut reading = Reading::from_members(alloc, found);
@@ -207,11 +152,29 @@ impl TextureTransform {
 #[derive(Clone, Debug, Default, Drop)]
 pub struct TextureTransformOffset(pub Option<[Real; 2]>);
 
+impl Tabled for TextureTransformOffset {
+    ghost kind = { Numbers 2 };
+
+    ghost tree = { λ factor. tree_or_absent reals_tree factor.0 };
+}
+
 /// The angle by which the coordinates are turned round the origin, in radians, counter-clockwise;
 /// `None` stands for 0.
 #[derive(Clone, Debug, Default, Drop)]
 pub struct TextureTransformRotation(pub Option<Real>);
 
+impl Tabled for TextureTransformRotation {
+    ghost kind = { Number };
+
+    ghost tree = { λ factor. tree_or_absent real_tree factor.0 };
+}
+
 /// The factors by which the coordinates are scaled; `None` stands for ones.
 #[derive(Clone, Debug, Default, Drop)]
 pub struct TextureTransformScale(pub Option<[Real; 2]>);
+
+impl Tabled for TextureTransformScale {
+    ghost kind = { Numbers 2 };
+
+    ghost tree = { λ factor. tree_or_absent reals_tree factor.0 };
+}

@@ -1,35 +1,55 @@
 //! The types that the table knows.
 
 ghost use Rattle.std.specs.Prelude.{◌≡◌, ◌≤◌, ◌+◌, ℕ, Some};
+ghost use Rattle.gltf_schema.proofs.Heights.{at_most};
+ghost use Rattle.gltf_schema.specs.Height.{kind_height};
+ghost use Rattle.gltf_schema.specs.Kind.{Object as object_kind};
+ghost use Rattle.gltf_schema.specs.Tree.{object};
 ghost use Rattle.gltf_sinks.specs.Handed.{HandedOver};
-ghost use Rattle.gltf_visits.specs.Height.{kind_height};
 ghost use Rattle.gltf_walk.specs.ToCome.{base_count, depth_of_descent, left_of_descent};
 
 use super::Validate;
 use gltf_base::Steps;
 use gltf_faults::Rules;
 use gltf_root::root::Root;
+use gltf_schema::Object;
 use gltf_sinks::{Sink, Stop};
 use gltf_visits::Visited;
 use gltf_walk::{Descent, StepsFull};
 
-mod animations;
-mod data;
-mod document;
 mod leaves;
-mod materials;
-mod meshes;
-mod nodes;
-mod shading;
-mod textures;
+mod objects;
 
-/// A type that the table knows, or one in which nothing can be wrong: a walk goes through it.
+/// A type that the table has by itself, and not as an option or a list: a walk goes through it.
 pub trait InTable: Visited {
     /// A bound on the steps from a value's place to what its walk visits.
     ghost depth: { ℕ } = { 0 };
 
     // It is one, and no value is deeper than a path is long.
     ghost shallow: { (kind_height Self.kind ≤ depth) × (depth ≤ 10) };
+}
+
+/// An object of the table that is validated by itself: `InTable` follows. What validation takes it
+/// for is what it is read and written as.
+pub trait TableObject: Object + Visited {
+    /// The steps from the object to the deepest place at which something can be wrong.
+    ghost height: { ℕ };
+
+    ghost same_kind: { Self.kind ≡ object_kind Self.rule Self.rows Self.keeps };
+
+    ghost same_tree: { (x : Self) → Self.tree x ≡ object (Self.members x) (Self.unknown x) };
+
+    // It is so by its rows, and a path has room for it below any six steps.
+    ghost low: { (kind_height Self.kind ≡ height) × (height ≤ 10) };
+}
+
+impl<T: TableObject> InTable for T {
+    ghost depth = { T.TableObject.height };
+
+    ghost shallow = { (
+      at_most T.kind T.TableObject.height T.TableObject.low.0,
+      T.TableObject.low.1,
+    ) };
 }
 
 impl<T: InTable> Validate for T {

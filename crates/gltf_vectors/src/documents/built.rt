@@ -56,64 +56,47 @@ where
     Some(list.len())
 }
 
-/// Whether an item that is pushed onto a new document is the first and only one of its list.
-fn is_first<T: Schema + Debug>(alloc: Global, item: &str) -> Result<bool, Fail>
+/// Whether items that are pushed onto a new document are the first and the second of their list.
+fn are_in_order<T: Schema + Debug>(alloc: Global, item: &str) -> Result<bool, Fail>
 where
     Root: Get<T>,
 {
     let mut root = Root::new(alloc)?;
-    let index = push_read::<T>(alloc, &mut root, item)?;
-    Ok(index == Index::new(0) && has_one::<T>(&root))
+    let first = push_read::<T>(alloc, &mut root, item)?;
+    let is_alone = has_one::<T>(&root);
+    let second = push_read::<T>(alloc, &mut root, item)?;
+    Ok(
+        is_alone
+            && first == Index::new(0)
+            && second == Index::new(1)
+            && Get::<T>::list(&root).len() == 2,
+    )
 }
 
-/// For each type that is listed, whether an item of it becomes the first and only one.
-fn are_first(alloc: Global) -> Result<[bool; 15], Fail> {
+/// For each type that is listed, whether items of it are pushed in order.
+fn are_all_in_order(alloc: Global) -> Result<[bool; 15], Fail> {
     Ok([
-        is_first::<Accessor>(alloc, r#"{"count":1,"componentType":5126,"type":"SCALAR"}"#)?,
-        is_first::<Animation>(alloc, "{}")?,
-        is_first::<Buffer>(alloc, "{}")?,
-        is_first::<View>(alloc, VIEW)?,
-        is_first::<Camera>(alloc, r#"{"type":"perspective"}"#)?,
-        is_first::<Image>(alloc, "{}")?,
-        is_first::<Material>(alloc, "{}")?,
-        is_first::<Mesh>(alloc, r#"{"primitives":[]}"#)?,
-        is_first::<Node>(alloc, "{}")?,
-        is_first::<Sampler>(alloc, "{}")?,
-        is_first::<Scene>(alloc, "{}")?,
-        is_first::<Skin>(alloc, "{}")?,
-        is_first::<Texture>(alloc, "{}")?,
-        is_first::<Light>(alloc, POINT)?,
-        is_first::<Variant>(alloc, r#"{"name":"a"}"#)?,
+        are_in_order::<Accessor>(alloc, r#"{"count":1,"componentType":5126,"type":"SCALAR"}"#)?,
+        are_in_order::<Animation>(alloc, "{}")?,
+        are_in_order::<Buffer>(alloc, "{}")?,
+        are_in_order::<View>(alloc, VIEW)?,
+        are_in_order::<Camera>(alloc, r#"{"type":"perspective"}"#)?,
+        are_in_order::<Image>(alloc, "{}")?,
+        are_in_order::<Material>(alloc, "{}")?,
+        are_in_order::<Mesh>(alloc, r#"{"primitives":[]}"#)?,
+        are_in_order::<Node>(alloc, "{}")?,
+        are_in_order::<Sampler>(alloc, "{}")?,
+        are_in_order::<Scene>(alloc, "{}")?,
+        are_in_order::<Skin>(alloc, "{}")?,
+        are_in_order::<Texture>(alloc, "{}")?,
+        are_in_order::<Light>(alloc, POINT)?,
+        are_in_order::<Variant>(alloc, r#"{"name":"a"}"#)?,
     ])
 }
 
 #[test]
-fn first_items(rt: HostRuntime) -> Result<(), Fail> {
-    assert_eq!(rt; are_first(rt.alloc())?, [true; 15]);
-    Ok(())
-}
-
-fn buffer() -> Buffer {
-    Buffer {
-        byte_length: USize64(1),
-        name: None,
-        uri: None,
-        extensions: None,
-        extras: None,
-    }
-}
-
-/// The places of two buffers that are pushed onto a new document.
-fn buffer_places(alloc: Global) -> Result<[usize; 2], Fail> {
-    let mut root = Root::new(alloc)?;
-    let first = root.push(buffer())?;
-    let second = root.push(buffer())?;
-    Ok([first.value(), second.value()])
-}
-
-#[test]
-fn root_push(rt: HostRuntime) -> Result<(), Fail> {
-    assert_eq!(rt; buffer_places(rt.alloc())?, [0, 1]);
+fn items_are_pushed_in_order(rt: HostRuntime) -> Result<(), Fail> {
+    assert_eq!(rt; are_all_in_order(rt.alloc())?, [true; 15]);
     Ok(())
 }
 
@@ -129,25 +112,6 @@ fn are_lights_made(alloc: Global) -> Result<bool, Fail> {
 #[test]
 fn first_light_makes_its_extension(rt: HostRuntime) -> Result<(), Fail> {
     assert!(rt; are_lights_made(rt.alloc())?);
-    Ok(())
-}
-
-/// The text of a new document with a light.
-fn text_with_light(alloc: Global) -> Result<String, Fail> {
-    let root = new_with::<Light>(alloc, POINT)?;
-    Ok(root.to_string(alloc)?)
-}
-
-/// Whether the document that is read of that text has one light, and nothing is told of it.
-fn is_light_read_back(alloc: Global) -> Result<bool, Fail> {
-    let text = text_with_light(alloc)?;
-    let root = Root::from_str(alloc, text.as_str())?;
-    Ok(has_one::<Light>(&root) && has_lines(alloc, &root, ""))
-}
-
-#[test]
-fn pushed_lights_are_read_back(rt: HostRuntime) -> Result<(), Fail> {
-    assert!(rt; is_light_read_back(rt.alloc())?);
     Ok(())
 }
 
@@ -167,7 +131,7 @@ where
 }
 
 #[test]
-fn lights_stand_beside_other_extensions(rt: HostRuntime) -> Result<(), Fail> {
+fn items_stand_beside_other_extensions(rt: HostRuntime) -> Result<(), Fail> {
     assert!(rt;
         is_line_with::<Light>(
             rt.alloc(),
@@ -176,11 +140,6 @@ fn lights_stand_beside_other_extensions(rt: HostRuntime) -> Result<(), Fail> {
             r#"{"asset":{"version":"2.0"},"extensions":{"EXT_x":1,"KHR_lights_punctual":{"lights":[{"type":"point"}]},"KHR_materials_variants":{"variants":[{"name":"a"}]}}}"#
         )?
     );
-    Ok(())
-}
-
-#[test]
-fn variants_stand_beside_other_extensions(rt: HostRuntime) -> Result<(), Fail> {
     assert!(rt;
         is_line_with::<Variant>(
             rt.alloc(),
@@ -216,37 +175,6 @@ fn is_view_told(alloc: Global) -> Result<bool, Fail> {
 #[test]
 fn views_are_told_as_in_their_document(rt: HostRuntime) -> Result<(), Fail> {
     assert!(rt; is_view_told(rt.alloc())?);
-    Ok(())
-}
-
-/// Whether nothing is told of a node that is its own child.
-fn is_own_child_clean(alloc: Global) -> Result<bool, Fail> {
-    let root = new_with::<Node>(alloc, r#"{"children":[0]}"#)?;
-    Ok(has_lines(alloc, &root, ""))
-}
-
-#[test]
-fn nodes_may_name_themselves(rt: HostRuntime) -> Result<(), Fail> {
-    assert!(rt; is_own_child_clean(rt.alloc())?);
-    Ok(())
-}
-
-const VIEW_OF_NO_BUFFER: &str =
-    r#"{"asset":{"version":"2.0"},"bufferViews":[{"buffer":3,"byteLength":4}]}"#;
-
-/// Whether the report of a document stays, and that of a node comes behind it, once it is pushed.
-fn is_report_kept(alloc: Global) -> Result<bool, Fail> {
-    let mut root = Root::from_str(alloc, VIEW_OF_NO_BUFFER)?;
-    let was_told = has_lines(alloc, &root, NO_BUFFER);
-    push_read::<Node>(alloc, &mut root, r#"{"children":[5]}"#)?;
-    let lines =
-        "bufferViews[0].buffer: Index out of bounds\nnodes[0].children[0]: Index out of bounds\n";
-    Ok(was_told && has_lines(alloc, &root, lines))
-}
-
-#[test]
-fn reports_stay_in_front(rt: HostRuntime) -> Result<(), Fail> {
-    assert!(rt; is_report_kept(rt.alloc())?);
     Ok(())
 }
 

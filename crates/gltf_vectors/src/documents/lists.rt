@@ -1,6 +1,5 @@
 //! The lists of a document, by the types of their items.
 
-use crate::writing::stays;
 use gltf_json::buffer::View;
 use gltf_json::extensions::scene::khr_lights_punctual::Light;
 use gltf_json::extensions::scene::khr_materials_variants::Variant;
@@ -87,11 +86,6 @@ fn lists_of_one(alloc: Global) -> Result<[bool; 15], Error> {
 fn one_of_each(rt: HostRuntime) -> Result<(), Fail> {
     assert_eq!(rt; lists_of_one(rt.alloc())?, [true; 15]);
     Ok(())
-}
-
-#[test]
-fn one_of_each_stays(rt: HostRuntime) {
-    assert!(rt; stays(rt.alloc(), ONE_OF_EACH, ""));
 }
 
 /// Which lists of a new document have no item.

@@ -1,7 +1,7 @@
 //! What documents that are made by hand are written as.
 
-use super::{NEW, NEW_IN_LINES};
-use crate::writing::{Layout, by_value, is_line, is_text};
+use super::{NEW, NEW_IN_LINES, PAST_32_BITS};
+use crate::writing::{Layout, by_value, is_invalid_in, is_line, is_text};
 use gltf_json::{Error, Material, Root, Value};
 use std::alloc::Global;
 use std::test::Fail;
@@ -60,5 +60,21 @@ fn is_null_lost(alloc: Global) -> Result<bool, Fail> {
 #[test]
 fn null_extras(rt: HostRuntime) -> Result<(), Fail> {
     assert!(rt; is_null_lost(rt.alloc())?);
+    Ok(())
+}
+
+/// Whether a document with an invalid item is refused in every way.
+fn is_item_refused(alloc: Global) -> Result<bool, Error> {
+    let root = Root::from_str(alloc, PAST_32_BITS)?;
+    Ok(
+        matches!(root.to_value(alloc), Err(Error::InvalidItem))
+            && is_invalid_in(alloc, &root, Layout::InOneLine)
+            && is_invalid_in(alloc, &root, Layout::InLines),
+    )
+}
+
+#[test]
+fn invalid_items_are_not_written(rt: HostRuntime) -> Result<(), Fail> {
+    assert!(rt; is_item_refused(rt.alloc())?);
     Ok(())
 }

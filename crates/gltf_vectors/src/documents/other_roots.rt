@@ -1,7 +1,8 @@
 //! What is reported of a document whose indexes are looked up in another one.
 
 use super::built::NO_BUFFER;
-use super::{SIX, has_lines, lines_of};
+use super::{SIX, lines_of};
+use crate::shown::shows;
 use gltf_base::Steps;
 use gltf_json::{Error, Root};
 use std::alloc::Global;
@@ -22,27 +23,10 @@ fn lines_against_new(alloc: Global, document: &str) -> Result<String, Error> {
     lines_of(alloc, &root, &new, &mut Steps::new())
 }
 
-/// Whether a document has no fault against itself.
-fn is_clean(alloc: Global, document: &str) -> Result<bool, Error> {
-    let root = Root::from_str(alloc, document)?;
-    Ok(has_lines(alloc, &root, ""))
-}
-
 #[test]
-fn buffers_of_another_document(rt: HostRuntime) -> Result<(), Fail> {
-    assert!(rt; is_clean(rt.alloc(), VIEW_OF_ITS_BUFFER)?);
-    assert_eq!(rt;
-        lines_against_new(rt.alloc(), VIEW_OF_ITS_BUFFER)?.as_str(),
-        NO_BUFFER
-    );
-    Ok(())
-}
-
-#[test]
-fn accessors_of_another_document(rt: HostRuntime) -> Result<(), Fail> {
-    assert_eq!(rt;
-        lines_against_new(rt.alloc(), SIX)?.as_str(),
-        SIX_AGAINST_NEW
-    );
+fn indexes_are_looked_up_in_another_document(rt: HostRuntime) -> Result<(), Fail> {
+    let alloc = rt.alloc();
+    assert!(rt; shows(lines_against_new(alloc, VIEW_OF_ITS_BUFFER), NO_BUFFER)?);
+    assert!(rt; shows(lines_against_new(alloc, SIX), SIX_AGAINST_NEW)?);
     Ok(())
 }

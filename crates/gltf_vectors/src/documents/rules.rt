@@ -1,13 +1,12 @@
 //! Documents by rules of the caller's.
 
-use super::{WITH_SOURCE, WITHOUT_SOURCE, lines_by, walks};
+use super::{NO_SOURCE, SOURCE_PAST_END, WITH_SOURCE, WITHOUT_SOURCE, lines_by, walks};
 use gltf_json::extensions::ENABLED_WITH_EMPTY_TEXTURES;
 use gltf_json::root::Watched;
 use gltf_json::validation::Rules;
 use gltf_json::{Error, Root};
 use gltf_lines::run_with;
 use std::alloc::Global;
-use std::test::Fail;
 
 /// A document that requires an extension by which textures have images of another format.
 const OTHER_FORMAT: &str =
@@ -59,46 +58,31 @@ fn tells(alloc: Global, rules: &Rules<'_>, document: &str, lines: &str) -> Resul
     Ok(found.as_str() == lines && walks::gives_lines(alloc, *rules, &root, lines))
 }
 
-/// Whether what is wrong in a document by the rules is these lines, however it is asked.
-fn has_lines_by(alloc: Global, rules: &Rules<'_>, document: &str, lines: &str) -> bool {
+/// Rules, a document, and its lines.
+type Case<'a> = (&'a Rules<'static>, &'static str, &'static str);
+
+/// What is wrong in documents by rules. What a document requires by the standard ones is told in
+/// `gltf_corpus`.
+const CASES: [Case<'static>; 5] = [
+    (&EMPTY, WITHOUT_SOURCE, ""),
+    (&EMPTY, WITH_SOURCE, SOURCE_PAST_END),
+    (&FULL, WITHOUT_SOURCE, NO_SOURCE),
+    (&FULL, OTHER_FORMAT, ""),
+    (&BARE, LIGHTS, UNSUPPORTED),
+];
+
+const UNSUPPORTED: &str =
+    "extensionsRequired[0] = \"KHR_lights_punctual\": Unsupported extension\n";
+
+/// Whether what is wrong in a document by rules is its lines, however it is asked.
+fn is_ruled(alloc: Global, (rules, document, lines): &Case<'_>) -> bool {
     writes(alloc, rules, document, lines)
         && matches!(tells(alloc, rules, document, lines), Ok(true))
 }
 
 #[test]
-fn textures_may_be_empty(rt: HostRuntime) -> Result<(), Fail> {
-    assert!(rt; has_lines_by(rt.alloc(), &EMPTY, WITHOUT_SOURCE, ""));
-    Ok(())
-}
-
-#[test]
-fn other_images_are_looked_up(rt: HostRuntime) -> Result<(), Fail> {
-    assert!(rt; has_lines_by(rt.alloc(), &EMPTY, WITH_SOURCE, super::SOURCE_PAST_END));
-    Ok(())
-}
-
-#[test]
-fn textures_may_not_be_empty(rt: HostRuntime) -> Result<(), Fail> {
-    assert!(rt; has_lines_by(rt.alloc(), &FULL, WITHOUT_SOURCE, super::NO_SOURCE));
-    Ok(())
-}
-
-#[test]
-fn other_formats_are_unsupported(rt: HostRuntime) -> Result<(), Fail> {
-    let line = "extensionsRequired[0] = \"KHR_texture_basisu\": Unsupported extension\n";
-    assert!(rt; has_lines_by(rt.alloc(), &Rules::new(), OTHER_FORMAT, line));
-    Ok(())
-}
-
-#[test]
-fn other_formats_may_be_required(rt: HostRuntime) -> Result<(), Fail> {
-    assert!(rt; has_lines_by(rt.alloc(), &FULL, OTHER_FORMAT, ""));
-    Ok(())
-}
-
-#[test]
-fn nothing_may_be_required(rt: HostRuntime) -> Result<(), Fail> {
-    let line = "extensionsRequired[0] = \"KHR_lights_punctual\": Unsupported extension\n";
-    assert!(rt; has_lines_by(rt.alloc(), &BARE, LIGHTS, line));
-    Ok(())
+fn documents_are_told_by_rules(rt: HostRuntime) {
+    for case in CASES.iter() {
+        assert!(rt; is_ruled(rt.alloc(), case), "{}", case.1);
+    }
 }

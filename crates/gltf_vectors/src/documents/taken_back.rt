@@ -44,29 +44,23 @@ where
     }
 }
 
-#[test]
-fn lights_go_with_what_was_made_for_them(rt: HostRuntime) -> Result<(), Fail> {
-    let alloc = rt.alloc();
-    assert!(rt; is_taken_back::<Light>(alloc, NEW, Mark::NoExtensions, POINT)?);
-    assert!(rt; is_taken_back::<Light>(alloc, NO_EXTENSIONS, Mark::NoObject, POINT)?);
-    assert!(rt; is_taken_back::<Light>(alloc, EMPTY_LISTS, Mark::Listed, POINT)?);
-    Ok(())
+/// Whether lights and variants go with what was made for them, and other items alone.
+fn are_taken_back(alloc: Global) -> Result<[bool; 8], Fail> {
+    Ok([
+        is_taken_back::<Light>(alloc, NEW, Mark::NoExtensions, POINT)?,
+        is_taken_back::<Light>(alloc, NO_EXTENSIONS, Mark::NoObject, POINT)?,
+        is_taken_back::<Light>(alloc, EMPTY_LISTS, Mark::Listed, POINT)?,
+        is_taken_back::<Variant>(alloc, NEW, Mark::NoExtensions, VARIANT)?,
+        is_taken_back::<Variant>(alloc, NO_EXTENSIONS, Mark::NoObject, VARIANT)?,
+        is_taken_back::<Variant>(alloc, EMPTY_LISTS, Mark::Listed, VARIANT)?,
+        is_taken_back::<Buffer>(alloc, NEW, Mark::Listed, r#"{"byteLength":4}"#)?,
+        is_taken_back::<Node>(alloc, EMPTY_LISTS, Mark::Listed, r#"{"name":"a"}"#)?,
+    ])
 }
 
 #[test]
-fn variants_go_with_what_was_made_for_them(rt: HostRuntime) -> Result<(), Fail> {
-    let alloc = rt.alloc();
-    assert!(rt; is_taken_back::<Variant>(alloc, NEW, Mark::NoExtensions, VARIANT)?);
-    assert!(rt; is_taken_back::<Variant>(alloc, NO_EXTENSIONS, Mark::NoObject, VARIANT)?);
-    assert!(rt; is_taken_back::<Variant>(alloc, EMPTY_LISTS, Mark::Listed, VARIANT)?);
-    Ok(())
-}
-
-#[test]
-fn other_items_go_alone(rt: HostRuntime) -> Result<(), Fail> {
-    let alloc = rt.alloc();
-    assert!(rt; is_taken_back::<Buffer>(alloc, NEW, Mark::Listed, r#"{"byteLength":4}"#)?);
-    assert!(rt; is_taken_back::<Node>(alloc, EMPTY_LISTS, Mark::Listed, r#"{"name":"a"}"#)?);
+fn items_go_with_what_was_made_for_them(rt: HostRuntime) -> Result<(), Fail> {
+    assert_eq!(rt; are_taken_back(rt.alloc())?, [true; 8]);
     Ok(())
 }
 
@@ -80,11 +74,17 @@ where
     Ok(is_none && is_line(alloc, &root, document)?)
 }
 
+/// Whether nothing goes from empty lists.
+fn are_left_alone(alloc: Global) -> Result<[bool; 3], Fail> {
+    Ok([
+        is_left_alone::<Buffer>(alloc, NEW, Mark::Listed)?,
+        is_left_alone::<Light>(alloc, NEW, Mark::NoExtensions)?,
+        is_left_alone::<Light>(alloc, EMPTY_LISTS, Mark::NoObject)?,
+    ])
+}
+
 #[test]
 fn nothing_goes_from_an_empty_list(rt: HostRuntime) -> Result<(), Fail> {
-    let alloc = rt.alloc();
-    assert!(rt; is_left_alone::<Buffer>(alloc, NEW, Mark::Listed)?);
-    assert!(rt; is_left_alone::<Light>(alloc, NEW, Mark::NoExtensions)?);
-    assert!(rt; is_left_alone::<Light>(alloc, EMPTY_LISTS, Mark::NoObject)?);
+    assert_eq!(rt; are_left_alone(rt.alloc())?, [true; 3]);
     Ok(())
 }

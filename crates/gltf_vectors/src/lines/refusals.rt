@@ -3,6 +3,7 @@
 use super::devices::{Giver, Taker, Wall};
 use super::hog::{End, Tried, refusal_count};
 use crate::documents::{FAULTY, NEW, SIX, SIX_LINES};
+use crate::shown::shows;
 use gltf_json::root::{ByteIn, Failed, Watched};
 use gltf_json::{Error, Root};
 use gltf_lines::run;
@@ -14,10 +15,7 @@ const REFUSAL: &[u8] = b"refused: input or output\n";
 
 #[test]
 fn failed_is_printed(rt: HostRuntime) -> Result<(), Fail> {
-    assert_eq!(rt;
-        format!(in rt.alloc(); "{Failed}")?.as_str(),
-        "device failed"
-    );
+    assert!(rt; shows(format!(in rt.alloc(); "{Failed}"), "device failed")?);
     Ok(())
 }
 

@@ -9,8 +9,8 @@ use Rattle.gltf_sinks.proofs.Counting.{none_counted}
 use Rattle.gltf_faults.proofs.laws.clean_documents_are_closed.Goals as goal
 
 pub returns-clause-clean : goal.returns-clause-clean
-returns-clause-clean c rules r clean = clean_is_closed root_kind (root_tree r) (under rules (root_tree r)) absent [] clean
+returns-clause-clean c rules r clean = clean_is_closed (under rules (root_tree r)) root_kind (root_tree r) absent [] clean
 
 pub returns-clause-none_counted : goal.returns-clause-none_counted
 returns-clause-none_counted c rules r none =
-    clean_is_closed root_kind (root_tree r) (under rules (root_tree r)) absent [] (none_counted (document_reports rules (root_tree r)) none)
+    clean_is_closed (under rules (root_tree r)) root_kind (root_tree r) absent [] (none_counted (document_reports rules (root_tree r)) none)

@@ -1,3 +1,4 @@
+use Rattle.gltf_schema.specs.Tree.{absent}
 use Rattle.gltf_root.specs.Pushed.{pushed}
 use Rattle.gltf_root.specs.RootTrees.{root_tree}
 use Rattle.gltf_faults.proofs.Growing.{grows}
@@ -5,4 +6,5 @@ use Rattle.gltf_faults.proofs.Pushes.{reports_same}
 use Rattle.gltf_faults.proofs.laws.pushes_leave_other_reports.Goals as goal
 
 pub returns : goal.returns
-returns c rules r named x kind t above base off = reports_same rules named x (root_tree r) (pushed named x (root_tree r)) (grows named x r) kind t above base off
+returns c rules r named x kind t above base sound off =
+    reports_same rules named x (root_tree r) (pushed named x (root_tree r)) (grows named x r) kind t absent above base sound off

@@ -1,8 +1,7 @@
--- The defaults of documents are written.
+-- The kind of documents is sound.
 use Rattle.gltf_schema.proofs.RefusedWhereInvalid.{refused_where_invalid}
-use Rattle.gltf_root.specs.RootTable.{root_kind}
-use Rattle.gltf_faults.proofs.DefaultsWritten.{root_defaults_are_written}
+use Rattle.gltf_root.specs.RootTable.{root_kind, root_sound}
 use Rattle.gltf_faults.proofs.laws.read_documents_are_refused_where_invalid.Goals as goal
 
 pub returns : goal.returns
-returns c d t h = refused_where_invalid root_kind d t root_defaults_are_written h
+returns c d t h = refused_where_invalid root_kind d t root_sound h

@@ -1,11 +1,12 @@
 //! Punctual lights: directional lights, point lights and spot lights (`KHR_lights_punctual`).
 
 ghost use Rattle.std.specs.Prelude.{◌≡◌, false};
+ghost use Rattle.std.proofs.Common.{lit≤};
 ghost use Rattle.serde_json.specs.Data.{no_members};
 ghost use Rattle.gltf_paths.specs.Lists.{lights};
-ghost use Rattle.gltf_schema.specs.Kind.{ObjectName};
+ghost use Rattle.gltf_schema.specs.Kind.{needs_cone};
 ghost use Rattle.gltf_schema.specs.Defaults.{defaults};
-ghost use Rattle.gltf_nodes.specs.LightTable.{light_of_node_rows, light_of_node_sound, light_rows, light_sound, spot_rows, spot_sound};
+ghost use Rattle.gltf_nodes.specs.LightTable.{light_of_node_rows, light_of_node_sound, light_of_node_height, light_rows, light_sound, light_height, spot_rows, spot_sound, spot_height};
 ghost use Rattle.gltf_nodes.specs.LightTrees.{light_of_node_members, light_members, spot_members};
 
 use gltf_base::extensions::scene::khr_lights_punctual::LightType;
@@ -24,8 +25,6 @@ pub struct KhrLightsPunctual {
 }
 
 impl Object for KhrLightsPunctual {
-    ghost named = { ObjectName.light_of_node };
-
     ghost rows = { light_of_node_rows };
 
     ghost keeps = { false };
@@ -35,6 +34,10 @@ impl Object for KhrLightsPunctual {
     ghost unknown = { λ _. no_members };
 
     ghost sound = { light_of_node_sound };
+
+    ghost height = { 1 };
+
+    ghost low = { (light_of_node_height.1, lit≤ tt) };
 
     fn decode_members(
         alloc: Global,
@@ -91,7 +94,7 @@ impl Listed for Light {
 }
 
 impl Object for Light {
-    ghost named = { ObjectName.light };
+    ghost rule = { needs_cone };
 
     ghost rows = { light_rows };
 
@@ -102,6 +105,10 @@ impl Object for Light {
     ghost unknown = { λ _. no_members };
 
     ghost sound = { light_sound };
+
+    ghost height = { 1 };
+
+    ghost low = { (light_height.1, lit≤ tt) };
 
     fn decode_members(alloc: Global, found: Map<String, Value>) -> Result<Light, Error> {
         let mut reading = Reading::from_members(alloc, found);
@@ -151,8 +158,6 @@ pub struct Spot {
 }
 
 impl Object for Spot {
-    ghost named = { ObjectName.spot };
-
     ghost rows = { spot_rows };
 
     ghost keeps = { false };
@@ -162,6 +167,10 @@ impl Object for Spot {
     ghost unknown = { λ _. no_members };
 
     ghost sound = { spot_sound };
+
+    ghost height = { 0 };
+
+    ghost low = { (spot_height.1, lit≤ tt) };
 
     fn decode_members(alloc: Global, found: Map<String, Value>) -> Result<Spot, Error> {
         let mut reading = Reading::from_members(alloc, found);

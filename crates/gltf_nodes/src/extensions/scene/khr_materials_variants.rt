@@ -1,10 +1,10 @@
 //! Variants of a document's materials (the extension `KHR_materials_variants`).
 
 ghost use Rattle.std.specs.Prelude.{false};
+ghost use Rattle.std.proofs.Common.{lit≤};
 ghost use Rattle.serde_json.specs.Data.{no_members};
 ghost use Rattle.gltf_paths.specs.Lists.{variants};
-ghost use Rattle.gltf_schema.specs.Kind.{ObjectName};
-ghost use Rattle.gltf_nodes.specs.LightTable.{variant_rows, variant_sound};
+ghost use Rattle.gltf_nodes.specs.LightTable.{variant_rows, variant_sound, variant_height};
 ghost use Rattle.gltf_nodes.specs.LightTrees.{variant_members};
 
 use gltf_base::Listed;
@@ -30,8 +30,6 @@ impl Listed for Variant {
 }
 
 impl Object for Variant {
-    ghost named = { ObjectName.variant };
-
     ghost rows = { variant_rows };
 
     ghost keeps = { false };
@@ -41,6 +39,10 @@ impl Object for Variant {
     ghost unknown = { λ _. no_members };
 
     ghost sound = { variant_sound };
+
+    ghost height = { 0 };
+
+    ghost low = { (variant_height.1, lit≤ tt) };
 
     fn decode_members(alloc: Global, found: Map<String, Value>) -> Result<Variant, Error> {
         let mut reading = Reading::from_members(alloc, found);

@@ -12,7 +12,7 @@ use Rattle.gltf_schema.proofs.leaf.decode_items.Goals as goal
 
 pub returns-in_err-decode : goal.returns-in_err-decode
 returns-in_err-decode g c =
-    let s = g.T.Schema in
+    let s = g.T.Tabled in
     let f = read s.kind in
     let before = map s.tree c.loop-item.found.items in
     let p = err_from_is_err_and c.from_residual-in_err-decode.result c.from_residual-in_err-decode.ensures.1 in
@@ -22,7 +22,7 @@ returns-in_err-decode g c =
 
 pub loop-item-preserved : goal.loop-item-preserved
 loop-item-preserved g c =
-    let s = g.T.Schema in
+    let s = g.T.Tabled in
     let f = read s.kind in
     let before = map s.tree c.loop-item.found.items in
     let after : map s.tree c.push.new.self.items ≡ before ++ s.tree c.in_ok-decode.field-0 ∷ [] = rw c.in_ok-push.ensures.items (map_push s.tree c.loop-item.found.items c.in_ok-decode.field-0) in
@@ -31,7 +31,7 @@ loop-item-preserved g c =
 
 pub returns : goal.returns
 returns g c =
-    let s = g.T.Schema in
+    let s = g.T.Tabled in
     let f = read s.kind in
     let found = map s.tree c.loop-item.found.items in
     let none : into_iter_items c.loop-item.item-iterator ≡ [] = nil_from_length _ (omega (arith, c.in-None.ensures.steps.0)) in

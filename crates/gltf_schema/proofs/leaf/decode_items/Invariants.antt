@@ -8,4 +8,4 @@ use Rattle.gltf_schema.proofs.leaf.decode_items.Given as goal
 
 abbrev pub invariant-loop-item : goal.invariant-loop-item
 invariant-loop-item g l =
-    onto with_tree (map g.T.Schema.tree l.found.items) (read_items (read g.T.Schema.kind) (items_view (into_iter_items l.item-iterator))) ≡ read_items (read g.T.Schema.kind) (items_view l.fn.items.items)
+    onto with_tree (map g.T.Tabled.tree l.found.items) (read_items (read g.T.Tabled.kind) (items_view (into_iter_items l.item-iterator))) ≡ read_items (read g.T.Tabled.kind) (items_view l.fn.items.items)

@@ -17,7 +17,7 @@ drop_item xs i x lt is = rw (add-one) (drop-cons xs i x lt ∙ ap (λ y. y ∷ d
 
 pub returns-in_err-encode : goal.returns-in_err-encode
 returns-in_err-encode g c =
-    let s = g.T.Schema in
+    let s = g.T.Tabled in
     let f = write s.kind in
     let all = c.args.items.now in
     let before = map view c.loop-item.written.items in
@@ -31,7 +31,7 @@ returns-in_err-encode g c =
 
 pub loop-item-preserved : goal.loop-item-preserved
 loop-item-preserved g c =
-    let s = g.T.Schema in
+    let s = g.T.Tabled in
     let f = write s.kind in
     let all = c.args.items.now in
     let before = map view c.loop-item.written.items in
@@ -41,7 +41,7 @@ loop-item-preserved g c =
 
 pub returns : goal.returns
 returns g c =
-    let s = g.T.Schema in
+    let s = g.T.Tabled in
     let f = write s.kind in
     let all = c.args.items.now in
     let before = map view c.loop-item.written.items in

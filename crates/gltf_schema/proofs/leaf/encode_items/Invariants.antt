@@ -8,4 +8,4 @@ use Rattle.gltf_schema.proofs.leaf.encode_items.Given as goal
 
 abbrev pub invariant-loop-item : goal.invariant-loop-item
 invariant-loop-item g l =
-    onto item (map view l.written.items) (write_items (write g.T.Schema.kind) (trees (map g.T.Schema.tree (drop l.item-index l.items)))) ≡ write_items (write g.T.Schema.kind) (trees (map g.T.Schema.tree l.items))
+    onto item (map view l.written.items) (write_items (write g.T.Tabled.kind) (trees (map g.T.Tabled.tree (drop l.item-index l.items)))) ≡ write_items (write g.T.Tabled.kind) (trees (map g.T.Tabled.tree l.items))

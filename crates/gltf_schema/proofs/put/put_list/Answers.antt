@@ -11,5 +11,5 @@ pub returns : goal.returns
 unfolding put_member
 returns g c =
     let some : nat_eq (length c.args.value.now.items) 0 ≡ false = (let e : length c.args.value.now.items ≡ c.args.value.now.len = omega arith in rw e (sym c.is_empty.ensures ∙ c.if-is_empty.false)) in
-    rw (filled g.T.Schema.tree c.args.value.now.items c.args.name.now (write (ListOf g.T.Schema.kind)) (members_view c.args.members.now.entries) _ some refl)
+    rw (filled g.T.Tabled.tree c.args.value.now.items c.args.name.now (write (ListOf g.T.Tabled.kind)) (members_view c.args.members.now.entries) _ some refl)
     c.put_always.ensures.required

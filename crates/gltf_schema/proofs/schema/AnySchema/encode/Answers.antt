@@ -24,12 +24,12 @@ pub returns-clause-valid : goal.returns-clause-valid
 unfolding put_rows
 returns-clause-valid g c =
     let t = g.T.Object in
-    written_valid (object_kind t.named t.rows t.keeps) (object (t.members c.args.self.now) (t.unknown c.args.self.now)) _
+    written_valid (object_kind t.rule t.rows t.keeps) (object (t.members c.args.self.now) (t.unknown c.args.self.now)) _
     (object_written c.in_ok-encode_members.field-0 _ c.in_ok-encode_members.ensures)
 
 pub returns-clause-reads_back : goal.returns-clause-reads_back
 unfolding put_rows
 returns-clause-reads_back g c =
     let t = g.T.Object in
-    λ plain. read_back (object_kind t.named t.rows t.keeps) (object (t.members c.args.self.now) (t.unknown c.args.self.now)) _ g.met.T.Object.sound plain
+    λ plain. read_back (object_kind t.rule t.rows t.keeps) (object (t.members c.args.self.now) (t.unknown c.args.self.now)) _ g.met.T.Object.sound plain
     (object_written c.in_ok-encode_members.field-0 _ c.in_ok-encode_members.ensures)

@@ -1,0 +1,174 @@
+//! Measures how long reading, validating and writing of one document take: `gltf_bench FILE` prints
+//! the best and the median of nine rounds for each call, in nanoseconds for a byte of the file.
+#![tactic(auto)]
+
+use anyhow::{Context, Result};
+use gltf_base::Steps;
+use gltf_json::Root;
+use gltf_json::validation::{Count, Validate, Walk};
+use serde_json::Value;
+use std::time::Instant;
+use std::{env, fs};
+
+/// What is measured.
+#[derive(Clone, Copy)]
+enum Task {
+    ReadValue,
+    ReadAndDropValue,
+    FromSlice,
+    FromValue,
+    Validate,
+    Walk,
+    ToValue,
+    ToVec,
+    CloneRoot,
+    DropRoot,
+}
+
+/// Each task, and the name that it is printed under.
+const TASKS: [(Task, &str); 10] = [
+    (Task::ReadValue, "Value::from_slice"),
+    (Task::ReadAndDropValue, "Value::from_slice and drop"),
+    (Task::FromSlice, "Root::from_slice"),
+    (Task::FromValue, "Root::from_value"),
+    (Task::Validate, "Root::validate into a Count"),
+    (Task::Walk, "Walk to its end"),
+    (Task::ToValue, "Root::to_value"),
+    (Task::ToVec, "Root::to_vec"),
+    (Task::CloneRoot, "Root::clone"),
+    (Task::DropRoot, "drop of a root"),
+];
+
+const ROUNDS: usize = 9;
+
+const USAGE: &str =
+    "usage: gltf_bench FILE\nFILE is a glTF document; gen_document.py of tools/ makes large ones.";
+
+/// The nanoseconds since `start`.
+fn nanos_since(rt: &HostRuntime, start: &Instant) -> Result<u64> {
+    let spent = start.elapsed(rt)?;
+    let whole = spent.as_secs().saturating_mul(1_000_000_000);
+    Ok(whole.saturating_add(u64::from(spent.subsec_nanos())))
+}
+
+/// Asks a walk over a document for each of its reports.
+fn walk_to_end(root: &Root) {
+    let mut walk = Walk::new(root);
+    while let Some(error) = walk.next_report() {
+        let _ = error;
+    }
+}
+
+/// The nanoseconds that a task takes once. What it makes is dropped after the clock is read, unless
+/// the drop belongs to the task.
+fn time(rt: &HostRuntime, task: Task, bytes: &[u8], root: &Root) -> Result<u64> {
+    let alloc = rt.alloc();
+    match task {
+        Task::ReadValue => {
+            let start = Instant::now(rt)?;
+            let value = Value::from_slice(alloc, bytes)?;
+            let nanos = nanos_since(rt, &start)?;
+            drop(value);
+            Ok(nanos)
+        }
+        Task::ReadAndDropValue => {
+            let start = Instant::now(rt)?;
+            drop(Value::from_slice(alloc, bytes)?);
+            nanos_since(rt, &start)
+        }
+        Task::FromSlice => {
+            let start = Instant::now(rt)?;
+            let read = Root::from_slice(alloc, bytes)?;
+            let nanos = nanos_since(rt, &start)?;
+            drop(read);
+            Ok(nanos)
+        }
+        Task::FromValue => {
+            let value = Value::from_slice(alloc, bytes)?;
+            let start = Instant::now(rt)?;
+            let read = Root::from_value(alloc, value)?;
+            let nanos = nanos_since(rt, &start)?;
+            drop(read);
+            Ok(nanos)
+        }
+        Task::Validate => {
+            let mut count = Count::new();
+            let start = Instant::now(rt)?;
+            let _ = root.validate(root, &mut Steps::new(), &mut count);
+            nanos_since(rt, &start)
+        }
+        Task::Walk => {
+            let start = Instant::now(rt)?;
+            walk_to_end(root);
+            nanos_since(rt, &start)
+        }
+        Task::ToValue => {
+            let start = Instant::now(rt)?;
+            let value = root.to_value(alloc)?;
+            let nanos = nanos_since(rt, &start)?;
+            drop(value);
+            Ok(nanos)
+        }
+        Task::ToVec => {
+            let start = Instant::now(rt)?;
+            let written = root.to_vec(alloc)?;
+            let nanos = nanos_since(rt, &start)?;
+            drop(written);
+            Ok(nanos)
+        }
+        Task::CloneRoot => {
+            let start = Instant::now(rt)?;
+            let copy = root.clone()?;
+            let nanos = nanos_since(rt, &start)?;
+            drop(copy);
+            Ok(nanos)
+        }
+        Task::DropRoot => {
+            let copy = root.clone()?;
+            let start = Instant::now(rt)?;
+            drop(copy);
+            nanos_since(rt, &start)
+        }
+    }
+}
+
+/// A number of nanoseconds for each byte, in thousandths.
+fn thousandths(nanos: u64, bytes: usize) -> u64 {
+    nanos.saturating_mul(1000) / (bytes as u64).max(1)
+}
+
+/// Prints the best and the median of the rounds of a task.
+fn report(rt: &HostRuntime, task: Task, name: &str, bytes: &[u8], root: &Root) -> Result<()> {
+    let mut rounds = Vec::with_capacity(rt.alloc(), ROUNDS)?;
+    for _ in 0..ROUNDS {
+        rounds.push(time(rt, task, bytes, root)?)?;
+    }
+    rounds.sort()?;
+    let best = thousandths(rounds.first().copied().unwrap_or(0), bytes.len());
+    let median = thousandths(rounds.get(ROUNDS / 2).copied().unwrap_or(0), bytes.len());
+    println!(rt;
+        "{name}: best {}.{:03}, median {}.{:03}",
+        best / 1000,
+        best % 1000,
+        median / 1000,
+        median % 1000
+    )?;
+    Ok(())
+}
+
+fn main(rt: HostRuntime) -> Result<()> {
+    let Some(file) = env::args(&rt)?.nth(1) else {
+        println!(rt; "{USAGE}")?;
+        return Ok(());
+    };
+    let bytes = fs::read(&rt, &file).context("the file can't be read")?;
+    let root = Root::from_slice(rt.alloc(), &bytes).context("the file is no glTF document")?;
+    println!(rt;
+        "{} bytes; nanoseconds for each byte, of {ROUNDS} rounds",
+        bytes.len()
+    )?;
+    for (task, name) in TASKS {
+        report(&rt, task, name, &bytes, &root)?;
+    }
+    Ok(())
+}

@@ -1,0 +1,69 @@
+//! Why a document could not be read or written.
+
+use std::alloc::{AllocError, AllocFailed};
+use std::fmt;
+
+/// Why a document could not be read or written. It tells the kind alone, and not the place.
+#[derive(Debug, Drop)]
+pub enum Error {
+    /// The bytes are no JSON: a fault of syntax, an early end, nesting past 127 levels, or no
+    /// UTF-8.
+    Json,
+    /// The JSON is no glTF document.
+    Schema,
+    /// An item of a choice, or the key of an attribute, was to be written that is none of its
+    /// values.
+    InvalidItem,
+    /// The reader failed.
+    Read,
+    /// The writer failed, or took no byte.
+    Write,
+    /// A growth was refused.
+    Memory(AllocError),
+    /// The reader gave more bytes than the limits allow, or not its end in the calls that they
+    /// allow.
+    TooLong,
+}
+
+impl fmt::Display for Error {
+    ghost use Rattle.std.specs.Prelude.{Some};
+    ghost use Rattle.gltf_paths.specs.ErrorText.{error_text};
+
+    ghost output = { λ e. Some (error_text e) };
+
+    fn fmt<W: fmt::Write>(&self, f: &mut fmt::Formatter<W>) -> fmt::Result {
+        f.write_str(match self {
+            Error::Json => "not JSON",
+            Error::Schema => "not a glTF document",
+            Error::InvalidItem => "invalid item",
+            Error::Read => "read failed",
+            Error::Write => "write failed",
+            Error::Memory(_) => "no memory",
+            Error::TooLong => "input too long",
+        })
+    }
+}
+
+impl std::error::Error for Error {}
+
+impl From<AllocError> for Error {
+    ghost use Rattle.std.specs.Prelude.{◌≡◌};
+    ghost use Rattle.gltf_paths.specs.declared.error.Error.TheVariants.{Memory};
+
+    ghost from_gives = { λ refused e. e ≡ Memory refused };
+
+    fn from(refused: AllocError) -> Error {
+        Error::Memory(refused)
+    }
+}
+
+impl<T: Drop> From<AllocFailed<T>> for Error {
+    ghost use Rattle.std.specs.Prelude.{◌≡◌, alloc_error};
+    ghost use Rattle.gltf_paths.specs.declared.error.Error.TheVariants.{Memory};
+
+    ghost from_gives = { λ _ e. e ≡ Memory alloc_error };
+
+    fn from(_refused: AllocFailed<T>) -> Error {
+        Error::Memory(AllocError)
+    }
+}

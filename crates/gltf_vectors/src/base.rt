@@ -1,0 +1,5 @@
+//! What documents are made of, and objects that are made by hand.
+
+mod choices;
+mod made;
+mod values;

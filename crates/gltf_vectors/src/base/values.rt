@@ -1,0 +1,254 @@
+//! Paths, semantics, numbers, indexes and errors.
+
+use crate::shown::shows;
+use gltf_base::mesh::Semantic;
+use gltf_base::validation::{Checked, Error, USize64};
+use gltf_base::{Index, KeyStep, Path, Real, Step, Steps};
+use serde_json::Value;
+use std::alloc::{AllocError, Global};
+use std::collections::HashSet;
+use std::test::Fail;
+
+/// The texts of paths that grow by each step.
+fn paths(alloc: Global) -> Result<String, AllocError> {
+    let none = Path::new(alloc);
+    let foo = none.field(alloc, "foo")?;
+    let (bar, key) = (foo.field(alloc, "bar")?, foo.key(alloc, "bar")?);
+    let first = foo.index(alloc, 0)?;
+    let named = first.value_str(alloc, "baz")?;
+    format!(in alloc; "{none} {foo} {bar} {key} {first} {named}")
+}
+
+#[test]
+fn paths_grow_by_steps(rt: HostRuntime) -> Result<(), Fail> {
+    assert!(rt;
+        shows(
+            paths(rt.alloc()),
+            " foo foo.bar foo[\"bar\"] foo[0] foo[0] = \"baz\""
+        )?
+    );
+    Ok(())
+}
+
+/// Whether a clone of a path is equal to it, and a longer one isn't.
+fn are_paths_compared(alloc: Global) -> Result<bool, AllocError> {
+    let foo = Path::new(alloc).field(alloc, "foo")?;
+    let longer = foo.index(alloc, 123)?;
+    Ok(foo.clone()? == foo && foo != longer && longer.as_str() == "foo[123]")
+}
+
+/// The steps to a member of an item of an attribute.
+fn attribute_steps(semantic: &Checked<Semantic>) -> Result<Steps<'_>, Fail> {
+    let mut steps = Steps::new();
+    steps.try_push(Step::Field("a"))?;
+    steps.try_push(Step::Attribute(semantic))?;
+    steps.try_push(Step::Index(2))?;
+    steps.try_push(Step::Field("b"))?;
+    Ok(steps)
+}
+
+/// The text of the path to a member of an item of an attribute.
+fn steps_shown(alloc: Global) -> Result<String, Fail> {
+    let invalid = Checked::Invalid;
+    let steps = attribute_steps(&invalid)?;
+    let path = Path::of(alloc, &steps)?;
+    Ok(format!(in alloc; "{path} {:?}", Step::default())?)
+}
+
+/// The step of a text that is a key, as it is debugged.
+fn text_key_shown(alloc: Global) -> Result<String, Fail> {
+    let name = String::from_str(alloc, "c")?;
+    let key = name.key_step();
+    Ok(format!(in alloc; "{key:?}")?)
+}
+
+/// The step of a semantic, as it is debugged.
+fn attribute_key_shown(alloc: Global) -> Result<String, Fail> {
+    let normals = Checked::Valid(Semantic::Normals);
+    let key = normals.key_step();
+    Ok(format!(in alloc; "{key:?}")?)
+}
+
+#[test]
+fn paths_are_compared_and_made_of_steps(rt: HostRuntime) -> Result<(), Fail> {
+    assert!(rt; are_paths_compared(rt.alloc())?);
+    assert!(rt;
+        shows(
+            steps_shown(rt.alloc()),
+            "a[\"<invalid semantic name>\"][2].b Index(0)"
+        )?
+    );
+    assert!(rt; shows(text_key_shown(rt.alloc()), "Key(\"c\")")?);
+    assert!(rt; shows(attribute_key_shown(rt.alloc()), "Attribute(Valid(Normals))")?);
+    Ok(())
+}
+
+/// The name of an attribute, and how its key is printed and debugged.
+type Named = (&'static str, &'static str);
+
+const NAMED: [Named; 24] = [
+    ("POSITION", "POSITION Valid(Positions)"),
+    ("NORMAL", "NORMAL Valid(Normals)"),
+    ("TANGENT", "TANGENT Valid(Tangents)"),
+    (
+        "COLOR_4294967295",
+        "COLOR_4294967295 Valid(Colors(4294967295))",
+    ),
+    ("TEXCOORD_007", "TEXCOORD_7 Valid(TexCoords(7))"),
+    ("JOINTS_+0", "JOINTS_0 Valid(Joints(0))"),
+    ("WEIGHTS_10", "WEIGHTS_10 Valid(Weights(10))"),
+    ("_", "_ Valid(Extras(\"\"))"),
+    ("_POSITION", "_POSITION Valid(Extras(\"POSITION\"))"),
+    ("__+", "__+ Valid(Extras(\"_+\"))"),
+    ("", NO_NAME),
+    ("position", NO_NAME),
+    ("POSITIONS", NO_NAME),
+    ("COLOR", NO_NAME),
+    ("COLOR_", NO_NAME),
+    ("COLOR_1a", NO_NAME),
+    ("COLOR_4294967296", NO_NAME),
+    ("JOINTS_++0", NO_NAME),
+    ("JOINTS_-0", NO_NAME),
+    ("TEXCOORD_ 1", NO_NAME),
+    ("WEIGHTS_+", NO_NAME),
+    ("JOINTS_0x1", NO_NAME),
+    ("COLOR_1.0", NO_NAME),
+    ("TEXCOORD", NO_NAME),
+];
+
+const NO_NAME: &str = "<invalid semantic name> Invalid";
+
+/// Whether the name of an attribute is read as the key that is shown so.
+fn is_named(alloc: Global, (name, shown): &Named) -> Result<bool, AllocError> {
+    let key = Semantic::checked(alloc, name)?;
+    let written = key.to_string(alloc)?;
+    Ok(format!(in alloc; "{written} {key:?}")?.as_str() == *shown)
+}
+
+#[test]
+fn names_of_attributes_are_read(rt: HostRuntime) -> Result<(), Fail> {
+    for named in NAMED.iter() {
+        assert!(rt; is_named(rt.alloc(), named)?, "{}", named.0);
+    }
+    Ok(())
+}
+
+/// Whether keys are ordered, cloned, and lent as they should.
+fn are_keys_values(alloc: Global) -> Result<bool, AllocError> {
+    let last = Checked::Valid(Semantic::Weights(4294967295));
+    let own = Checked::Valid(Semantic::Extras(String::from_str(alloc, "z")?));
+    Ok(
+        last < Checked::Invalid
+            && own < Checked::Valid(Semantic::Positions)
+            && own.clone()? == own
+            && matches!(own.as_ref(), Checked::Valid(Semantic::Extras(_))),
+    )
+}
+
+/// A semantic, a checked number, a default, sizes and a fault, as they are printed or debugged.
+fn values_shown(alloc: Global) -> Result<String, AllocError> {
+    let name = Semantic::Colors(1).to_string(alloc)?;
+    let (semantic, seven) = (Semantic::Colors(1), Checked::Valid(7u32).unwrap());
+    let (none, size) = (Checked::<u32>::default(), USize64::default());
+    let sizes = (USize64::from(u64::MAX), USize64::from(3usize));
+    format!(in alloc;
+        "{name} {semantic:?} {seven} {none:?} {size:?} {sizes:?} {:?}",
+        Error::Missing
+    )
+}
+
+#[test]
+fn keys_and_sizes_are_values(rt: HostRuntime) -> Result<(), Fail> {
+    assert!(rt; are_keys_values(rt.alloc())?);
+    assert!(rt;
+        shows(
+            values_shown(rt.alloc()),
+            "COLOR_1 Colors(1) 7 Valid(0) USize64(0) (USize64(18446744073709551615), USize64(3)) Missing"
+        )?
+    );
+    Ok(())
+}
+
+/// The faults in their order, with their texts.
+const FAULTS: [(Error, &str); 5] = [
+    (Error::IndexOutOfBounds, "Index out of bounds"),
+    (Error::Invalid, "Invalid value"),
+    (Error::Missing, "Missing data"),
+    (Error::Oversize, "Size exceeds system limits"),
+    (Error::Unsupported, "Unsupported extension"),
+];
+
+/// Whether a fault has its text, and stands behind the one before.
+fn is_next(
+    alloc: Global,
+    before: Option<Error>,
+    fault: &(Error, &str),
+) -> Result<bool, AllocError> {
+    let error = fault.0;
+    Ok(before < Some(error) && format!(in alloc; "{error}")?.as_str() == fault.1)
+}
+
+#[test]
+fn faults_have_texts_and_an_order(rt: HostRuntime) -> Result<(), Fail> {
+    let mut before = None;
+    for fault in FAULTS.iter() {
+        assert!(rt; is_next(rt.alloc(), before, fault)?, "{}", fault.1);
+        before = Some(fault.0);
+    }
+    Ok(())
+}
+
+/// The fraction that a JSON text is read as, if it is a number.
+fn fraction(alloc: Global, text: &str) -> Result<Option<f64>, Fail> {
+    match Real::from_value(Value::from_str(alloc, text)?) {
+        Ok(real) => Ok(real.as_value().as_f64()),
+        Err(_) => Ok(None),
+    }
+}
+
+/// Whether a whole number, and a clone of it, hold it.
+fn is_whole(number: i64) -> Result<bool, AllocError> {
+    let real = Real::from_i64(number);
+    let is_cloned = real.clone()?.as_value().as_i64() == Some(number);
+    Ok(is_cloned && real.as_value().as_i64() == Some(number))
+}
+
+#[test]
+fn reals_are_numbers_alone(rt: HostRuntime) -> Result<(), Fail> {
+    assert_eq!(rt; fraction(rt.alloc(), "null")?, None);
+    assert_eq!(rt; fraction(rt.alloc(), "-0.5")?, Some(-0.5));
+    assert!(rt; is_whole(1)? && is_whole(i64::MIN)?);
+    Ok(())
+}
+
+/// Whether indexes are compared and hashed by their numbers.
+fn are_indexes_numbers(alloc: Global) -> Result<bool, AllocError> {
+    let (one, more) = (Index::<String>::new(1), Index::new(1234));
+    let mut indexes = HashSet::new(alloc);
+    indexes.insert(one)?;
+    indexes.insert(more)?;
+    Ok(
+        one == Index::new(1)
+            && one != Index::new(2)
+            && one < more
+            && indexes.contains(&more)
+            && !indexes.contains(&Index::new(999))
+            && indexes.len() == 2,
+    )
+}
+
+/// Indexes of items that are pushed onto a list, and the greatest, as they are shown.
+fn indexes_shown(alloc: Global) -> Result<String, Fail> {
+    let mut list = Vec::new(alloc);
+    let first = Index::push(&mut list, "hello")?;
+    let second = Index::push(&mut list, "hello")?;
+    let last = Index::<String>::new(u32::MAX);
+    Ok(format!(in alloc; "{first} {second:?} {} {}", list.len(), last.value())?)
+}
+
+#[test]
+fn indexes_are_numbers(rt: HostRuntime) -> Result<(), Fail> {
+    assert!(rt; are_indexes_numbers(rt.alloc())?);
+    assert!(rt; shows(indexes_shown(rt.alloc()), "0 1 2 4294967295")?);
+    Ok(())
+}

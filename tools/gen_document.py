@@ -1,10 +1,11 @@
 #!/usr/bin/env python3
-"""gen_document.py [--mb N] [--faults K] [--seed S] > FILE.gltf
+"""gen_document.py [--mb N] [--faults K] [--faulty items|leaves] [--seed S] > FILE.gltf
 
 A large document of everything that the format lists, of close to N million bytes of compact JSON, to measure with: a tree
 of nodes with transforms, meshes with indices and four attributes each, materials and textures, animations, skins, lights.
-It has no faults. --faults K breaks K indexes, spread evenly over the meshes of nodes. The same parameters give the same
-bytes.
+It has no faults. --faults K breaks K indexes, spread evenly over the meshes of nodes. --faulty items breaks an index or a
+choice in each item of each list; --faulty leaves adds a morph target to each mesh and breaks its last index, which is the
+last leaf of the mesh. The same parameters give the same bytes.
 """
 import json
 import sys
@@ -15,6 +16,7 @@ BYTES_OF_A_MESH = 1660  # with all that is listed for it, about
 MESHES = max(1, int(given.mb * 1e6 / BYTES_OF_A_MESH))
 MATERIALS, TEXTURES, LIGHTS = max(1, MESHES // 2), max(1, MESHES // 4), 8
 FLOAT, UNSIGNED_INT, ARRAY_BUFFER, ELEMENT_ARRAY_BUFFER = 5126, 5125, 34962, 34963
+NOTHING = 4000000000  # an index that names no item
 COMPONENTS = {"SCALAR": 1, "VEC2": 2, "VEC3": 3, "VEC4": 4, "MAT4": 16}
 
 views, accessors = [], []
@@ -130,7 +132,37 @@ for i, node in enumerate(nodes):
 animations = [animation(i, len(nodes)) for i in range(max(1, MESHES // 40))]
 skins = [skin(len(nodes)) for _ in animations]
 for k in range(given.faults):
-    nodes[2 * (k * MESHES // given.faults)]["mesh"] = 4000000000
+    nodes[2 * (k * MESHES // given.faults)]["mesh"] = NOTHING
+def break_items():
+    for node in nodes:
+        node["skin"] = NOTHING
+    for made in meshes:
+        made["primitives"][0]["material"] = NOTHING
+    for made in materials:
+        made["emissiveTexture"] = {"index": NOTHING}
+    for accessor in accessors:
+        accessor["bufferView"] = NOTHING
+    for view in views:
+        view["buffer"] = NOTHING
+    for made in animations:
+        for channel in made["channels"]:
+            channel["target"]["node"] = NOTHING
+        for sampler in made["samplers"]:
+            sampler["output"] = NOTHING
+    for made in skins:
+        made["skeleton"] = NOTHING
+
+
+def break_leaves():
+    for made in meshes:
+        made["primitives"][-1]["targets"] = [{"POSITION": 0, "NORMAL": 1, "TANGENT": NOTHING}]
+
+
+if given.faulty == "items":
+    break_items()
+elif given.faulty == "leaves":
+    break_leaves()
+source = NOTHING if given.faulty == "items" else None
 document = {
     "asset": {"version": "2.0", "generator": "gen_document.py"},
     "scene": 0,
@@ -140,7 +172,7 @@ document = {
     "nodes": nodes,
     "meshes": meshes,
     "materials": materials,
-    "textures": [{"name": f"texture_{i:05}", "sampler": i % 2, "source": i} for i in range(TEXTURES)],
+    "textures": [{"name": f"texture_{i:05}", "sampler": i % 2, "source": source or i} for i in range(TEXTURES)],
     "images": [{"name": f"image_{i:05}", "uri": f"textures/{i:05}.png", "mimeType": "image/png"} for i in range(TEXTURES)],
     "samplers": [{"magFilter": 9729, "minFilter": 9987}, {"wrapS": 33071, "wrapT": 33648}],
     "animations": animations,

@@ -1,12 +1,13 @@
 #!/usr/bin/env python3
-"""gen_objects.py: what gltf_corpus tries at each object of the format, and what it must answer.
+"""gen_objects.py: what gltf_corpus tries at each object of the format, and what it expects.
 
-It writes crates/gltf_corpus/data/objects.json, and the lines of crates/gltf_corpus/stdout from the
-line `# objects` on. What must be answered is worked out by table.py, never taken from the program.
+It writes crates/gltf_corpus/data/objects.json. What is expected is worked out by table.py, never
+taken from the program.
 
-objects.json has the values that stand in for each member in turn; for each object its place, and a
-document in which each of its members has a value that isn't its default; and the objects of
-object_forms.py, each as the member of a document that holds it.
+objects.json has the values that stand in for each member in turn; the names of the fields that a
+Debug text has; for each object its place, a document in which each of its members has a value that
+isn't its default, and for each member a line that says what becomes of the values; and the objects
+of object_forms.py, each as the member of a document that holds it, with such a line.
 """
 import collections
 import json
@@ -128,9 +129,9 @@ def found_of(name, member, value):
     return found if found in (REFUSED, INVALID) else found.get(member, ABSENT)
 
 
-def line_of(head, outcomes):
+def line_of(outcomes):
     """A line: each outcome but a refusal, and behind it its values, in their order."""
-    line, last = head, REFUSED
+    line, last = "", REFUSED
     for outcome, value in outcomes:
         if outcome != REFUSED:
             line += "" if outcome == last else f"; {outcome}:"
@@ -167,8 +168,19 @@ def fields_of(kind):
         yield "{Valid(Positions)"
 
 
+def place_of(steps):
+    """The place that steps lead to, as a JSON pointer."""
+    return "".join(f"/{step}" for step in steps)
+
+
+def line_of_member(name, member):
+    """What becomes of each value, and of none, as a member of an object."""
+    found = [(found_of(name, member, value), value) for value in [ABSENT, *VALUES]]
+    return line_of((told(written, value), value) for written, value in found)
+
+
 def forms():
-    """The objects worked by hand, each as a member of a document, with what that is written as."""
+    """The objects worked by hand, each as a member of a document, with what becomes of it."""
     for line in FORMS.strip().split("\n"):
         name, form = line.split(" ", 1)
         given, _, hand = form.partition(" -> ")
@@ -177,42 +189,34 @@ def forms():
         assert found == (INVALID if hand == "invalid" else json.loads(hand or given)), line
         member = PLACES[name][0]
         written = found if found is INVALID else holding(name, found)[member]
-        yield member, holding(name, value)[member], written
+        held = holding(name, value)[member]
+        missing = told(found_of("Root", member, ABSENT), ABSENT)
+        outcomes = [(missing, ABSENT), (told(written, held), held)]
+        yield {"name": member, "values": [held], "line": line_of(outcomes)}
 
 
-def lines():
-    """What the program must print from the line `# objects` on."""
-    yield "# objects"
-    for name, count in sorted(collections.Counter(fields_of("Root")).items()):
-        yield f"{name}: {count}"
+def objects():
+    """Each object: its place, a document that has all its members, and what becomes of them."""
     for name, steps in PLACES.items():
-        place = "".join(f"/{step}" for step in steps)
-        for member in sorted([*sample(name), UNKNOWN]):
-            found = [(found_of(name, member, value), value) for value in [ABSENT, *VALUES]]
-            outcomes = [(told(written, value), value) for written, value in found]
-            yield line_of(f"{place}/{member}", outcomes)
-    for member, value, written in forms():
-        missing = found_of("Root", member, ABSENT)
-        outcomes = [(told(missing, ABSENT), ABSENT), (told(written, value), value)]
-        yield line_of(f"/{member}", outcomes)
+        members = {member: line_of_member(name, member) for member in [*sample(name), UNKNOWN]}
+        document = holding(name, sample(name))
+        yield f'{{"at":"{place_of(steps)}","in":{compact(document)},"members":{{'
+        lines = (f"{compact(member)}:{compact(line)}" for member, line in sorted(members.items()))
+        yield ",\n".join(lines)
+        yield "}}" if name == [*PLACES][-1] else "}},"
 
 
 def data():
     """What the program reads."""
     yield f'{{"values":{compact(VALUES)},'
+    yield f'"fields":{compact(collections.Counter(fields_of("Root")))},'
     yield '"objects":['
-    objects = [
-        {"at": "".join(f"/{step}" for step in steps), "in": holding(name, sample(name))}
-        for name, steps in PLACES.items()
-    ]
-    yield ",\n".join(map(compact, objects))
+    yield from objects()
     yield f'],"least":{compact(least("Root"))},'
     yield '"forms":['
-    yield ",\n".join(compact({"name": name, "values": [value]}) for name, value, _ in forms())
+    yield ",\n".join(map(compact, forms()))
     yield "]}"
 
 
 if __name__ == "__main__":
     (CORPUS / "data" / "objects.json").write_text("".join(f"{line}\n" for line in data()))
-    documents = (CORPUS / "stdout").read_text().split("# objects\n")[0]
-    (CORPUS / "stdout").write_text(documents + "".join(f"{line}\n" for line in lines()))

@@ -1,5 +1,5 @@
 """Objects that are worked by hand: the type of each, its JSON, and behind an arrow what it is written as (without one: as it is;
-`invalid`: it is read, and isn't written). The types are those of the table in gen_objects.py."""
+`invalid`: it is read, and isn't written). The types are those of table.py."""
 
 FORMS = r"""
 Accessor {"count":0,"componentType":5120,"type":"MAT3","normalized":false,"name":null,"min":null,"zz":1} -> {"count":0,"componentType":5120,"type":"MAT3"}
@@ -81,6 +81,7 @@ Mesh {"primitives":[]}
 Mesh {"extensions":{"EXT_x":1},"extras":1,"name":"a","primitives":[{"attributes":{}}],"weights":[]}
 Primitive {"attributes":{},"mode":4,"targets":[]} -> {"attributes":{},"targets":[]}
 Primitive {"attributes":{"COLOR_+1":0,"COLOR_01":1,"COLOR_1":2}} -> {"attributes":{"COLOR_1":2}}
+Primitive {"attributes":{"WEIGHTS_10":0,"_POSITION":1,"__+":2}}
 Primitive {"attributes":{"TEXCOORD_007":1,"JOINTS_+0":2},"targets":[{"POSITION":0,"NORMAL":null},{}]} -> {"attributes":{"TEXCOORD_7":1,"JOINTS_0":2},"targets":[{"POSITION":0},{}]}
 Primitive {"attributes":{"_":0,"__x":1,"POSITION":2,"NORMAL":3,"TANGENT":4,"COLOR_0":5,"WEIGHTS_4294967295":6},"extensions":{"KHR_materials_variants":{"mappings":[{"material":0,"variants":[]}]},"EXT_x":1},"extras":1,"indices":0,"material":0,"mode":0,"targets":[{"POSITION":0,"NORMAL":1,"TANGENT":2}]}
 MorphTarget {"POSITION":2,"NORMAL":1,"TANGENT":0}
@@ -136,4 +137,10 @@ Camera {"type":"Perspective"} -> invalid
 Light {"type":"foo"} -> invalid
 Material {"alphaMode":"opaque"} -> invalid
 Primitive {"attributes":{"FOO":0,"POSITION":0}} -> invalid
+Primitive {"attributes":{"JOINTS_++0":0}} -> invalid
+Primitive {"attributes":{"JOINTS_-0":0}} -> invalid
+Primitive {"attributes":{"TEXCOORD_ 1":0}} -> invalid
+Primitive {"attributes":{"WEIGHTS_+":0}} -> invalid
+Primitive {"attributes":{"JOINTS_0x1":0}} -> invalid
+Primitive {"attributes":{"COLOR_1.0":0}} -> invalid
 """

@@ -1,2 +1,1 @@
-pub mod AnimationTable
-pub mod AnimationTrees
+pub mod Animation

@@ -5,8 +5,7 @@ ghost use Rattle.std.proofs.Common.{lit≤};
 ghost use Rattle.serde_json.specs.Data.{no_members};
 ghost use Rattle.gltf_paths.specs.Lists.{animations};
 ghost use Rattle.gltf_schema.specs.Kind.{holds_samplers};
-ghost use Rattle.gltf_animations.specs.AnimationTable.{animation_rows, animation_sound, animation_height, animation_channel_rows, animation_channel_sound, animation_channel_height, animation_target_rows, animation_target_sound, animation_target_height, animation_sampler_rows, animation_sampler_sound, animation_sampler_height};
-ghost use Rattle.gltf_animations.specs.AnimationTrees.{animation_members, animation_channel_members, animation_target_members, animation_sampler_members};
+ghost use Rattle.gltf_animations.specs.Animation.{animation_rows, animation_sound, animation_height, animation_channel_rows, animation_channel_sound, animation_channel_height, animation_target_rows, animation_target_sound, animation_target_height, animation_sampler_rows, animation_sampler_sound, animation_sampler_height, animation_members, animation_channel_members, animation_target_members, animation_sampler_members};
 
 use crate::extensions;
 use gltf_base::animation::{Interpolation, Property};
@@ -93,7 +92,7 @@ impl Object for Animation {
 }
 
 /// A property of a node, and the sampler that it follows.
-// What takes longest to drop stands last (docs/DECISIONS.md).
+// What takes longest to drop comes last (docs/DECISIONS.md).
 #[derive(Clone, Debug, Drop)]
 pub struct Channel {
     /// The sampler, one of the same animation's.

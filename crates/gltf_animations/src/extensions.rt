@@ -1,3 +1,3 @@
-//! Extension objects of animations: what stands behind their member `extensions`.
+//! Extension objects of animations: the values of their member `extensions`.
 
 pub mod animation;

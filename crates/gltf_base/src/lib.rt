@@ -1,6 +1,5 @@
-//! What every part of a glTF 2.0 document stands on: paths, choices, indexes, numbers. This crate
-//! names what `gltf_checked`, `gltf_choices` and `gltf_paths` hold, under the modules of the
-//! format.
+//! What every part of a glTF 2.0 document uses: paths, choices, indexes, numbers. This crate names
+//! what `gltf_checked`, `gltf_choices` and `gltf_paths` hold, under the modules of the format.
 #![tactic(auto)]
 
 pub use gltf_paths::{
@@ -60,8 +59,8 @@ pub mod image {
     pub use gltf_choices::image::VALID_MIME_TYPES;
 }
 
-/// What holds of the definitions that contracts of these crates cite, as contracts of functions that
-/// do nothing.
+/// Laws of the definitions that contracts of these crates cite. Each is the contract of a function
+/// that does nothing.
 pub mod laws {
     pub use gltf_checked::choice::spellings_are_read_back;
     pub use gltf_checked::laws::{
@@ -142,7 +141,7 @@ pub mod mesh {
     };
 }
 
-/// Where a thing stands in a document, as text and as steps.
+/// The place of a thing in a document, as text and as steps.
 pub mod path {
     pub use gltf_paths::path::{KeyStep, Path, Step, Steps};
 }

@@ -1,23 +1,24 @@
 -- The text of a key, read again.
-use Rattle.std.proofs.Common.{◌≡◌, ℕ, Bool, true, false, codes, List, refl}
+use Rattle.std.proofs.Common.{◌≡◌, ℕ, ◌^◌, Bool, true, false, codes, List, refl}
 use Rattle.std.specs.Str.{bytes_eq}
+use Rattle.std.proofs.lemmas.Bool.{false≢true, ltb-true}
 use Rattle.std.proofs.lemmas.Slice.Eq.{bytes_eq-Decides}
 use Rattle.gltf_checked.specs.Keys.{Key, extras, positions, normals, tangents, colors, tex_coords, joints, weights, unknown, key_text}
-use Rattle.gltf_checked.specs.Names.{set_key, plain_key, key_named, IsNamed}
+use Rattle.gltf_checked.specs.Names.{set_key, plain_key, key_named, is_named}
 use Rattle.gltf_checked.proofs.SetLemmas.{set_number-decimal}
 
 -- the text of a semantic's key is read as that key
-pub key_named-key_text : (key : Key) → IsNamed key → key_named (key_text key) ≡ key
+pub key_named-key_text : (key : Key) → is_named key ≡ true → key_named (key_text key) ≡ key
 unfolding key_named
 key_named-key_text (extras name) named = refl
 key_named-key_text positions named = refl
 key_named-key_text normals named = refl
 key_named-key_text tangents named = refl
-key_named-key_text (colors set) small = rw (set_number-decimal set small) refl
-key_named-key_text (tex_coords set) small = rw (set_number-decimal set small) refl
-key_named-key_text (joints set) small = rw (set_number-decimal set small) refl
-key_named-key_text (weights set) small = rw (set_number-decimal set small) refl
-key_named-key_text unknown named = absurd named
+key_named-key_text (colors set) small = rw (set_number-decimal set (ltb-true set (2 ^ 32) small)) refl
+key_named-key_text (tex_coords set) small = rw (set_number-decimal set (ltb-true set (2 ^ 32) small)) refl
+key_named-key_text (joints set) small = rw (set_number-decimal set (ltb-true set (2 ^ 32) small)) refl
+key_named-key_text (weights set) small = rw (set_number-decimal set (ltb-true set (2 ^ 32) small)) refl
+key_named-key_text unknown named = absurd (false≢true named)
 
 -- texts that differ are told apart
 bytes_eq-other : (s t : List ℕ) (b : Bool) → bytes_eq s t ≡ b → (s ≡ t → ⊥) → b ≡ false

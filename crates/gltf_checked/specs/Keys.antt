@@ -28,7 +28,7 @@ key_text (joints set) = codes "JOINTS_" ++ decimal set
 key_text (weights set) = codes "WEIGHTS_" ++ decimal set
 key_text unknown = codes "<invalid semantic name>"
 
--- where a key stands among those of other meanings
+-- the place of a key among those of other meanings
 abbrev pub key_rank : Key → ℕ
 key_rank (extras name) = 0
 key_rank positions = 1

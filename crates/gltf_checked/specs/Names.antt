@@ -1,5 +1,5 @@
 -- The key that the name of an attribute is read as (glTF 2.0, section 3.7.2.1).
-use Rattle.std.specs.Prelude.{ℕ, ◌^◌, ◌<◌, ◌==◌, nat_lt, length, List, [], ◌∷◌, ⊤, ◌&&◌, Option, Some, None, option_map, option_and_then, unwrap_or, codes, if◌then◌else◌}
+use Rattle.std.specs.Prelude.{ℕ, ◌^◌, ◌==◌, nat_lt, length, List, [], ◌∷◌, Bool, true, false, ◌&&◌, Option, Some, None, option_map, option_and_then, unwrap_or, codes, if◌then◌else◌}
 use Rattle.std.specs.Str.{bytes_eq, all_ascii_digits}
 use Rattle.std.specs.Str.Parse.{digits_value, without_leading_plus}
 use Rattle.gltf_checked.specs.Keys.{Key, extras, positions, normals, tangents, colors, tex_coords, joints, weights, unknown}
@@ -13,7 +13,7 @@ number_written digits =
 abbrev pub set_number : List ℕ → Option ℕ
 set_number text = number_written (without_leading_plus text)
 
--- what stands behind a prefix
+-- what is behind a prefix
 abbrev pub behind : List ℕ → List ℕ → Option (List ℕ)
 behind [] text = Some text
 behind (p ∷ ps) [] = None
@@ -33,11 +33,11 @@ plain_key text = if bytes_eq text (codes "POSITION") then positions else if byte
 unfoldable pub key_named : List ℕ → Key
 key_named text = unwrap_or (option_map extras (behind (codes "_") text)) (plain_key text)
 
--- the keys that have names of their own: those of semantics, with sets of 32 bits
-abbrev pub IsNamed : Key → Type 0
-IsNamed (colors set) = set < 2 ^ 32
-IsNamed (tex_coords set) = set < 2 ^ 32
-IsNamed (joints set) = set < 2 ^ 32
-IsNamed (weights set) = set < 2 ^ 32
-IsNamed unknown = ⊥
-IsNamed _ = ⊤
+-- the key has a name: it is that of a semantic, and a set has 32 bits
+abbrev pub is_named : Key → Bool
+is_named (colors set) = nat_lt set (2 ^ 32)
+is_named (tex_coords set) = nat_lt set (2 ^ 32)
+is_named (joints set) = nat_lt set (2 ^ 32)
+is_named (weights set) = nat_lt set (2 ^ 32)
+is_named unknown = false
+is_named _ = true

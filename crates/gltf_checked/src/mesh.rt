@@ -1,11 +1,11 @@
 //! What the attributes of meshes mean.
 
-ghost use Rattle.std.specs.Prelude.{◌≡◌, ◌++◌, codes, option_and_then, IsOk, IfOk, OnOk};
+ghost use Rattle.std.specs.Prelude.{◌≡◌, ◌++◌, codes, option_and_then, IsTrue, IsOk, IfOk, OnOk};
 ghost use Rattle.std.specs.Option.{option_copied};
 ghost use Rattle.std.specs.Fmt.{decimal};
 ghost use Rattle.std.specs.String.{string_bytes};
 ghost use Rattle.gltf_checked.specs.Keys.{Key, key_text};
-ghost use Rattle.gltf_checked.specs.Names.{behind, set_number, set_key, plain_key, key_named, IsNamed};
+ghost use Rattle.gltf_checked.specs.Names.{behind, set_number, set_key, plain_key, key_named, is_named};
 ghost use Rattle.gltf_checked.specs.Semantics.{semantic_key, checked_key};
 
 use crate::validation::Checked;
@@ -17,7 +17,7 @@ use std::fmt::Write;
 pub enum Semantic {
     /// An attribute of an application's own, without the underscore.
     Extras(String),
-    /// Where the vertices stand.
+    /// The positions of the vertices.
     Positions,
     /// The directions at right angles to the surface.
     Normals,
@@ -34,8 +34,8 @@ pub enum Semantic {
 }
 
 impl Semantic {
-    /// The semantic that an attribute's name means (glTF 2.0, section 3.7.2.1). Memory is taken for
-    /// the name of an application's own attribute alone; `Err` comes only where it was refused.
+    /// Returns the semantic that an attribute's name means (glTF 2.0, section 3.7.2.1). Memory is
+    /// taken only for the name of an application's own attribute. Fails only if it was refused.
     #[tactic(auto, unfolding(crate::specs::Names::key_named))]
     pub fn checked(alloc: Global, text: &str) -> Result<Checked<Semantic>, AllocError>
         ensures key { IfOk result (λ semantic. checked_key semantic ≡ key_named text.now) }
@@ -50,11 +50,11 @@ impl Semantic {
         }
     }
 
-    /// The attribute's name that means the semantic. [`Semantic::checked`] reads it back. `Err`
-    /// comes only where memory was refused.
+    /// Returns the attribute's name that means the semantic. [`Semantic::checked`] reads it back.
+    /// Fails only if memory was refused.
     pub fn to_string(&self, alloc: Global) -> Result<String, AllocError>
         ensures text { IfOk result (λ text. string_bytes text ≡ key_text (semantic_key self.now)) }
-        ensures named { OnOk result (IsNamed (semantic_key self.now)) }
+        ensures named { OnOk result (IsTrue (is_named (semantic_key self.now))) }
     {
         let mut text = String::new(alloc);
         write_valid(&mut text, self)?;
@@ -63,8 +63,8 @@ impl Semantic {
 }
 
 impl Checked<Semantic> {
-    /// The attribute's name that means the semantic, or the text that stands for none. `Err` comes
-    /// only where memory was refused.
+    /// Returns the attribute's name that means the semantic, or the text for an invalid one. Fails
+    /// only if memory was refused.
     pub fn to_string(&self, alloc: Global) -> Result<String, AllocError>
         ensures { IfOk result (λ text. string_bytes text ≡ key_text (checked_key self.now)) }
     {
@@ -103,14 +103,14 @@ fn set_semantic(text: &str) -> Checked<Semantic>
     }
 }
 
-/// The number of the set, where a prefix and nothing else stands before it.
+/// The number of the set, if a prefix and nothing else is before it.
 fn set_behind(prefix: &str, text: &str) -> Option<u32>
     ensures { result ≡ option_and_then set_number (behind prefix.now text.now) }
 {
     parse_set(strip(prefix, text)?)
 }
 
-/// What stands behind a prefix.
+/// What is behind a prefix.
 fn strip<'a>(prefix: &str, text: &'a str) -> Option<&'a str>
     ensures { option_copied result ≡ behind prefix.now text.now }
 {
@@ -123,8 +123,8 @@ fn parse_set(text: &str) -> Option<u32>
     text.parse().ok()
 }
 
-/// Appends the text of a semantic or of none. `Err` comes only where memory was refused; part of
-/// the text may have been appended then.
+/// Appends the text of a semantic or of none. Fails only if memory was refused; part of the text
+/// may have been appended then.
 pub fn write_semantic(text: &mut String, semantic: &Checked<Semantic>) -> Result<(), AllocError>
     ensures { OnOk result (string_bytes text.new
         ≡ string_bytes text.old ++ key_text (checked_key semantic.now)) }
@@ -138,7 +138,7 @@ pub fn write_semantic(text: &mut String, semantic: &Checked<Semantic>) -> Result
 fn write_valid(text: &mut String, semantic: &Semantic) -> Result<(), AllocError>
     ensures text { OnOk result (string_bytes text.new
         ≡ string_bytes text.old ++ key_text (semantic_key semantic.now)) }
-    ensures named { IsNamed (semantic_key semantic.now) }
+    ensures named { IsTrue (is_named (semantic_key semantic.now)) }
 {
     match semantic {
         Semantic::Extras(name) => write!(text, "_{name}"),
@@ -162,5 +162,5 @@ fn write_set(text: &mut String, prefix: &str, set: u32) -> Result<(), AllocError
 
 /// The text of each semantic is read as that semantic.
 pub fn texts_are_read_back()
-    ensures { (key : Key) → IsNamed key → key_named (key_text key) ≡ key }
+    ensures { (key : Key) → IsTrue (is_named key) → key_named (key_text key) ≡ key }
 {}

@@ -29,7 +29,8 @@ generic_component_types =
     record { 0 = component.I8 } ∷ record { 0 = component.U8 } ∷ record { 0 = component.I16 }
     ∷ record { 0 = component.U16 } ∷ record { 0 = component.U32 } ∷ record { 0 = component.F32 } ∷ []
 
--- glTF 2.0, section 5.3.3: accessor.sparse.indices.componentType; whatever it holds is spelled, and fewer types are read
+-- glTF 2.0, section 5.3.3: accessor.sparse.indices.componentType; whatever it holds is spelled, and
+-- fewer types are read
 abbrev pub index_component_type_spelling : IndexComponentType → Spelling
 index_component_type_spelling c = component_type_spelling c.0
 

@@ -1,4 +1,5 @@
--- How a document spells the choices of animations, cameras, lights and materials, and which items are read.
+-- How a document spells the choices of animations, cameras, lights and materials, and which items
+-- are read.
 use Rattle.std.specs.Prelude.{List, [], ◌∷◌, codes}
 use Rattle.gltf_checked.specs.Spelling.{Spelling, by_name}
 use Rattle.gltf_choices.specs.declared.animation.Interpolation.{Interpolation}

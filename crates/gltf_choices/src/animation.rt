@@ -86,7 +86,7 @@ impl Interpolation {
 /// The property of a node that an animation moves (glTF 2.0, section 5.7.2).
 #[derive(Clone, Copy, Debug, PartialEq, Eq)]
 pub enum Property {
-    /// Where the node stands.
+    /// The place of the node.
     Translation = 1,
     /// How it is turned.
     Rotation,

@@ -15,15 +15,15 @@ use Rattle.gltf_schema.specs.Tree.{Tree, absent}
 use Rattle.gltf_sinks.specs.Report.{From, first_error}
 use Rattle.gltf_root.specs.Lists.{count_in}
 use Rattle.gltf_root.specs.Pushed.{pushed, item_kind, item_place}
-use Rattle.gltf_root.specs.RootTrees.{root_tree}
+use Rattle.gltf_root.specs.Root.{root_tree}
 use Rattle.gltf_root.specs.declared.root.Root.{Root}
 use Rattle.gltf_faults.specs.Context.{Rules, Context}
 use Rattle.gltf_faults.specs.Reports.{reports, reports_by_rules}
 use Rattle.gltf_faults.proofs.PushesOnto.{onto_clean}
 use Rattle.gltf_validation.specs.ByType.{reports_by}
 use Rattle.gltf_clean.specs.Clean.{IsClean, IsPushed, item_reports}
-use Rattle.gltf_clean.specs.declared.keeping.CleanError.{CleanError}
-use Rattle.gltf_clean.specs.declared.keeping.CleanError.TheVariants.{Full, Memory, Faulty}
+use Rattle.gltf_clean.specs.declared.push.CleanError.{CleanError}
+use Rattle.gltf_clean.specs.declared.push.CleanError.TheVariants.{Full, Memory, Faulty}
 use Rattle.gltf_clean.proofs.SameErrors.{reports_same}
 use Rattle.gltf_clean.proofs.Sinking.{same_first}
 
@@ -60,9 +60,9 @@ is_last before list x last whole found =
 -- ---- what is told of an item
 
 -- by its type, as by the table
-pub told_by_table : (of : Option Kind) (kind : Kind) (s t : Tree) (own : Context → From) (context : Context) (base : List Step) → of ≡ Some kind → s ≡ t
+pub reported_by_table : (of : Option Kind) (kind : Kind) (s t : Tree) (own : Context → From) (context : Context) (base : List Step) → of ≡ Some kind → s ≡ t
     → first_error (reports_by of s own context []) ≡ first_error (reports kind t context absent base)
-told_by_table of kind s t own context base is same =
+reported_by_table of kind s t own context base is same =
     ap (λ k. first_error (reports_by k s own context [])) is ∙ (ap (λ x. first_error (reports kind x context absent [])) same ∙ same_first (reports_same kind t context absent [] base))
 
 -- of the last item of a document, as of one that was pushed

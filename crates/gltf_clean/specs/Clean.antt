@@ -10,8 +10,8 @@ use Rattle.gltf_root.specs.Pushed.{pushed, item_kind, item_place}
 use Rattle.gltf_faults.specs.Context.{Rules}
 use Rattle.gltf_faults.specs.Reports.{document_reports, reports_by_rules}
 use Rattle.gltf_clean.specs.NoItems.{none-prop}
-use Rattle.gltf_clean.specs.declared.keeping.CleanError.{CleanError}
-use Rattle.gltf_clean.specs.declared.keeping.CleanError.TheVariants.{Full, Memory, Faulty}
+use Rattle.gltf_clean.specs.declared.push.CleanError.{CleanError}
+use Rattle.gltf_clean.specs.declared.push.CleanError.TheVariants.{Full, Memory, Faulty}
 
 -- a document has no report by rules, against itself
 abbrev pub IsClean : Rules → Tree → Type 0

@@ -3,8 +3,8 @@ use Rattle.std.specs.Prelude.{ℕ, List}
 use Rattle.gltf_paths.specs.Errors.{error_text}
 use Rattle.gltf_paths.specs.Pushes.{push_error_text}
 use Rattle.gltf_paths.specs.declared.index.PushError.TheVariants as pushes
-use Rattle.gltf_clean.specs.declared.keeping.CleanError.{CleanError}
-use Rattle.gltf_clean.specs.declared.keeping.CleanError.TheVariants.{Full, Memory, Faulty}
+use Rattle.gltf_clean.specs.declared.push.CleanError.{CleanError}
+use Rattle.gltf_clean.specs.declared.push.CleanError.TheVariants.{Full, Memory, Faulty}
 
 -- what the error of any refused push prints, and of a faulty item what is wrong first
 abbrev pub clean_error_text : {X : Type 0} → CleanError X → List ℕ

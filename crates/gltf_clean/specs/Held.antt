@@ -1,11 +1,11 @@
 -- What is held of a document without reports.
 use Rattle.std.specs.Prelude.{◌≡◌, Result, Ok, Err}
 use Rattle.gltf_schema.specs.Tree.{Tree}
-use Rattle.gltf_root.specs.RootTrees.{root_tree}
+use Rattle.gltf_root.specs.Root.{root_tree}
 use Rattle.gltf_root.specs.declared.root.Root.{Root}
 use Rattle.gltf_faults.specs.Context.{Rules, rules_of}
 use Rattle.gltf_clean.specs.Clean.{IsClean}
-use Rattle.gltf_clean.specs.declared.held.Clean.{Clean}
+use Rattle.gltf_clean.specs.declared.clean.Clean.{Clean}
 
 -- the rules, the root, and the root as the table sees it
 abbrev pub rules_held : Clean → Rules

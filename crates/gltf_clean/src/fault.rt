@@ -1,10 +1,10 @@
-//! The first thing that is wrong with a value.
+//! The first fault of a value.
 
 ghost use Rattle.std.specs.Prelude.{◌≡◌, ◌≤◌, ◌++◌, ◌∷◌, ℕ, suc, List, []};
 ghost use Rattle.gltf_paths.specs.Steps.{Step};
 ghost use Rattle.gltf_sinks.specs.Report.{first_error};
 ghost use Rattle.gltf_root.specs.Pushed.{item_kind};
-ghost use Rattle.gltf_root.specs.RootTrees.{root_tree};
+ghost use Rattle.gltf_root.specs.Root.{root_tree};
 ghost use Rattle.gltf_faults.specs.Context.{rules_of, under};
 ghost use Rattle.gltf_faults.specs.Reports.{reports_by_rules};
 ghost use Rattle.gltf_validation.specs.ByType.{reports_by};
@@ -17,7 +17,7 @@ use gltf_root::root::Root;
 use gltf_sinks::{Sink, Stop};
 use gltf_validation::validation::Validate;
 
-/// A sink that refuses the first report, with what is wrong.
+/// A sink that refuses the first report with its fault.
 #[derive(Drop)]
 struct FirstFault;
 
@@ -38,8 +38,8 @@ impl Sink for FirstFault {
     }
 }
 
-/// The error of the first report of a value in `root`, seen from the value itself; `None` where it
-/// has none.
+/// The error of the first report of a value in `root`, seen from the value itself; `None` if it has
+/// none.
 pub(crate) fn first_fault<V: Validate>(value: &V, rules: &Rules<'_>, root: &Root) -> Option<Error>
     requires { V.depth ≤ 10 }
     ensures { result ≡ first_error (reports_by V.kind (V.tree value.now) (V.own value.now)
@@ -53,8 +53,8 @@ pub(crate) fn first_fault<V: Validate>(value: &V, rules: &Rules<'_>, root: &Root
     }
 }
 
-/// The error of the first report of the last item of a list, wherever the item is seen from; `None`
-/// where it has none.
+/// The error of the first report of the last item of a list, from whichever place; `None` if it has
+/// none.
 pub(crate) fn fault_of_last<T: Item>(rules: &Rules<'_>, root: &Root) -> Option<Error>
     ensures { (before : List T) (item : T) (base : List Step)
         → T.items root.now ≡ before ++ item ∷ []

@@ -25,7 +25,7 @@ pub trait Item: TableObject + RootItem {
     ghost kinded: { Self.kind ≡ item_kind Self.list };
 
     // It has an item by the tree by which the list has it.
-    ghost seen: { (item : Self) → Self.Visited.tree item ≡ Self.RootItem.tree item };
+    ghost seen: { (item : Self) → Self.Visitable.tree item ≡ Self.RootItem.tree item };
 }
 
 /// What a list of the document itself holds: `Item` follows (docs/DECISIONS.md).

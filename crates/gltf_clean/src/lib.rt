@@ -1,11 +1,11 @@
 //! Documents that have no report, and pushes that leave them so.
 #![tactic(auto)]
 
+mod clean;
 mod fault;
-mod held;
 mod item;
-mod keeping;
+mod push;
 
-pub use held::Clean;
+pub use clean::Clean;
 pub use item::Item;
-pub use keeping::CleanError;
+pub use push::CleanError;

@@ -1,6 +1,7 @@
-//! Answers each document of `data/documents.jsonl`, one a line below its title: the status and the
-//! output of a run over it, and what it is written as. Then it answers for each object of the format
-//! (`objects.rt`). `stdout` has what must be answered (docs/DECISIONS.md says from where).
+//! Prints for each document of `data/documents.jsonl`, below its title: the exit status and the
+//! output of a run over it, and what it is written as. `stdout` has what must be printed
+//! (docs/DECISIONS.md says from where). Then it prints where an object of the format differs from
+//! what the data expects of it (`objects.rt`).
 #![tactic(auto)]
 
 mod objects;

@@ -1,16 +1,14 @@
-//! Answers `data/objects.json`: a document in which each member of each object has a value, the
-//! places of objects in it, and values that stand in for each member of these objects in turn. What
-//! must be answered is worked out by `tools/gen_objects.py`.
+//! Tries each member of each object of the format with many values, and compares what becomes of
+//! them with what `data/objects.json` expects. The file also has documents, each with a value for
+//! each member of an object, and the fields that the Debug text of the first document names.
+//! `tools/gen_objects.py` writes it from the table of the format. Only what differs is printed.
 
 use anyhow::{Context, Result};
 use gltf_json::{Error, Root, Value};
 use serde_json::Map;
 use std::alloc::{AllocError, Global};
-use std::collections::BTreeMap;
+use std::fmt::Write;
 use std::fs;
-
-/// The name of a member that no object has.
-const UNKNOWN: &str = "zz";
 
 const REFUSED: &str = "refused";
 
@@ -85,68 +83,174 @@ fn outcome(alloc: Global, document: &Value, place: &str, name: &str) -> Result<S
     }
 }
 
-/// Prints what becomes of a value, or of none, if it isn't refused, below a heading if that differs
-/// from what was printed last. Returns what is printed last then.
-fn print_outcome(
-    rt: &HostRuntime,
-    whole: &Value,
-    place: &str,
-    name: &str,
-    value: Option<&Value>,
+/// What became of values: each value behind a heading that says what. Refused values are left out.
+#[derive(Drop)]
+struct Outcomes {
+    line: String,
     last: String,
-) -> Result<String> {
-    let document = with_member(rt.alloc(), whole, place, name, value)?;
-    let found = outcome(rt.alloc(), &document, place, name)?;
-    if found.as_str() == REFUSED {
-        return Ok(last);
-    }
-    if found != last {
-        print!(rt; "; {found}:")?;
-    }
-    match value {
-        Some(value) => print!(rt; " {value}")?,
-        None => print!(rt; " nothing")?,
-    }
-    Ok(found)
 }
 
-/// Prints what becomes of each value as a member of the object at a place.
-fn print_member(
-    rt: &HostRuntime,
+impl Outcomes {
+    /// Adds a value, or none, and what became of it.
+    fn push(&mut self, found: String, value: Option<&Value>) -> Result<(), AllocError> {
+        if found.as_str() == REFUSED {
+            return Ok(());
+        }
+        if found != self.last {
+            write!(self.line, "; {found}:")?;
+        }
+        self.last = found;
+        match value {
+            Some(value) => write!(self.line, " {value}"),
+            None => self.line.push_str(" nothing"),
+        }
+    }
+}
+
+/// What becomes of each value, and of none, as a member of the object at a place.
+fn line_of(
+    alloc: Global,
     whole: &Value,
     values: &[Value],
     place: &str,
     name: &str,
-) -> Result<()> {
-    print!(rt; "{place}/{name}")?;
-    let mut last = String::from_str(rt.alloc(), REFUSED)?;
-    last = print_outcome(rt, whole, place, name, None, last)?;
+) -> Result<String, Error> {
+    let mut outcomes = Outcomes {
+        line: String::new(alloc),
+        last: String::from_str(alloc, REFUSED)?,
+    };
+    let without = with_member(alloc, whole, place, name, None)?;
+    outcomes.push(outcome(alloc, &without, place, name)?, None)?;
     for value in values {
-        last = print_outcome(rt, whole, place, name, Some(value), last)?;
+        let document = with_member(alloc, whole, place, name, Some(value))?;
+        outcomes.push(outcome(alloc, &document, place, name)?, Some(value))?;
     }
-    println!(rt;)?;
-    Ok(())
+    Ok(outcomes.line)
 }
 
-/// Prints what becomes of each member of the object at a place, and of one that no object has.
-fn print_object(rt: &HostRuntime, whole: &Value, values: &[Value], place: &str) -> Result<()> {
-    let members = whole.pointer(place).and_then(Value::as_object);
-    for (name, _) in members.context("no object")?.iter() {
-        print_member(rt, whole, values, place, name.as_str())?;
+/// Whether a text is the expected one. Prints both below a title if it isn't.
+fn is_text(
+    rt: &HostRuntime,
+    (place, name): (&str, &str),
+    expected: &str,
+    found: &str,
+) -> Result<bool> {
+    if found == expected {
+        return Ok(true);
     }
-    print_member(rt, whole, values, place, UNKNOWN)
+    println!(rt; "{place}/{name}\n  expected {expected}\n  found {found}")?;
+    Ok(false)
+}
+
+/// Whether each value becomes what is expected, as a member of the object at a place.
+fn is_member_expected(
+    rt: &HostRuntime,
+    whole: &Value,
+    values: &[Value],
+    (place, name): (&str, &str),
+    expected: &Value,
+) -> Result<bool> {
+    let found = line_of(rt.alloc(), whole, values, place, name)?;
+    let line = expected.as_str().context("no line")?;
+    is_text(rt, (place, name), line, found.as_str())
+}
+
+/// The text of a value, or of none.
+fn text_of(alloc: Global, value: Option<&Value>) -> Result<String, AllocError> {
+    match value {
+        Some(value) => value.to_string(alloc),
+        None => String::from_str(alloc, "nothing"),
+    }
+}
+
+/// Whether a member is the expected one.
+fn is_same(
+    rt: &HostRuntime,
+    title: (&str, &str),
+    expected: Option<&Value>,
+    found: Option<&Value>,
+) -> Result<bool> {
+    let expected = text_of(rt.alloc(), expected)?;
+    let found = text_of(rt.alloc(), found)?;
+    is_text(rt, title, expected.as_str(), found.as_str())
+}
+
+/// Whether an object has the expected members, and no more.
+fn are_same(
+    rt: &HostRuntime,
+    place: &str,
+    expected: &Map<String, Value>,
+    found: &Map<String, Value>,
+) -> Result<bool> {
+    let mut well = true;
+    for (name, value) in expected.iter() {
+        let name = name.as_str();
+        well = is_same(rt, (place, name), Some(value), found.get(name))? && well;
+    }
+    for (name, value) in found.iter() {
+        let name = name.as_str();
+        if expected.get(name).is_none() {
+            well = is_same(rt, (place, name), None, Some(value))? && well;
+        }
+    }
+    Ok(well)
+}
+
+/// The object at a place.
+fn object_at<'a>(document: &'a Value, place: &str) -> Result<&'a Map<String, Value>> {
+    let object = document.pointer(place).and_then(Value::as_object);
+    object.context("no object")
+}
+
+/// Whether a document that has each member of the object at a place is written as it is.
+fn is_kept(rt: &HostRuntime, whole: &Value, place: &str) -> Result<bool> {
+    let found = match written(rt.alloc(), whole.clone()?) {
+        Ok(found) => found,
+        Err(error) => {
+            println!(rt; "{place}/: {error}")?;
+            return Ok(false);
+        }
+    };
+    if found == *whole {
+        return Ok(true);
+    }
+    let none = Map::new(rt.alloc());
+    let members = found.pointer(place).and_then(Value::as_object);
+    if are_same(
+        rt,
+        place,
+        object_at(whole, place)?,
+        members.unwrap_or(&none),
+    )? {
+        println!(rt; "{place}/: what holds the object changed")?;
+    }
+    Ok(false)
+}
+
+/// Whether each member of an object, and one that no row names, becomes what is expected with each
+/// value. No value is tried if the document that has all members isn't written as it is.
+fn is_object_expected(rt: &HostRuntime, object: &Value, values: &[Value]) -> Result<bool> {
+    let whole = object.get("in").context("no document")?;
+    let place = object.get("at").and_then(Value::as_str);
+    let place = place.context("no place")?;
+    let mut well = is_kept(rt, whole, place)?;
+    if well {
+        for (name, line) in object_at(object, "/members")?.iter() {
+            let title = (place, name.as_str());
+            well = is_member_expected(rt, whole, values, title, line)? && well;
+        }
+    }
+    Ok(well)
 }
 
 /// How often a Debug text has each name of a field.
-fn field_counts(alloc: Global, text: &str) -> Result<BTreeMap<&str, u64>, AllocError> {
-    let mut counts = BTreeMap::new(alloc);
+fn field_counts(alloc: Global, text: &str) -> Result<Map<String, Value>, AllocError> {
+    let mut counts = Map::new(alloc);
     for word in text.split(' ') {
         if let Some(name) = word.strip_suffix(':') {
-            let before = match counts.get(name) {
-                Some(count) => *count,
-                None => 0u64,
-            };
-            counts.insert(name, before.saturating_add(1))?;
+            let before = counts.get(name).and_then(Value::as_u64).unwrap_or(0);
+            let count = Value::from(before.saturating_add(1));
+            counts.insert(String::from_str(alloc, name)?, count)?;
         }
     }
     Ok(counts)
@@ -158,13 +262,19 @@ fn debug_text(alloc: Global, document: &Value) -> Result<String, Error> {
     Ok(format!(in alloc; "{root:?}")?)
 }
 
-/// Prints how often the Debug text of a document has each name of a field.
-fn print_fields(rt: &HostRuntime, document: &Value) -> Result<()> {
-    let text = debug_text(rt.alloc(), document)?;
-    for (name, count) in field_counts(rt.alloc(), text.as_str())?.iter() {
-        println!(rt; "{name}: {count}")?;
+/// Whether the Debug text of the first document names each field as often as expected.
+fn are_fields_expected(rt: &HostRuntime, data: &Value) -> Result<bool> {
+    let document = data.pointer("/objects/0/in").context("no document")?;
+    match debug_text(rt.alloc(), document) {
+        Ok(text) => {
+            let counts = field_counts(rt.alloc(), text.as_str())?;
+            are_same(rt, "fields", object_at(data, "/fields")?, &counts)
+        }
+        Err(error) => {
+            println!(rt; "fields: {error}")?;
+            Ok(false)
+        }
     }
-    Ok(())
 }
 
 /// The list that is a member of a value.
@@ -173,36 +283,46 @@ fn list_of<'a>(value: &'a Value, name: &str) -> Result<&'a [Value]> {
     Ok(list.context("no list")?.as_slice())
 }
 
-/// The text that is a member of a value.
-fn text_of<'a>(value: &'a Value, name: &str) -> Result<&'a str> {
-    let text = value.get(name).and_then(Value::as_str);
-    Ok(text.context("no text")?)
+/// Whether each object becomes what is expected.
+fn are_objects_expected(rt: &HostRuntime, data: &Value) -> Result<bool> {
+    let values = list_of(data, "values")?;
+    let mut well = true;
+    for object in list_of(data, "objects")? {
+        well = is_object_expected(rt, object, values)? && well;
+    }
+    Ok(well)
 }
 
-/// Prints the answers of all objects.
+/// Whether a value becomes what is expected, as a member of the least document.
+fn is_form_expected(rt: &HostRuntime, least: &Value, form: &Value) -> Result<bool> {
+    let name = form.get("name").and_then(Value::as_str);
+    let title = ("", name.context("no name")?);
+    let line = form.get("line").context("no line")?;
+    is_member_expected(rt, least, list_of(form, "values")?, title, line)
+}
+
+/// Whether each of the values that are worked by hand becomes what is expected.
+fn are_forms_expected(rt: &HostRuntime, data: &Value) -> Result<bool> {
+    let least = data.get("least").context("no document")?;
+    let mut well = true;
+    for form in list_of(data, "forms")? {
+        well = is_form_expected(rt, least, form)? && well;
+    }
+    Ok(well)
+}
+
+/// Prints what differs from what is expected of objects, and last whether anything does.
 pub fn print_objects(rt: &HostRuntime) -> Result<()> {
     let bytes = fs::read(rt, "objects.json")?;
     let data = Value::from_slice(rt.alloc(), bytes.as_slice())?;
-    println!(rt; "# objects")?;
-    print_fields(rt, data.pointer("/objects/0/in").context("no document")?)?;
-    for object in list_of(&data, "objects")? {
-        let document = object.get("in").context("no document")?;
-        print_object(
-            rt,
-            document,
-            list_of(&data, "values")?,
-            text_of(object, "at")?,
-        )?;
-    }
-    let least = data.get("least").context("no document")?;
-    for form in list_of(&data, "forms")? {
-        print_member(
-            rt,
-            least,
-            list_of(form, "values")?,
-            "",
-            text_of(form, "name")?,
-        )?;
-    }
+    let mut well = are_fields_expected(rt, &data)?;
+    well = are_objects_expected(rt, &data)? && well;
+    well = are_forms_expected(rt, &data)? && well;
+    let verdict = if well {
+        "as expected"
+    } else {
+        "not as expected"
+    };
+    println!(rt; "# objects: {verdict}")?;
     Ok(())
 }

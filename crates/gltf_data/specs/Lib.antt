@@ -1,6 +1,3 @@
-pub mod AccessorTable
-pub mod AccessorTrees
-pub mod BufferTable
-pub mod BufferTrees
-pub mod ImageTable
-pub mod ImageTrees
+pub mod Accessor
+pub mod Buffer
+pub mod Image

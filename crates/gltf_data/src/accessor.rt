@@ -5,8 +5,7 @@ ghost use Rattle.std.proofs.Common.{lit≤};
 ghost use Rattle.serde_json.specs.Data.{no_members};
 ghost use Rattle.gltf_paths.specs.Lists.{accessors};
 ghost use Rattle.gltf_schema.specs.Kind.{needs_data};
-ghost use Rattle.gltf_data.specs.AccessorTable.{accessor_rows, accessor_sound, accessor_height};
-ghost use Rattle.gltf_data.specs.AccessorTrees.{accessor_members};
+ghost use Rattle.gltf_data.specs.Accessor.{accessor_rows, accessor_sound, accessor_height, accessor_members};
 
 use crate::buffer::View;
 use crate::extensions;
@@ -21,7 +20,7 @@ use std::alloc::Global;
 pub mod sparse;
 
 /// How the data of a view is read as elements.
-// What takes longest to drop stands last (docs/DECISIONS.md).
+// What takes longest to drop comes last (docs/DECISIONS.md).
 #[derive(Clone, Debug)]
 pub struct Accessor {
     /// The view that the elements lie in; without one they are zeros, or come from `sparse`.
@@ -34,7 +33,7 @@ pub struct Accessor {
     pub component_type: Checked<GenericComponentType>,
     /// How many components an element has, and how they lie.
     pub type_: Checked<AccessorType>,
-    /// Whether integers stand for fractions.
+    /// Whether integers mean fractions.
     pub normalized: bool,
     pub name: Option<String>,
     pub extensions: Option<extensions::accessor::Accessor>,

@@ -5,8 +5,7 @@ ghost use Rattle.std.proofs.Common.{lit≤};
 ghost use Rattle.serde_json.specs.Data.{no_members};
 ghost use Rattle.gltf_paths.specs.Lists.{buffers, buffer_views};
 ghost use Rattle.gltf_schema.specs.Kind.{Stride as stride_kind};
-ghost use Rattle.gltf_data.specs.BufferTable.{buffer_rows, buffer_sound, buffer_height, view_rows, view_sound, view_height};
-ghost use Rattle.gltf_data.specs.BufferTrees.{buffer_members, view_members, stride_tree};
+ghost use Rattle.gltf_data.specs.Buffer.{buffer_rows, buffer_sound, buffer_height, view_rows, view_sound, view_height, buffer_members, view_members, stride_tree};
 
 use crate::extensions;
 use crate::extras::Extras;
@@ -111,7 +110,7 @@ impl Object for Buffer {
 }
 
 /// A part of a buffer.
-// What takes longest to drop stands last (docs/DECISIONS.md).
+// What takes longest to drop comes last (docs/DECISIONS.md).
 #[derive(Clone, Debug)]
 pub struct View {
     /// The buffer that it is a part of.

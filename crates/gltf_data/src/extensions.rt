@@ -1,4 +1,4 @@
-//! Extension objects of accessors, buffers and images: what stands behind their member
+//! Extension objects of accessors, buffers and images: the values of their member
 //! `extensions`.
 
 pub mod accessor;

@@ -9,7 +9,7 @@ use std::fmt::{self, Debug, Display, Formatter, Write};
 /// What an application adds to an object of its own: any JSON value.
 pub type Extras = Option<Value>;
 
-/// What stands where an application adds nothing.
+/// What an object holds in place of extras if an application adds nothing.
 #[derive(Clone, Drop)]
 pub struct Void {}
 

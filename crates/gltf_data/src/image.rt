@@ -5,8 +5,7 @@ ghost use Rattle.std.proofs.Common.{lit≤};
 ghost use Rattle.serde_json.specs.Data.{no_members};
 ghost use Rattle.gltf_paths.specs.Lists.{images};
 ghost use Rattle.gltf_schema.specs.Kind.{Text};
-ghost use Rattle.gltf_data.specs.ImageTable.{image_rows, image_sound, image_height};
-ghost use Rattle.gltf_data.specs.ImageTrees.{image_members, mime_type_tree};
+ghost use Rattle.gltf_data.specs.Image.{image_rows, image_sound, image_height, image_members, mime_type_tree};
 
 use crate::buffer::View;
 use crate::extensions;

@@ -8,8 +8,8 @@ use Rattle.gltf_paths.specs.declared.error.Error.TheVariants as errors
 abbrev pub saturated : ℕ → ℕ
 saturated n = min n (2 ^ 64 - 1)
 
--- what a reader's calls have shown: whether one failed, how many there were, how many bytes they gave, and whether the last one
--- gave the end
+-- what a reader's calls have shown: whether one failed, how many there were, how many bytes they
+-- gave, and whether the last one gave the end
 pub record Seen : Type 0 where
   pub has_failed : Bool
   pub calls : ℕ
@@ -40,7 +40,8 @@ pub record IsPastLimit (bytes calls : ℕ) (seen : Seen) : Type 0 where
   pub works : seen.has_failed ≡ false
   pub past : (bytes < seen.given) ⊎ ((seen.calls ≡ calls) × (seen.has_ended ≡ false))
 
--- why reading a reader that was fresh was given up: it failed, or memory was refused when it had not failed, or a limit was passed
+-- why reading a reader that was fresh was given up: it failed, or memory was refused when it had
+-- not failed, or a limit was passed
 abbrev pub IsCause : ℕ → ℕ → Seen → Error → Type 0
 IsCause bytes calls seen errors.Read = seen.has_failed ≡ true
 IsCause bytes calls seen (errors.Memory e) = seen.has_failed ≡ false

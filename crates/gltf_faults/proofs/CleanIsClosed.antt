@@ -12,7 +12,7 @@ use Rattle.gltf_schema.specs.Invalid.{is_unknown}
 use Rattle.gltf_schema.specs.Tree as tree
 use Rattle.gltf_schema.specs.Tree.{Tree, Trees, end, with_tree, items_in, members_in, entries_in}
 use Rattle.gltf_schema.specs.Kind.{Kind, IndexInto, SourceImage, ChannelSampler, Choice, Attributes, ListOf, Object, Rows, no_rows, row, Rule, holds_samplers}
-use Rattle.gltf_textures.specs.TextureTable.{no_image}
+use Rattle.gltf_textures.specs.Texture.{no_image}
 use Rattle.gltf_root.specs.Lists.{count_in, sampler_count}
 use Rattle.gltf_sinks.specs.Report.{From, report}
 use Rattle.gltf_faults.specs.Context.{Context}

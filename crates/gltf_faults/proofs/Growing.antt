@@ -6,10 +6,8 @@ use Rattle.gltf_schema.specs.Fields.{closed_object}
 use Rattle.gltf_root.specs.Lists.{lights_way, variants_way, further_way, list_in, row_of}
 use Rattle.gltf_root.specs.Named.{Way, put_at, reached, with_reached}
 use Rattle.gltf_root.specs.Pushed.{with_last, pushed}
-use Rattle.gltf_root.specs.RootExtensionTable.{lights_rows, variants_rows, root_extension_rows}
-use Rattle.gltf_root.specs.RootExtensionTrees.{root_extensions, root_extension_members, lights_members, variants_members}
-use Rattle.gltf_root.specs.RootTable.{root_rows}
-use Rattle.gltf_root.specs.RootTrees.{root_members, root_tree}
+use Rattle.gltf_root.specs.RootExtension.{lights_rows, variants_rows, root_extension_rows, root_extensions, root_extension_members, lights_members, variants_members}
+use Rattle.gltf_root.specs.Root.{root_rows, root_members, root_tree}
 use Rattle.gltf_root.specs.declared.root.Root.{Root}
 use Rattle.gltf_root.specs.declared.extensions.root.Root.{Root as RootExtensions}
 use Rattle.gltf_root.specs.declared.extensions.root.KhrLightsPunctual.{KhrLightsPunctual}

@@ -10,8 +10,7 @@ use Rattle.gltf_paths.specs.Steps.{Step, field, item, key, value}
 use Rattle.gltf_schema.specs.Tree.{Tree, absent}
 use Rattle.gltf_root.specs.Lists.{count_in}
 use Rattle.gltf_root.specs.Pushed.{pushed, item_place, item_kind}
-use Rattle.gltf_root.specs.RootTable.{root_kind}
-use Rattle.gltf_root.specs.RootTrees.{root_tree}
+use Rattle.gltf_root.specs.Root.{root_kind, root_tree}
 use Rattle.gltf_root.specs.declared.root.Root.{Root}
 use Rattle.gltf_sinks.specs.Report.{Report}
 use Rattle.gltf_faults.specs.Context.{Rules, under}

@@ -7,11 +7,10 @@ use Rattle.serde_json.specs.declared.value.Value.{Value}
 use Rattle.gltf_paths.specs.Lists.{ListName}
 use Rattle.gltf_schema.specs.Fields.{closed_object}
 use Rattle.gltf_schema.specs.Tree.{Tree, trees, tree_at, tree_or_absent}
-use Rattle.gltf_data.specs.AccessorTrees.{accessor_members}
+use Rattle.gltf_data.specs.Accessor.{accessor_members}
 use Rattle.gltf_data.specs.declared.accessor.Accessor.{Accessor}
 use Rattle.gltf_root.specs.Lists.{list_in}
-use Rattle.gltf_root.specs.RootTable.{root_rows}
-use Rattle.gltf_root.specs.RootTrees.{root_members, root_tree}
+use Rattle.gltf_root.specs.Root.{root_rows, root_members, root_tree}
 use Rattle.gltf_root.specs.declared.root.Root.{Root}
 use Rattle.gltf_faults.specs.Rules.{is_triple}
 

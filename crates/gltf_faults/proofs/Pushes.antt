@@ -14,8 +14,8 @@ use Rattle.gltf_schema.specs.Sound.{has_attributes, suits, is_sound, are_sound}
 use Rattle.gltf_schema.specs.Tree as tree
 use Rattle.gltf_schema.specs.Tree.{Tree, Trees, end, with_tree, tree_at, count_of, items_in, members_in, entries_in}
 use Rattle.gltf_schema.specs.Kind.{Kind, IndexInto, SourceImage, Attributes, ListOf, Object, Rows, no_rows, row, Rule, needs_positions}
-use Rattle.gltf_textures.specs.TextureTable.{no_image}
-use Rattle.gltf_meshes.specs.MeshTable.{primitive_rows}
+use Rattle.gltf_textures.specs.Texture.{no_image}
+use Rattle.gltf_meshes.specs.Mesh.{primitive_rows}
 use Rattle.gltf_root.specs.Lists.{list_in, count_in}
 use Rattle.gltf_root.specs.Pushed.{with_last}
 use Rattle.gltf_sinks.specs.Report.{From, Report}
@@ -149,7 +149,8 @@ module _ (rules : Rules) (named : ListName) (x old new : Tree) (grown : Grows na
   -- ---- a whole tree
 
   mutual
-    -- the law, at every kind and place; the references are those in one animation, the reports those in another
+    -- the law, at every kind and place; the references are those in one animation, the reports
+    -- those in another
     pub reports_same : (kind : Kind) (t animation above : Tree) (base : List Step) → (ListName.accessors ≡ named → is_sound kind ≡ true) → All (Apart named old) (references kind t animation)
         → reports kind t (under rules new) above base ≡ reports kind t (under rules old) above base
     reports_same (IndexInto other) t animation above base sound off = index_same other t base off

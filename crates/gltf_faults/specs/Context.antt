@@ -2,11 +2,12 @@
 use Rattle.std.specs.Prelude.{ℕ, List, [], ◌∷◌, ◌++◌, Bool, false, map, codes}
 use Rattle.gltf_choices.specs.ExtensionNames.{enabled_extensions}
 use Rattle.gltf_schema.specs.Tree.{Tree}
-use Rattle.gltf_root.specs.RootTrees.{root_tree}
+use Rattle.gltf_root.specs.Root.{root_tree}
 use Rattle.gltf_faults.specs.declared.context.Context.{Context as GivenContext}
 use Rattle.gltf_faults.specs.declared.rules.Rules.{Rules as GivenRules}
 
--- what a caller rules: whether a texture may be without an image, and the names of the extensions that a document may require
+-- what a caller rules: whether a texture may be without an image, and the names of the extensions
+-- that a document may require
 pub record Rules : Type 0 where
   pub empty_texture : Bool
   pub enabled : List (List ℕ)
@@ -15,7 +16,8 @@ pub record Rules : Type 0 where
 abbrev pub standard_rules : Rules
 standard_rules = record { empty_texture = false; enabled = enabled_extensions }
 
--- what a document may require where a texture may be without an image: the extensions that give it one of another format, too
+-- what a document may require where a texture may be without an image: the extensions that give it
+-- one of another format, too
 abbrev pub enabled_with_empty_textures : List (List ℕ)
 enabled_with_empty_textures =
     enabled_extensions ++ codes "KHR_texture_basisu" ∷ codes "EXT_texture_webp" ∷ codes "MSFT_texture_dds" ∷ []

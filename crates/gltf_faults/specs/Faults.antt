@@ -5,7 +5,7 @@ use Rattle.gltf_paths.specs.Steps.{item, key}
 use Rattle.gltf_paths.specs.declared.validation.Error.{Error}
 use Rattle.gltf_paths.specs.declared.validation.Error.TheVariants.{IndexOutOfBounds, Invalid, Missing}
 use Rattle.gltf_schema.specs.Tree.{Tree, index, whole, invalid, Trees, end, with_tree}
-use Rattle.gltf_textures.specs.TextureTable.{no_image}
+use Rattle.gltf_textures.specs.Texture.{no_image}
 use Rattle.gltf_sinks.specs.Report.{report, From}
 
 -- a report where something is so
@@ -21,13 +21,14 @@ abbrev pub index_faults : ℕ → Tree → From
 index_faults count (index n) base = number_faults count n base
 index_faults count _ base = []
 
--- a texture without an image, for which the number 2^32 - 1 stands; where textures may be empty it is no fault. This is
--- the ported crate's rule: 5.29.2 allows a texture without an image
+-- a texture has an image; 2^32 - 1 means that it has none, which is no fault if textures may be
+-- empty. This is the ported crate's rule: 5.29.2 allows a texture without an image
 abbrev pub source_faults : Bool → ℕ → Tree → From
 source_faults may_be_empty count (index n) base = cond (nat_eq n no_image) (report_if (not may_be_empty) Missing base) (number_faults count n base)
 source_faults may_be_empty count _ base = []
 
--- a stride below 4 or above 252 bytes (5.11.4); by the ported crate's rule it need not be a multiple of 4
+-- a stride below 4 or above 252 bytes (5.11.4); by the ported crate's rule it need not be a
+-- multiple of 4
 abbrev pub stride_faults : Tree → From
 stride_faults (whole n) base = report_if (not (nat_le 4 n && nat_le n 252)) Invalid base
 stride_faults _ base = []

@@ -15,7 +15,7 @@ use Rattle.gltf_faults.specs.Faults.{index_faults, source_faults, stride_faults,
 use Rattle.gltf_faults.specs.Rules.{object_faults}
 use Rattle.gltf_faults.specs.Reports.{animation_below}
 
--- the steps to a place, the kind and the tree there, and the animation that it stands below, or none
+-- the steps to a place, the kind and the tree there, and the animation that it is below, or none
 pub record Place : Type 0 where
   pub steps : List Step
   pub kind : Kind

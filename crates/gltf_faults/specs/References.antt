@@ -6,7 +6,7 @@ use Rattle.gltf_paths.specs.Lists.{ListName}
 use Rattle.gltf_schema.specs.Tree.{Tree, index, invalid, Trees, end, with_tree, items_in, members_in, entries_in}
 use Rattle.gltf_schema.specs.Kind.{Kind, IndexInto, SourceImage, ChannelSampler, Choice, Attributes, ListOf, Object, Rows, row, Rule, holds_samplers}
 use Rattle.gltf_schema.specs.Invalid.{is_unknown}
-use Rattle.gltf_textures.specs.TextureTable.{no_image}
+use Rattle.gltf_textures.specs.Texture.{no_image}
 
 -- one reference in a tree
 pub data Reference : Type 0 where
@@ -16,10 +16,11 @@ pub data Reference : Type 0 where
   sampler_of : Tree → ℕ → Reference
   -- a texture's image, if it has none (5.29.2)
   missing_image : Reference
-  -- an item of a choice that is none of those listed (section 5), or a key that means nothing (3.7.2.1)
+  -- an item of a choice that is none of those listed (section 5), or a key that means nothing
+  -- (3.7.2.1)
   unlisted : Reference
 
--- the image of a texture: the number 2^32 - 1 stands for none, and is no index
+-- the image of a texture: the number 2^32 - 1 means none, and is no index
 abbrev pub image_of : ℕ → Reference
 image_of n = cond (nat_eq n no_image) missing_image (item_of ListName.images n)
 
@@ -41,13 +42,15 @@ abbrev pub in_items : (Tree → List Reference) → Trees → List Reference
 in_items f end = []
 in_items f (with_tree t ts) = f t ++ in_items f ts
 
--- the animation that an object's members are in: the object, if it is an animation, else the one around it
+-- the animation that an object's members are in: the object, if it is an animation, else the one
+-- around it
 abbrev pub animation_of : Rule → Tree → Tree → Tree
 animation_of holds_samplers t around = t
 animation_of rule t around = around
 
 abbrev mutual
-  -- each reference in a tree of a kind, in order, where the last tree is the animation around it, or absent
+  -- each reference in a tree of a kind, in order, where the last tree is the animation around it,
+  -- or absent
   pub references : Kind → Tree → Tree → List Reference
   references (IndexInto named) t animation = in_index (λ n. item_of named n) t
   references SourceImage t animation = in_index image_of t

@@ -5,13 +5,13 @@ use Rattle.gltf_paths.specs.Steps.{field}
 use Rattle.gltf_schema.specs.Tree.{Tree, absent, Trees, end, with_tree, items_in, members_in, entries_in}
 use Rattle.gltf_schema.specs.Kind.{Kind, IndexInto, SourceImage, ChannelSampler, Stride, Choice, Attributes, ListOf, Object, Rows, no_rows, row, Rule, no_rule, needs_data, needs_projection, needs_cone, needs_positions, requires_enabled, holds_samplers}
 use Rattle.gltf_root.specs.Lists.{count_in, sampler_count}
-use Rattle.gltf_root.specs.RootTable.{root_kind}
+use Rattle.gltf_root.specs.Root.{root_kind}
 use Rattle.gltf_sinks.specs.Report.{Report, From}
 use Rattle.gltf_faults.specs.Context.{Rules, Context, under}
 use Rattle.gltf_faults.specs.Faults.{index_faults, source_faults, stride_faults, choice_faults, entries_faults, items_reports}
 use Rattle.gltf_faults.specs.Rules.{object_faults}
 
--- the animation that the members of an object stand below: itself, or the one above
+-- the animation that the members of an object are below: itself, or the one above
 abbrev pub animation_below : Rule → Tree → Tree → Tree
 animation_below no_rule t above = above
 animation_below needs_data t above = above
@@ -22,8 +22,8 @@ animation_below requires_enabled t above = above
 animation_below holds_samplers t above = t
 
 abbrev mutual
-  -- what is wrong in a tree of a kind, against a document, by rules, below an animation or none, from a base: an object's
-  -- members in the rows' order and then its rule
+  -- what is wrong in a tree of a kind, against a document, by rules, below an animation or none,
+  -- from a base: an object's members in the rows' order and then its rule
   pub reports : Kind → Tree → Context → Tree → From
   reports (IndexInto named) t context animation base = index_faults (count_in named context.root) t base
   reports SourceImage t context animation base = source_faults context.rules.empty_texture (count_in ListName.images context.root) t base

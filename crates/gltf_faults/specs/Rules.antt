@@ -5,19 +5,21 @@ use Rattle.std.specs.Map.{lookup}
 use Rattle.std.specs.Str.{bytes_eq}
 use Rattle.serde_json.specs.Data.{Data, array, number, no_items, item as data_item}
 use Rattle.gltf_checked.specs.Keys.{Key, positions}
-use Rattle.gltf_checked.specs.Spelling.{by_name}
+use Rattle.gltf_checked.specs.Spelling.{is_spelled}
+use Rattle.gltf_choices.specs.SceneChoices.{light_type_spelling}
+use Rattle.gltf_choices.specs.declared.extensions.scene.khr_lights_punctual.LightType.TheVariants as light_types
 use Rattle.gltf_paths.specs.Steps.{field, key, value}
 use Rattle.gltf_paths.specs.Lists.{ListName}
 use Rattle.gltf_paths.specs.declared.validation.Error.TheVariants.{Invalid, Missing, Unsupported}
 use Rattle.gltf_schema.specs.Tree.{Tree, absent, any, text, chosen, object, Trees, is_absent, tree_at, items_in, entries_in}
 use Rattle.gltf_schema.specs.Kind.{Rule, no_rule, needs_data, needs_projection, needs_cone, needs_positions, requires_enabled, holds_samplers}
-use Rattle.gltf_data.specs.AccessorTable.{accessor_rows}
-use Rattle.gltf_meshes.specs.MeshTable.{primitive_rows}
-use Rattle.gltf_nodes.specs.CameraTable.{camera_rows}
-use Rattle.gltf_nodes.specs.LightTable.{light_rows}
+use Rattle.gltf_data.specs.Accessor.{accessor_rows}
+use Rattle.gltf_meshes.specs.Mesh.{primitive_rows}
+use Rattle.gltf_nodes.specs.Camera.{camera_rows}
+use Rattle.gltf_nodes.specs.Light.{light_rows}
 use Rattle.gltf_root.specs.Lists.{list_in}
 use Rattle.gltf_root.specs.Named.{member_named}
-use Rattle.gltf_root.specs.RootTable.{root_rows}
+use Rattle.gltf_root.specs.Root.{root_rows}
 use Rattle.gltf_sinks.specs.Report.{From, report}
 use Rattle.gltf_faults.specs.Context.{Context}
 use Rattle.gltf_faults.specs.Faults.{report_if, items_reports}
@@ -36,7 +38,7 @@ accessor_min ts = member_named (codes "min") accessor_rows ts
 abbrev pub accessor_max : Trees → Tree
 accessor_max ts = member_named (codes "max") accessor_rows ts
 
--- its elements that stand in for others
+-- its elements that replace others
 abbrev pub accessor_sparse : Trees → Tree
 accessor_sparse ts = member_named (codes "sparse") accessor_rows ts
 
@@ -66,17 +68,19 @@ root_extensions_required ts = member_named (codes "extensionsRequired") root_row
 
 -- ---- the rules
 
--- an accessor has data: a view, or elements that stand in for zeros. This is the ported crate's rule: 5.1.1 allows an
--- accessor with neither, whose elements are zeros
+-- an accessor has data: a view, or elements that replace zeros. This is the ported crate's rule:
+-- 5.1.1 allows an accessor with neither, whose elements are zeros
 abbrev pub accessor_rule : Trees → From
 accessor_rule ts base = report_if (is_absent (accessor_sparse ts) && is_absent (accessor_buffer_view ts)) Missing (base ++ field (codes "bufferView") ∷ [])
 
--- a camera has a projection, whatever its type. This is the ported crate's rule: 5.12.3 asks for the one of the type
+-- a camera has a projection, whatever its type. This is the ported crate's rule: 5.12.3 asks for
+-- the one of the type
 abbrev pub camera_rule : Trees → From
 camera_rule ts base = report_if (is_absent (camera_orthographic ts) && is_absent (camera_perspective ts)) Missing base
 
+-- the type of a light is that of a spot light
 abbrev pub is_spot : Tree → Bool
-is_spot (chosen (by_name s)) = bytes_eq s (codes "spot")
+is_spot (chosen s) = is_spelled s (light_type_spelling light_types.Spot)
 is_spot _ = false
 
 -- a spot light has its cone (KHR_lights_punctual)

@@ -1,4 +1,4 @@
--- Where reports stand.
+-- The places of reports.
 use Rattle.std.specs.Prelude.{List, [], ◌∷◌, Bool, true, false, ◌&&◌, nat_eq}
 use Rattle.std.specs.Str.{bytes_eq}
 use Rattle.gltf_paths.specs.Steps.{Step, field, item, key, value}
@@ -17,6 +17,6 @@ begin_with [] steps = true
 begin_with (p ∷ place) [] = false
 begin_with (p ∷ place) (s ∷ steps) = same_step p s && begin_with place steps
 
--- a report of what stands at a place or below it
+-- a report of what is at a place or below it
 abbrev pub is_below : List Step → Report → Bool
 is_below place r = begin_with place r.steps

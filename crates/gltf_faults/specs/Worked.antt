@@ -7,13 +7,13 @@ use Rattle.gltf_paths.specs.Steps.{Step, field, item, key}
 use Rattle.gltf_sinks.specs.Report.{Report}
 use Rattle.gltf_faults.specs.Context.{standard_rules}
 use Rattle.gltf_faults.specs.Reports.{document_reports}
-use Rattle.gltf_data.specs.AccessorTable.{sparse_indices_rows}
-use Rattle.gltf_nodes.specs.LightTable.{light_of_node_rows}
-use Rattle.gltf_nodes.specs.SceneTable.{node_extension_rows}
+use Rattle.gltf_data.specs.Accessor.{sparse_indices_rows}
+use Rattle.gltf_nodes.specs.Light.{light_of_node_rows}
+use Rattle.gltf_nodes.specs.Scene.{node_extension_rows}
 use Rattle.gltf_root.specs.Named.{with_member, with_reached}
 use Rattle.gltf_root.specs.Pushed.{item_kind, pushed}
-use Rattle.gltf_root.specs.RootExtensionTable.{root_extension_rows}
-use Rattle.gltf_root.specs.RootTable.{root_kind, root_rows}
+use Rattle.gltf_root.specs.RootExtension.{root_extension_rows}
+use Rattle.gltf_root.specs.Root.{root_kind, root_rows}
 use Rattle.gltf_schema.specs.Defaults.{defaults}
 use Rattle.gltf_schema.specs.Kind.{Rows}
 use Rattle.gltf_schema.specs.Read.{read}
@@ -35,7 +35,8 @@ reports_ruled may_be_empty enabled d =
 abbrev pub written_of : Data → Option Data
 written_of d = option_and_then (write root_kind) (read root_kind d)
 
--- the document that a JSON value is, with the item that another is at the end of a list, and what is wrong in that
+-- the document that a JSON value is, with the item that another is at the end of a list, and what
+-- is wrong in that
 abbrev pub pushed_in : ListName → Data → Data → Option Tree
 pushed_in named x d = option_and_then (λ t. option_map (λ r. pushed named t r) (read root_kind d)) (read (item_kind named) x)
 

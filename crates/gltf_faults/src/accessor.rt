@@ -2,7 +2,7 @@
 
 ghost use Rattle.std.specs.Prelude.{◌≡◌, List, ◌∷◌, [], ◌++◌, codes};
 ghost use Rattle.gltf_paths.specs.Steps.{Step, field};
-ghost use Rattle.gltf_data.specs.AccessorTrees.{accessor_members};
+ghost use Rattle.gltf_data.specs.Accessor.{accessor_members};
 ghost use Rattle.gltf_sinks.specs.Report.{found_at};
 ghost use Rattle.gltf_faults.specs.Rules.{accessor_rule};
 
@@ -11,7 +11,7 @@ use gltf_data::accessor::Accessor;
 
 /// What is wrong with an accessor's data (glTF 2.0, section 3.6.2.3): `Missing`, for `bufferView`,
 /// where it has neither a view nor sparse storage.
-#[tactic(auto, unfolding(gltf_data::specs::AccessorTable::accessor_rows, gltf_data::specs::AccessorTrees::accessor_members))]
+#[tactic(auto, unfolding(gltf_data::specs::Accessor::accessor_rows, gltf_data::specs::Accessor::accessor_members))]
 pub fn data_fault(accessor: &Accessor) -> Option<Error>
     ensures { (base : List Step) → found_at result (base ++ field (codes "bufferView") ∷ [])
         ≡ accessor_rule (accessor_members accessor.now) base }

@@ -2,7 +2,7 @@
 
 ghost use Rattle.std.specs.Prelude.{◌≡◌, List};
 ghost use Rattle.gltf_paths.specs.Steps.{Step};
-ghost use Rattle.gltf_nodes.specs.CameraTrees.{camera_members};
+ghost use Rattle.gltf_nodes.specs.Camera.{camera_members};
 ghost use Rattle.gltf_sinks.specs.Report.{found_at};
 ghost use Rattle.gltf_faults.specs.Rules.{camera_rule};
 
@@ -11,7 +11,7 @@ use gltf_nodes::camera::Camera;
 
 /// What is wrong with a camera's projection: `Missing`, for the camera itself, where it has
 /// neither, whatever its type.
-#[tactic(auto, unfolding(gltf_nodes::specs::CameraTable::camera_rows, gltf_nodes::specs::CameraTrees::camera_members))]
+#[tactic(auto, unfolding(gltf_nodes::specs::Camera::camera_rows, gltf_nodes::specs::Camera::camera_members))]
 pub fn projection_fault(camera: &Camera) -> Option<Error>
     ensures { (base : List Step)
         → found_at result base ≡ camera_rule (camera_members camera.now) base }

@@ -16,8 +16,8 @@ pub struct Context<'a> {
 }
 
 /// What has a context. Code that only hands it on, as a walk over an object's members does, asks
-/// for this, and so need not know that a whole document stands in it.
-pub trait Against {
+/// for this: it need not know that a context holds a whole document.
+pub trait HasContext {
     ghost context: { Self → MathematicalContext };
 
     /// The document and the rules.
@@ -25,7 +25,7 @@ pub trait Against {
         ensures { context_of result ≡ context self.now };
 }
 
-impl Against for Context<'_> {
+impl HasContext for Context<'_> {
     ghost context = { context_of };
 
     fn context(&self) -> Context<'_> {

@@ -22,8 +22,7 @@ ghost use Rattle.gltf_faults.specs.Standing.{is_below};
 ghost use Rattle.gltf_paths.specs.Lists.{ListName};
 ghost use Rattle.gltf_root.specs.Lists.{count_in, list_in, row_of};
 ghost use Rattle.gltf_root.specs.Pushed.{item_kind, item_place, pushed, with_last};
-ghost use Rattle.gltf_root.specs.RootTable.{root_kind};
-ghost use Rattle.gltf_root.specs.RootTrees.{root_tree};
+ghost use Rattle.gltf_root.specs.Root.{root_kind, root_tree};
 ghost use Rattle.gltf_sinks.specs.Handed.{run};
 ghost use Rattle.gltf_sinks.specs.Sinks.{one_more};
 ghost use Rattle.gltf_root.specs.declared.root.Root.{Root as Document};
@@ -49,8 +48,8 @@ pub fn clean_documents_are_closed()
 {}
 
 /// In a document without reports no index into a list is the number of the list's items, which is
-/// the one that the next item takes. It is so by any rules: where they let textures be empty, the
-/// number that stands for no image is no index.
+/// the one that the next item takes. It is so by any rules: if they let textures be empty, the
+/// number that means no image is no index.
 pub fn clean_documents_avoid_the_next_number()
     ensures { (rules : Rules) (r : Document) (named : ListName)
         → document_reports rules (root_tree r) ≡ []
@@ -83,7 +82,7 @@ pub fn pushes_leave_other_reports()
 {}
 
 /// One more item in a document without reports: what is wrong then is what is wrong with the item,
-/// where it stands.
+/// at its place.
 pub fn pushes_onto_clean_documents()
     ensures { (rules : Rules) (r : Document) (named : ListName) (x : Tree)
         → let new = pushed named x (root_tree r) in
@@ -93,9 +92,9 @@ pub fn pushes_onto_clean_documents()
         (item_place named (count_in named (root_tree r))) }
 {}
 
-/// Where no index into the list is the number that the item takes, what is wrong in the longer
-/// document at the item's place or below it is what is wrong with the item, and the rest is what
-/// was wrong before, both in order. The item's stand all together among the others.
+/// If no index into the list is the number that the item takes, what is wrong in the longer
+/// document at the item's place or below it is what is wrong with the item. The rest is what was
+/// wrong before, both in order. The reports of the item are all together among the others.
 pub fn pushes_add_reports_of_the_item()
     ensures of_item { (rules : Rules) (r : Document) (named : ListName) (x : Tree)
         → let n = count_in named (root_tree r) in let new = pushed named x (root_tree r) in
@@ -115,7 +114,7 @@ pub fn pushes_add_reports_of_the_item()
         (document_reports rules new) }
 {}
 
-/// A document that was read is refused for writing exactly where an item of a choice or the key of
+/// A document that was read is refused for writing exactly if an item of a choice or the key of
 /// an attribute in it is invalid.
 pub fn read_documents_are_refused_where_invalid()
     ensures { (d : Data) (t : Tree) → read root_kind d ≡ Some t

@@ -2,7 +2,7 @@
 
 ghost use Rattle.std.specs.Prelude.{◌≡◌, List};
 ghost use Rattle.gltf_checked.specs.Spelling.{Spelling};
-ghost use Rattle.gltf_data.specs.BufferTrees.{stride_tree};
+ghost use Rattle.gltf_data.specs.Buffer.{stride_tree};
 ghost use Rattle.gltf_paths.specs.Steps.{Step};
 ghost use Rattle.gltf_schema.specs.Leaves.{checked_tree};
 ghost use Rattle.gltf_sinks.specs.Report.{found_at};

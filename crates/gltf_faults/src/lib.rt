@@ -15,7 +15,7 @@ mod rules;
 
 pub use accessor::data_fault;
 pub use camera::projection_fault;
-pub use context::{Against, Context};
+pub use context::{Context, HasContext};
 pub use indexes::{index_fault, sampler_fault, source_fault};
 pub use leaves::{choice_fault, stride_fault};
 pub use light::spot_fault;

@@ -2,7 +2,7 @@
 
 ghost use Rattle.std.specs.Prelude.{◌≡◌, List, ◌∷◌, [], ◌++◌, codes};
 ghost use Rattle.gltf_paths.specs.Steps.{Step, field};
-ghost use Rattle.gltf_nodes.specs.LightTrees.{light_members};
+ghost use Rattle.gltf_nodes.specs.Light.{light_members};
 ghost use Rattle.gltf_sinks.specs.Report.{found_at};
 ghost use Rattle.gltf_faults.specs.Rules.{light_rule};
 
@@ -10,9 +10,9 @@ use gltf_base::extensions::scene::khr_lights_punctual::LightType;
 use gltf_base::validation::{Checked, Error};
 use gltf_nodes::extensions::scene::khr_lights_punctual::Light;
 
-/// What is wrong with a light's cone: `Missing`, for `spot`, where the type is a spot light and
-/// there is no cone.
-#[tactic(auto, unfolding(gltf_nodes::specs::LightTable::light_rows, gltf_nodes::specs::LightTrees::light_members))]
+/// What is wrong with a light's cone: `Missing`, for `spot`, if the type is a spot light and there
+/// is no cone.
+#[tactic(auto, unfolding(gltf_nodes::specs::Light::light_rows, gltf_nodes::specs::Light::light_members))]
 pub fn spot_fault(light: &Light) -> Option<Error>
     ensures { (base : List Step) → found_at result (base ++ field (codes "spot") ∷ [])
         ≡ light_rule (light_members light.now) base }

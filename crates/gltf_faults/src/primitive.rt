@@ -6,11 +6,11 @@ ghost use Rattle.serde_json.specs.View.{view};
 ghost use Rattle.gltf_checked.specs.Semantics.{checked_key};
 ghost use Rattle.gltf_paths.specs.Indexes.{index_number};
 ghost use Rattle.gltf_paths.specs.Steps.{Step as MathematicalStep};
-ghost use Rattle.gltf_data.specs.AccessorTrees.{accessor_members};
-ghost use Rattle.gltf_meshes.specs.MeshTrees.{primitive_members};
+ghost use Rattle.gltf_data.specs.Accessor.{accessor_members};
+ghost use Rattle.gltf_meshes.specs.Mesh.{primitive_members};
 ghost use Rattle.gltf_schema.specs.Fields.{any_tree, attributes_tree, closed_object};
 ghost use Rattle.gltf_schema.specs.Tree.{entries_in, tree_or_absent};
-ghost use Rattle.gltf_root.specs.RootTrees.{root_tree};
+ghost use Rattle.gltf_root.specs.Root.{root_tree};
 ghost use Rattle.gltf_sinks.specs.Report.{found_at};
 ghost use Rattle.gltf_faults.specs.Rules.{bound_faults, bounds_faults, is_positions, is_triple, positions_faults, primitive_attributes};
 ghost use Rattle.gltf_faults.specs.Positions.{found_in_positions};
@@ -38,7 +38,7 @@ pub struct PositionFaults {
 
 /// What is wrong with the positions of a primitive: `Missing` where there are none; for each bound
 /// of their accessor, where it is there, `Missing` or, for what isn't three numbers, `Invalid`.
-#[tactic(auto, unfolding(gltf_meshes::specs::MeshTable::primitive_rows, gltf_meshes::specs::MeshTrees::primitive_members))]
+#[tactic(auto, unfolding(gltf_meshes::specs::Mesh::primitive_rows, gltf_meshes::specs::Mesh::primitive_members))]
 pub fn position_faults(primitive: &Primitive, root: &Root) -> PositionFaults
     ensures { (base : List MathematicalStep) → found_in_positions result base
         ≡ positions_faults (lookup is_positions (entries_in
@@ -70,7 +70,7 @@ fn found_at_index(index: Index<Accessor>, root: &Root) -> PositionFaults
 }
 
 /// What is wrong with the bounds of an accessor of positions.
-#[tactic(auto, unfolding(gltf_data::specs::AccessorTable::accessor_rows, gltf_data::specs::AccessorTrees::accessor_members))]
+#[tactic(auto, unfolding(gltf_data::specs::Accessor::accessor_rows, gltf_data::specs::Accessor::accessor_members))]
 fn found_in_bounds(accessor: &Accessor) -> PositionFaults
     ensures { (base : List MathematicalStep) → found_in_positions result base
         ≡ bounds_faults (closed_object (accessor_members accessor.now)) base }
@@ -107,7 +107,7 @@ fn is_three_numbers(value: &Value) -> bool
     }
 }
 
-/// The index under which the positions stand.
+/// The index that the positions have.
 fn index_of_positions(
     attributes: &BTreeMap<Checked<Semantic>, Index<Accessor>>,
 ) -> Option<Index<Accessor>>

@@ -5,10 +5,10 @@ ghost use Rattle.gltf_faults.specs.Context.{rules_of, standard_rules, enabled_wi
 
 use gltf_base::extensions::ENABLED_EXTENSIONS;
 
-/// What validation goes by where a caller rules.
+/// What a caller allows when a document is validated.
 #[derive(Clone, Copy, Debug, Drop, PartialEq, Eq)]
 pub struct Rules<'a> {
-    /// Whether a texture may be without an image: the number 4294967295, which stands for none, is
+    /// Whether a texture may be without an image: the number 4294967295, which means none, is
     /// then no fault at its `source`.
     pub empty_texture: bool,
     /// The names of the extensions that a document may require, each compared whole.

@@ -1,12 +1,12 @@
 -- What a run wrote, from how its document was read and what the writer took.
-use Rattle.std.proofs.Common.{◌≡◌, ◌⊎◌, inl, inr, ℕ, List, Bool, true, Option, Some, None, IfSome, IsSomeAnd, Result, Ok, Err, refl, sym, ◌∙◌, subst}
+use Rattle.std.proofs.Common.{◌≡◌, ◌⊎◌, inl, inr, ℕ, List, Bool, true, Option, None, IfSome, IsSomeAnd, Result, Ok, Err, refl, sym, ◌∙◌, subst}
 use Rattle.std.proofs.lemmas.Bool.{true≢false}
 use Rattle.gltf_paths.specs.declared.error.Error.{Error}
 use Rattle.gltf_paths.specs.declared.error.Error.TheVariants.{Json, Schema, InvalidItem, Read, Write, Memory, TooLong}
 use Rattle.gltf_root.specs.Answer.{no_json, no_document, document, answer, IsReadAnswer, IsReading}
 use Rattle.gltf_devices.specs.Device.{Seen, IsWithin}
 use Rattle.gltf_faults.specs.Context.{Rules}
-use Rattle.gltf_root.specs.RootTrees.{root_tree}
+use Rattle.gltf_root.specs.Root.{root_tree}
 use Rattle.gltf_root.specs.declared.root.Root.{Root}
 use Rattle.gltf_lines.specs.Output.{Output, refusal}
 use Rattle.gltf_lines.specs.Run.{IsRun, IsWritten, reading_output}

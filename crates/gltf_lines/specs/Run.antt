@@ -6,7 +6,7 @@ use Rattle.gltf_paths.specs.declared.error.Error.TheVariants as errors
 use Rattle.gltf_root.specs.Answer.{Answer, no_json, no_document, document, answer, byte_limit, call_limit}
 use Rattle.gltf_devices.specs.Device.{Seen, IsWithin, AppendsFront}
 use Rattle.gltf_faults.specs.Context.{Rules}
-use Rattle.gltf_root.specs.RootTrees.{root_tree}
+use Rattle.gltf_root.specs.Root.{root_tree}
 use Rattle.gltf_root.specs.declared.root.Root.{Root}
 use Rattle.gltf_lines.specs.Output.{Output, answer_output, refusal}
 

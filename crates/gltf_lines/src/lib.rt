@@ -21,8 +21,8 @@ use writing::write_output;
 
 const REFUSAL: &str = "refused: input or output\n";
 
-/// Reads a document to its end and writes a line for each report, `clean` where there is none, or
-/// why the document was refused. It returns the exit status:
+/// Reads a document to its end and writes a line for each report, `clean` if there is none, or why
+/// the document was refused. It returns the exit status:
 ///
 /// | Status | Output |
 /// |---|---|
@@ -30,7 +30,7 @@ const REFUSAL: &str = "refused: input or output\n";
 /// | 1 | a line `path: error` for each report, in order |
 /// | 2 | `refused: not JSON` |
 /// | 3 | `refused: not a glTF document` |
-/// | 4 | `refused: input or output`, where the reader failed, a limit of [`Root::from_reader`] was passed or memory was refused; a prefix of the output that was due, where the writer failed |
+/// | 4 | `refused: input or output`, if the reader failed, a limit of [`Root::from_reader`] was passed or memory was refused; a prefix of the output that was due, where the writer failed |
 ///
 /// The whole output is made before its first byte is written. Paths escape nothing, so a report on
 /// a name with a newline in it takes more than one line.
@@ -47,7 +47,7 @@ pub fn run<R: ByteIn, W: ByteOut>(alloc: Global, reader: &mut R, writer: &mut W)
     run_with(alloc, &Rules::new(), reader, writer)
 }
 
-/// [`run`], but by rules of the caller's: what is wrong in the document is what is wrong by them.
+/// [`run`] by the caller's rules.
 pub fn run_with<R: ByteIn, W: ByteOut>(
     alloc: Global,
     rules: &Rules<'_>,

@@ -2,7 +2,7 @@
 
 ghost use Rattle.std.specs.Prelude.{◌≡◌, IfOk, string_bytes};
 ghost use Rattle.gltf_faults.specs.Context.{rules_of};
-ghost use Rattle.gltf_root.specs.RootTrees.{root_tree};
+ghost use Rattle.gltf_root.specs.Root.{root_tree};
 ghost use Rattle.gltf_faults.specs.Reports.{document_reports};
 ghost use Rattle.gltf_lines.specs.Output.{report_lines};
 
@@ -13,7 +13,7 @@ use gltf_walk::Walk;
 use std::alloc::{AllocError, Global};
 use std::fmt::Write;
 
-/// The lines of everything that is wrong in a document by the rules.
+/// The lines of all reports of a document by the rules.
 pub(crate) fn lines_of(alloc: Global, rules: &Rules<'_>, root: &Root) -> Result<String, AllocError>
     ensures { IfOk result (λ lines. string_bytes lines
         ≡ report_lines (document_reports (rules_of rules.now) (root_tree root.now))) }

@@ -6,7 +6,7 @@ ghost use Rattle.gltf_lines.specs.Run.{IsWritten};
 
 use gltf_devices::{ByteOut, Failed, write_all};
 
-/// Writes a text and returns the status that goes with it, or 4 where the writer failed.
+/// Writes a text and returns the status that goes with it, or 4 if the writer failed.
 #[tactic(auto, unfolding(crate::specs::Run::IsWritten))]
 pub(crate) fn write_output<W: ByteOut>(writer: &mut W, text: &str, status: u8) -> u8
     ensures status { (result ≡ status) ⊎ (result ≡ 4) }

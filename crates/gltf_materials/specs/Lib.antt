@@ -1,2 +1,1 @@
-pub mod MaterialTable
-pub mod MaterialTrees
+pub mod Material

@@ -6,8 +6,7 @@ ghost use Rattle.serde_json.specs.Data.{no_members};
 ghost use Rattle.gltf_paths.specs.Lists.{materials};
 ghost use Rattle.gltf_schema.specs.Kind.{Number, Numbers};
 ghost use Rattle.gltf_schema.specs.Defaults.{defaults};
-ghost use Rattle.gltf_materials.specs.MaterialTable.{material_rows, material_sound, material_height, pbr_metallic_roughness_rows, pbr_metallic_roughness_sound, pbr_metallic_roughness_height, normal_texture_rows, normal_texture_sound, normal_texture_height, occlusion_texture_rows, occlusion_texture_sound, occlusion_texture_height};
-ghost use Rattle.gltf_materials.specs.MaterialTrees.{alpha_cutoff_tree, material_members, pbr_metallic_roughness_members, normal_texture_members, occlusion_texture_members};
+ghost use Rattle.gltf_materials.specs.Material.{material_rows, material_sound, material_height, pbr_metallic_roughness_rows, pbr_metallic_roughness_sound, pbr_metallic_roughness_height, normal_texture_rows, normal_texture_sound, normal_texture_height, occlusion_texture_rows, occlusion_texture_sound, occlusion_texture_height, alpha_cutoff_tree, material_members, pbr_metallic_roughness_members, normal_texture_members, occlusion_texture_members};
 ghost use Rattle.gltf_schema.specs.Fields.{reals_tree};
 ghost use Rattle.gltf_schema.specs.Tree.{tree_or_absent};
 
@@ -67,7 +66,7 @@ impl Drop for Material {
 
 impl Material {
     /// A material with every member at its default.
-    #[tactic(auto, unfolding(crate::specs::MaterialTable::material_rows, crate::specs::MaterialTrees::material_members))]
+    #[tactic(auto, unfolding(crate::specs::Material::material_rows, crate::specs::Material::material_members))]
     pub fn new() -> Material
         ensures { material_members result ≡ defaults material_rows }
     {
@@ -188,7 +187,7 @@ impl Drop for PbrMetallicRoughness {
 
 impl PbrMetallicRoughness {
     /// Parameters with every member at its default.
-    #[tactic(auto, unfolding(crate::specs::MaterialTable::pbr_metallic_roughness_rows, crate::specs::MaterialTrees::pbr_metallic_roughness_members))]
+    #[tactic(auto, unfolding(crate::specs::Material::pbr_metallic_roughness_rows, crate::specs::Material::pbr_metallic_roughness_members))]
     pub fn new() -> PbrMetallicRoughness
         ensures { pbr_metallic_roughness_members result ≡ defaults pbr_metallic_roughness_rows }
     {
@@ -266,7 +265,7 @@ impl Blank for PbrMetallicRoughness {
 pub struct NormalTexture {
     /// The texture.
     pub index: Index<Texture>,
-    /// The factor of a normal's first two components; `None` stands for 1.
+    /// The factor of a normal's first two components; `None` means 1.
     pub scale: Option<Real>,
     /// Which set of texture coordinates is used: the number in `TEXCOORD_n`.
     pub tex_coord: u32,
@@ -419,7 +418,7 @@ impl Schema for AlphaCutoff {
     }
 }
 
-/// The factors of an emitted color: red, green, blue; `None` stands for zeros.
+/// The factors of an emitted color: red, green, blue; `None` means zeros.
 #[derive(Clone, Debug, Default, Drop)]
 pub struct EmissiveFactor(pub Option<[Real; 3]>);
 
@@ -429,7 +428,7 @@ impl Tabled for EmissiveFactor {
     ghost tree = { λ factor. tree_or_absent reals_tree factor.0 };
 }
 
-/// The factors of a base color: red, green, blue, alpha; `None` stands for ones.
+/// The factors of a base color: red, green, blue, alpha; `None` means ones.
 #[derive(Clone, Debug, Default, Drop)]
 pub struct PbrBaseColorFactor(pub Option<[Real; 4]>);
 

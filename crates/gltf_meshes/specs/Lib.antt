@@ -1,2 +1,1 @@
-pub mod MeshTable
-pub mod MeshTrees
+pub mod Mesh

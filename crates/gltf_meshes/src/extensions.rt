@@ -1,3 +1,3 @@
-//! Extension objects of meshes and their primitives: what stands behind their member `extensions`.
+//! Extension objects of meshes and their primitives: the values of their member `extensions`.
 
 pub mod mesh;

@@ -5,8 +5,7 @@ ghost use Rattle.std.proofs.Common.{lit≤};
 ghost use Rattle.serde_json.specs.Data.{no_members};
 ghost use Rattle.gltf_paths.specs.Lists.{meshes};
 ghost use Rattle.gltf_schema.specs.Kind.{needs_positions};
-ghost use Rattle.gltf_meshes.specs.MeshTable.{mesh_rows, mesh_sound, mesh_height, primitive_rows, primitive_sound, primitive_height, morph_target_rows, morph_target_sound, morph_target_height};
-ghost use Rattle.gltf_meshes.specs.MeshTrees.{mesh_members, primitive_members, morph_target_members};
+ghost use Rattle.gltf_meshes.specs.Mesh.{mesh_rows, mesh_sound, mesh_height, primitive_rows, primitive_sound, primitive_height, morph_target_rows, morph_target_sound, morph_target_height, mesh_members, primitive_members, morph_target_members};
 
 use crate::extensions;
 use gltf_base::mesh::{Mode, Semantic};
@@ -21,7 +20,7 @@ use std::alloc::Global;
 use std::collections::BTreeMap;
 
 /// Geometry that nodes place in a scene.
-// What takes longest to drop stands last (docs/DECISIONS.md).
+// What takes longest to drop comes last (docs/DECISIONS.md).
 #[derive(Clone, Debug)]
 pub struct Mesh {
     pub name: Option<String>,
@@ -93,7 +92,7 @@ impl Object for Mesh {
 }
 
 /// A part of a mesh: what is drawn at once, with one material.
-// What takes longest to drop stands last (docs/DECISIONS.md).
+// What takes longest to drop comes last (docs/DECISIONS.md).
 #[derive(Clone, Debug, Drop)]
 pub struct Primitive {
     /// The numbers of the vertices in drawing order; without it all vertices are drawn, in the

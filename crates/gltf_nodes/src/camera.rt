@@ -5,8 +5,7 @@ ghost use Rattle.std.proofs.Common.{lit≤};
 ghost use Rattle.serde_json.specs.Data.{no_members};
 ghost use Rattle.gltf_paths.specs.Lists.{cameras};
 ghost use Rattle.gltf_schema.specs.Kind.{needs_projection};
-ghost use Rattle.gltf_nodes.specs.CameraTable.{camera_rows, camera_sound, camera_height, orthographic_rows, orthographic_sound, orthographic_height, perspective_rows, perspective_sound, perspective_height};
-ghost use Rattle.gltf_nodes.specs.CameraTrees.{camera_members, orthographic_members, perspective_members};
+ghost use Rattle.gltf_nodes.specs.Camera.{camera_rows, camera_sound, camera_height, orthographic_rows, orthographic_sound, orthographic_height, perspective_rows, perspective_sound, perspective_height, camera_members, orthographic_members, perspective_members};
 
 use crate::extensions;
 use gltf_base::camera::CameraType;
@@ -18,7 +17,7 @@ use serde_json::{Map, Value};
 use std::alloc::Global;
 
 /// How a scene is seen from a node.
-// What takes longest to drop stands last (docs/DECISIONS.md).
+// What takes longest to drop comes last (docs/DECISIONS.md).
 #[derive(Clone, Debug)]
 pub struct Camera {
     /// How the camera projects.

@@ -1,7 +1,5 @@
-//! Extension objects of cameras, nodes, scenes, skins and the document's own description: what
-//! stands behind their member `extensions`.
+//! Extension objects of cameras, nodes, scenes and skins: the values of their member `extensions`.
 
-pub mod asset;
 pub mod camera;
 pub mod scene;
 pub mod skin;

@@ -1,7 +1,7 @@
 //! Laws of the crate's types. Each function does nothing; its contract is the law.
 
 ghost use Rattle.std.specs.Prelude.{◌≡◌};
-ghost use Rattle.gltf_nodes.specs.SceneTrees.{unit_quaternion_tree, no_rotation};
+ghost use Rattle.gltf_nodes.specs.Scene.{unit_quaternion_tree, no_rotation};
 
 use crate::scene::UnitQuaternion;
 

@@ -6,8 +6,7 @@ ghost use Rattle.serde_json.specs.Data.{no_members};
 ghost use Rattle.gltf_paths.specs.Lists.{nodes, scenes};
 ghost use Rattle.gltf_schema.specs.Kind.{Numbers};
 ghost use Rattle.gltf_schema.specs.Defaults.{defaults};
-ghost use Rattle.gltf_nodes.specs.SceneTable.{node_rows, node_sound, node_height, scene_rows, scene_sound, scene_height};
-ghost use Rattle.gltf_nodes.specs.SceneTrees.{node_members, scene_members, unit_quaternion_tree, no_rotation};
+ghost use Rattle.gltf_nodes.specs.Scene.{node_rows, node_sound, node_height, scene_rows, scene_sound, scene_height, node_members, scene_members, unit_quaternion_tree, no_rotation};
 
 use crate::camera::Camera;
 use crate::extensions;
@@ -19,8 +18,8 @@ use gltf_schema::{Error, Object, Reading, Schema, Tabled, Writing};
 use serde_json::{Map, Value};
 use std::alloc::Global;
 
-/// A place in the hierarchy of a scene, and what stands there.
-// What takes longest to drop stands last (docs/DECISIONS.md).
+/// A place in the hierarchy of a scene, and what is there.
+// What takes longest to drop comes last (docs/DECISIONS.md).
 #[derive(Clone, Debug)]
 pub struct Node {
     pub camera: Option<Index<Camera>>,
@@ -32,7 +31,7 @@ pub struct Node {
     pub children: Option<Vec<Index<Node>>>,
     /// How much of each morph target of the mesh is added; without it the mesh's own weights hold.
     pub weights: Option<Vec<Real>>,
-    /// How the node stands in its parent, as a matrix by columns.
+    /// The place of the node in its parent, as a matrix by columns.
     pub matrix: Option<[Real; 16]>,
     /// How the node is turned in its parent.
     pub rotation: Option<UnitQuaternion>,
@@ -66,7 +65,7 @@ impl Drop for Node {
 
 impl Node {
     /// A node with every member at its default.
-    #[tactic(auto, unfolding(crate::specs::SceneTable::node_rows, crate::specs::SceneTrees::node_members))]
+    #[tactic(auto, unfolding(crate::specs::Scene::node_rows, crate::specs::Scene::node_members))]
     pub fn new() -> Node
         ensures { node_members result ≡ defaults node_rows }
     {
@@ -155,7 +154,7 @@ impl Object for Node {
 }
 
 /// The nodes that are shown together.
-// What takes longest to drop stands last (docs/DECISIONS.md).
+// What takes longest to drop comes last (docs/DECISIONS.md).
 #[derive(Clone, Debug)]
 pub struct Scene {
     pub name: Option<String>,

@@ -4,8 +4,7 @@ ghost use Rattle.std.specs.Prelude.{false};
 ghost use Rattle.std.proofs.Common.{lit≤};
 ghost use Rattle.serde_json.specs.Data.{no_members};
 ghost use Rattle.gltf_paths.specs.Lists.{skins};
-ghost use Rattle.gltf_nodes.specs.SceneTable.{skin_rows, skin_sound, skin_height};
-ghost use Rattle.gltf_nodes.specs.SceneTrees.{skin_members};
+ghost use Rattle.gltf_nodes.specs.Scene.{skin_rows, skin_sound, skin_height, skin_members};
 
 use crate::extensions;
 use crate::scene::Node;
@@ -17,7 +16,7 @@ use serde_json::{Map, Value};
 use std::alloc::Global;
 
 /// The joints that the vertices of a mesh follow.
-// What takes longest to drop stands last (docs/DECISIONS.md).
+// What takes longest to drop comes last (docs/DECISIONS.md).
 #[derive(Clone, Debug)]
 pub struct Skin {
     /// The matrices that bring vertices into the space of each joint; without it each is the

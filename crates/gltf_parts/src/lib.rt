@@ -31,7 +31,7 @@ pub mod buffer {
     pub use gltf_data::buffer::{Buffer, Stride, View};
 }
 
-/// Extension objects: what stands behind the member `extensions` of an object.
+/// Extension objects: the values of an object's member `extensions`.
 pub mod extensions {
     /// Those of accessors.
     pub mod accessor {

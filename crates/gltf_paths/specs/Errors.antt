@@ -10,7 +10,7 @@ error_text Missing = codes "Missing data"
 error_text Oversize = codes "Size exceeds system limits"
 error_text Unsupported = codes "Unsupported extension"
 
--- where the error stands in the order of errors
+-- the place of the error in the order of errors
 abbrev pub error_rank : Error → ℕ
 error_rank IndexOutOfBounds = 0
 error_rank Invalid = 1

@@ -4,7 +4,7 @@ use Rattle.serde_json.specs.View.{view}
 use Rattle.serde_json.specs.declared.value.Value.{Value}
 use Rattle.gltf_paths.specs.declared.real.Real.{Real}
 
--- the number of JSON that is one
+-- the number of JSON that is one; a real holds nothing else (`is_number` of `Real`)
 abbrev pub number_in : Data → Num
 number_in (number x) = x
 number_in _ = unsigned 0

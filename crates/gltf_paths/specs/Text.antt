@@ -3,7 +3,7 @@ use Rattle.std.specs.Prelude.{ℕ, List, [], ◌∷◌, ◌++◌, codes}
 use Rattle.std.specs.Fmt.{decimal}
 use Rattle.gltf_paths.specs.Steps.{Step, field, item, key, value}
 
--- a name stands behind a dot, but at the beginning
+-- a name is behind a dot, but at the beginning
 abbrev pub dotted : List ℕ → List ℕ → List ℕ
 dotted [] name = name
 dotted (c ∷ cs) name = (c ∷ cs) ++ codes "." ++ name

@@ -3,7 +3,7 @@
 use std::alloc::{AllocError, AllocFailed};
 use std::fmt;
 
-/// Why a document could not be read or written. It tells the kind alone, and not the place.
+/// Why a document could not be read or written. It has the kind only, and not the place.
 #[derive(Debug, Drop)]
 pub enum Error {
     /// The bytes are no JSON: a fault of syntax, an early end, nesting past 127 levels, or no

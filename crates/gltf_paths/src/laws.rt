@@ -28,7 +28,7 @@ pub fn indexes_are_compared_as_numbers<P>()
         → ⟦<IndexTo<P> as Hash>⟧.hash_input i ≡ ⟦<u32 as Hash>⟧.hash_input (index_number i) }
 {}
 
-/// Errors stand in the order in which they are declared.
+/// Errors are in the order in which they are declared.
 pub fn errors_are_ordered_by_rank()
     ensures order { (a b : AnError)
         → ⟦<Error as Ord>⟧.cmp a b ≡ nat_cmp (error_rank a) (error_rank b) }

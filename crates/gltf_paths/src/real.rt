@@ -1,4 +1,4 @@
-//! JSON numbers that are carried as they stand.
+//! JSON numbers that are kept as they are.
 
 ghost use Rattle.std.specs.Prelude.{◌≡◌, true, is_some};
 ghost use Rattle.serde_json.specs.Find.{as_number};
@@ -50,7 +50,7 @@ impl Real {
     }
 }
 
-// One call drops it, wherever it is held: the six kinds of a value are told apart here alone.
+// One call drops it, wherever it is held: only here are the six kinds of a value told apart.
 impl Drop for Real {
     fn drop(self) {
         let Real { value: _ } = self;

@@ -7,10 +7,8 @@ use Rattle.gltf_root.proofs.Undoing.{without_last-with_last}
 use Rattle.gltf_root.specs.Lists.{extensions_name, list_in}
 use Rattle.gltf_root.specs.Named.{put_named}
 use Rattle.gltf_root.specs.Pushed.{pushed, with_list}
-use Rattle.gltf_root.specs.RootExtensionTable.{lights_rows, variants_rows, root_extension_rows}
-use Rattle.gltf_root.specs.RootExtensionTrees.{root_extensions, root_extension_members, lights_members, variants_members}
-use Rattle.gltf_root.specs.RootTable.{root_rows}
-use Rattle.gltf_root.specs.RootTrees.{root_members, root_tree}
+use Rattle.gltf_root.specs.RootExtension.{lights_rows, variants_rows, root_extension_rows, root_extensions, root_extension_members, lights_members, variants_members}
+use Rattle.gltf_root.specs.Root.{root_rows, root_members, root_tree}
 use Rattle.gltf_root.specs.Undone.{mark_in, undone}
 use Rattle.gltf_root.specs.declared.root.Root.{Root}
 use Rattle.gltf_root.specs.declared.extensions.root.Root.{Root as RootExtensions}

@@ -8,8 +8,7 @@ use Rattle.gltf_schema.specs.Read.{read}
 use Rattle.gltf_paths.specs.declared.error.Error.{Error}
 use Rattle.gltf_paths.specs.declared.error.Error.TheVariants as errors
 use Rattle.gltf_devices.specs.Device.{Seen, IsWithin, IsCause, IsReadError}
-use Rattle.gltf_root.specs.RootTable.{root_kind}
-use Rattle.gltf_root.specs.RootTrees.{root_tree}
+use Rattle.gltf_root.specs.Root.{root_kind, root_tree}
 use Rattle.gltf_root.specs.declared.root.Root.{Root}
 
 pub data Answer : Type 0 where
@@ -29,7 +28,7 @@ value_answer (Some d) = tree_answer (read root_kind d)
 abbrev pub answer : List ℕ → Answer
 answer bytes = if is_utf8 bytes then value_answer (read_json bytes) else no_json
 
--- want of memory aside, the result is this answer
+-- the result is this answer, unless memory was refused
 abbrev pub IsAnswer : Answer → Result Root Error → Type 0
 IsAnswer due (Ok root) = due ≡ document (root_tree root)
 IsAnswer due (Err errors.Json) = due ≡ no_json
@@ -49,14 +48,16 @@ IsRefusal errors.Json = ⊤
 IsRefusal errors.Schema = ⊤
 IsRefusal e = IsReadError e
 
--- how many bytes a document may have, and how many calls its reader may take, the one at the end among them
+-- how many bytes a document may have, and how many calls its reader may take, the one at the end
+-- among them
 abbrev pub byte_limit : ℕ
 byte_limit = 1073741824
 
 abbrev pub call_limit : ℕ
 call_limit = 2147483648
 
--- how a reader that was fresh was read: to its end within the limits, or not, for the cause that the error tells
+-- how a fresh reader was read: to its end within the limits, or not, for the cause that the error
+-- names
 abbrev pub IsReading : ℕ → ℕ → Seen → Result Root Error → Type 0
 IsReading bytes calls seen (Ok root) = IsWithin bytes calls seen
 IsReading bytes calls seen (Err errors.Json) = IsWithin bytes calls seen

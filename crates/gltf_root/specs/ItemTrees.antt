@@ -1,5 +1,5 @@
--- That the lists in the extensions of a document stand in its tree where the table lists them, also
--- where another is put there: what the implementations for lights and variants promise.
+-- The lists in the extensions of a document are in its tree where the table lists them, also if
+-- another list is put there: what the implementations for lights and variants promise.
 use Rattle.std.proofs.Common.{◌≡◌, List, true, not, map, option_map, Option, Some, None, refl, ap}
 use Rattle.std.specs.declared.alloc.Global.{Global}
 use Rattle.std.specs.declared.vec.Vec.{Vec}
@@ -7,25 +7,24 @@ use Rattle.serde_json.specs.View.{members_view}
 use Rattle.gltf_paths.specs.Lists.{ListName}
 use Rattle.gltf_schema.specs.Tree.{Tree, Trees, absent, is_absent, list, object, end, trees, tree_or_absent, items_in, members_in}
 use Rattle.gltf_schema.specs.Fields.{closed_object}
-use Rattle.gltf_nodes.specs.LightTrees.{light_members, variant_members}
+use Rattle.gltf_nodes.specs.Light.{light_members, variant_members}
 use Rattle.gltf_nodes.specs.declared.extensions.scene.khr_lights_punctual.Light.{Light}
 use Rattle.gltf_nodes.specs.declared.extensions.scene.khr_materials_variants.Variant.{Variant}
 use Rattle.gltf_root.specs.Items.{listed_in, lights_in, lights_of, lights_put, lights_put_in, put_lights, variants_in, variants_of, variants_put, variants_put_in, put_variants}
 use Rattle.gltf_root.specs.Lists.{extensions_name, lights_name, variants_name, lights_way, variants_way, further_way, is_there}
 use Rattle.gltf_root.specs.Named.{member_named, put_named, reached, with_reached}
 use Rattle.gltf_root.specs.Pushed.{with_list}
-use Rattle.gltf_root.specs.RootExtensionTable.{lights_rows, variants_rows, root_extension_rows}
-use Rattle.gltf_root.specs.RootExtensionTrees.{root_extensions, root_extension_members, lights_members, variants_members}
-use Rattle.gltf_root.specs.RootTable.{root_rows}
-use Rattle.gltf_root.specs.RootTrees.{root_members, root_tree}
+use Rattle.gltf_root.specs.RootExtension.{lights_rows, variants_rows, root_extension_rows, root_extensions, root_extension_members, lights_members, variants_members}
+use Rattle.gltf_root.specs.Root.{root_rows, root_members, root_tree}
 use Rattle.gltf_root.specs.declared.root.Root.{Root}
 use Rattle.gltf_root.specs.declared.extensions.root.KhrLightsPunctual.{KhrLightsPunctual}
 use Rattle.gltf_root.specs.declared.extensions.root.KhrMaterialsVariants.{KhrMaterialsVariants}
 use Rattle.gltf_root.specs.declared.extensions.root.Root.{Root as RootExtensions}
 
--- ---- where they stand
+-- ---- where they are
 
--- the trees of a list in an object stand where those of the object have them, if nothing stands there in what is absent
+-- the trees of a list in an object are where those of the object have them, if nothing is there in
+-- what is absent
 listed_in-trees : {O X : Type 0} {tree : O → Tree} (items : O → List X) (item : X → Tree) (place : Tree → Trees)
     → place absent ≡ end → ((found : O) → place (tree found) ≡ trees (map item (items found)))
     → (found : Option O) → place (tree_or_absent tree found) ≡ trees (map item (listed_in items found))
@@ -44,7 +43,7 @@ unfolding root_extension_rows root_extension_members variants_rows variants_memb
 variants_of-trees r = listed_in-trees variants_in (λ x. closed_object (variant_members x)) (λ t. items_in (reached (further_way ListName.variants) t)) refl
     (λ e. listed_in-trees (λ found. found.variants.items) (λ x. closed_object (variant_members x)) (λ t. items_in (reached variants_way t)) refl (λ found. refl) e.khr_materials_variants) r.extensions
 
--- ---- where those stand that are put there
+-- ---- where those are that are put there
 
 lights_found : (items : Vec Light Global) (found : Option KhrLightsPunctual)
     → not (is_absent (tree_or_absent (λ v. closed_object (lights_members v)) found)) ≡ true

@@ -1,8 +1,7 @@
-pub mod RootTable
-pub mod RootExtensionTable
+pub mod Asset
+pub mod Root
+pub mod RootExtension
 pub mod Named
-pub mod RootTrees
-pub mod RootExtensionTrees
 pub mod Lists
 pub mod Lending
 pub mod Pushed

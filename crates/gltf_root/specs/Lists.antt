@@ -2,10 +2,10 @@
 use Rattle.std.specs.Prelude.{ℕ, List, [], ◌∷◌, Bool, true, not, codes}
 use Rattle.gltf_paths.specs.Lists.{ListName}
 use Rattle.gltf_schema.specs.Tree.{Tree, Trees, is_absent, count_of, items_in, members_in}
-use Rattle.gltf_animations.specs.AnimationTable.{animation_rows}
+use Rattle.gltf_animations.specs.Animation.{animation_rows}
 use Rattle.gltf_root.specs.Named.{Way, row_named, member_named, reached}
-use Rattle.gltf_root.specs.RootExtensionTable.{root_extension_rows, lights_rows, variants_rows}
-use Rattle.gltf_root.specs.RootTable.{root_rows}
+use Rattle.gltf_root.specs.RootExtension.{root_extension_rows, lights_rows, variants_rows}
+use Rattle.gltf_root.specs.Root.{root_rows}
 
 -- the name of a document's extensions
 abbrev pub extensions_name : List ℕ
@@ -27,7 +27,7 @@ extensions_in root = member_named extensions_name root_rows (members_in root)
 abbrev pub extension_in : List ℕ → Tree → Tree
 extension_in name root = member_named name root_extension_rows (members_in (extensions_in root))
 
--- the name of the document's member that is a list, or that a list stands in
+-- the name of the document's member that is a list, or that has a list in it
 abbrev pub member_of : ListName → List ℕ
 member_of ListName.accessors = codes "accessors"
 member_of ListName.animations = codes "animations"

@@ -35,7 +35,8 @@ abbrev pub or_made : Rows → Tree → Tree
 or_made rows absent = closed_object (defaults rows)
 or_made rows t = t
 
--- the names of members on the way down from an object, each beside the rows of the object that has it
+-- the names of members on the way down from an object, each beside the rows of the object that has
+-- it
 abbrev pub Way : Type 0
 Way = List (List ℕ × Rows)
 

@@ -4,16 +4,16 @@ use Rattle.gltf_paths.specs.Lists.{ListName}
 use Rattle.gltf_paths.specs.Steps.{Step, item}
 use Rattle.gltf_schema.specs.Tree.{Tree, list, Trees, end, with_tree}
 use Rattle.gltf_schema.specs.Kind.{Kind}
-use Rattle.gltf_data.specs.AccessorTable.{accessor_kind}
-use Rattle.gltf_data.specs.BufferTable.{buffer_kind, view_kind}
-use Rattle.gltf_data.specs.ImageTable.{image_kind}
-use Rattle.gltf_textures.specs.TextureTable.{sampler_kind, texture_kind}
-use Rattle.gltf_materials.specs.MaterialTable.{material_kind}
-use Rattle.gltf_meshes.specs.MeshTable.{mesh_kind}
-use Rattle.gltf_nodes.specs.CameraTable.{camera_kind}
-use Rattle.gltf_nodes.specs.LightTable.{light_kind, variant_kind}
-use Rattle.gltf_nodes.specs.SceneTable.{node_kind, scene_kind, skin_kind}
-use Rattle.gltf_animations.specs.AnimationTable.{animation_kind}
+use Rattle.gltf_data.specs.Accessor.{accessor_kind}
+use Rattle.gltf_data.specs.Buffer.{buffer_kind, view_kind}
+use Rattle.gltf_data.specs.Image.{image_kind}
+use Rattle.gltf_textures.specs.Texture.{sampler_kind, texture_kind}
+use Rattle.gltf_materials.specs.Material.{material_kind}
+use Rattle.gltf_meshes.specs.Mesh.{mesh_kind}
+use Rattle.gltf_nodes.specs.Camera.{camera_kind}
+use Rattle.gltf_nodes.specs.Light.{light_kind, variant_kind}
+use Rattle.gltf_nodes.specs.Scene.{node_kind, scene_kind, skin_kind}
+use Rattle.gltf_animations.specs.Animation.{animation_kind}
 use Rattle.gltf_root.specs.Lists.{list_in, list_way}
 use Rattle.gltf_root.specs.Named.{way_steps, with_reached}
 
@@ -34,7 +34,7 @@ pushed named x root = with_list named (with_last x (list_in named root)) root
 abbrev pub list_steps : ListName → List Step
 list_steps named = way_steps (list_way named)
 
--- where the item of a list at a number stands
+-- the place of the item of a list at a number
 abbrev pub item_place : ListName → ℕ → List Step
 item_place named n = list_steps named ++ item n ∷ []
 

@@ -1,12 +1,13 @@
--- Which of the extension objects around a list a document has, and the document after the last push onto that list is taken back.
+-- Which of the extension objects around a list a document has, and the document after the last push
+-- onto that list is taken back.
 use Rattle.std.specs.Prelude.{ℕ, List, if◌then◌else◌}
 use Rattle.gltf_paths.specs.Lists.{ListName}
 use Rattle.gltf_schema.specs.Tree.{Tree, Trees, absent, is_absent, end, with_tree}
 use Rattle.gltf_root.specs.Lists.{extensions_name, lights_name, variants_name, extensions_in, extension_in, list_in}
 use Rattle.gltf_root.specs.Named.{with_member}
 use Rattle.gltf_root.specs.Pushed.{with_list}
-use Rattle.gltf_root.specs.RootExtensionTable.{root_extension_rows}
-use Rattle.gltf_root.specs.RootTable.{root_rows}
+use Rattle.gltf_root.specs.RootExtension.{root_extension_rows}
+use Rattle.gltf_root.specs.Root.{root_rows}
 use Rattle.gltf_root.specs.declared.root.mark.Mark.{Mark}
 use Rattle.gltf_root.specs.declared.root.mark.Mark.TheVariants.{Listed, NoObject, NoExtensions}
 
@@ -41,8 +42,8 @@ without_extension name root =
 abbrev pub without_extensions : Tree → Tree
 without_extensions root = with_member extensions_name root_rows absent root
 
--- a document of which a push onto a list is taken back, where the mark is that of the document before
--- the push: the last item is gone, and so is what was made to hold it
+-- a document of which a push onto a list is taken back, where the mark is that of the document
+-- before the push: the last item is gone, and so is what was made to hold it
 abbrev pub undone : ListName → Mark → Tree → Tree
 undone ListName.lights NoObject root = without_extension lights_name root
 undone ListName.lights NoExtensions root = without_extensions root

@@ -1,3 +1,5 @@
-//! Extension objects of a whole document: what stands behind its member `extensions`.
+//! Extension objects of a whole document and of its own description: the values of their member
+//! `extensions`.
 
+pub mod asset;
 pub mod root;

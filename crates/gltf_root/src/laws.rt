@@ -5,7 +5,7 @@ ghost use Rattle.std.specs.Prelude.{◌≡◌};
 ghost use Rattle.gltf_paths.specs.Lists.{ListName};
 ghost use Rattle.gltf_schema.specs.Tree.{Tree};
 ghost use Rattle.gltf_root.specs.Pushed.{pushed};
-ghost use Rattle.gltf_root.specs.RootTrees.{root_tree};
+ghost use Rattle.gltf_root.specs.Root.{root_tree};
 ghost use Rattle.gltf_root.specs.Undone.{mark_in, undone};
 ghost use Rattle.gltf_root.specs.declared.root.Root.{Root as Document};
 

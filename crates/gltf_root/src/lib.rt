@@ -1,7 +1,8 @@
-//! Whole glTF 2.0 documents: their lists, and how they are read from bytes and devices and written
-//! to them.
+//! Whole glTF 2.0 documents: their own description, their lists, and how they are read from bytes
+//! and devices and written to them.
 #![tactic(auto)]
 
+pub mod asset;
 pub mod extensions;
 pub mod laws;
 pub mod root;

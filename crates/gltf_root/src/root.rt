@@ -4,10 +4,10 @@ ghost use Rattle.std.specs.Prelude.{◌≡◌, false, IfOk, codes};
 ghost use Rattle.std.proofs.Common.{lit≤};
 ghost use Rattle.serde_json.specs.Data.{no_members};
 ghost use Rattle.gltf_schema.specs.Kind.{requires_enabled};
-ghost use Rattle.gltf_nodes.specs.AssetTrees.{asset_of_version};
-ghost use Rattle.gltf_root.specs.RootTable.{root_rows, root_sound, root_height};
-ghost use Rattle.gltf_root.specs.RootTrees.{root_members, root_of_asset};
+ghost use Rattle.gltf_root.specs.Asset.{asset_of_version};
+ghost use Rattle.gltf_root.specs.Root.{root_rows, root_sound, root_height, root_members, root_of_asset};
 
+use crate::asset::Asset;
 use crate::extensions;
 use gltf_animations::animation::Animation;
 use gltf_base::Index;
@@ -17,7 +17,6 @@ use gltf_data::extras::Extras;
 use gltf_data::image::Image;
 use gltf_materials::material::Material;
 use gltf_meshes::mesh::Mesh;
-use gltf_nodes::asset::Asset;
 use gltf_nodes::camera::Camera;
 use gltf_nodes::scene::{Node, Scene};
 use gltf_nodes::skin::Skin;
@@ -39,7 +38,7 @@ pub use mark::Mark;
 pub use top_level::TopLevel;
 
 /// A whole document.
-// What takes longest to drop stands last (docs/DECISIONS.md).
+// What takes longest to drop comes last (docs/DECISIONS.md).
 #[derive(Clone, Debug)]
 pub struct Root {
     /// The scene that is shown first.
@@ -96,9 +95,9 @@ impl Drop for Root {
 }
 
 impl Root {
-    /// A document of version `2.0` that holds nothing. `Err` only where memory was refused for that
+    /// A document of version `2.0` that holds nothing. `Err` only if memory was refused for that
     /// text.
-    #[tactic(auto, unfolding(crate::specs::RootTable::root_rows, crate::specs::RootTrees::root_members))]
+    #[tactic(auto, unfolding(crate::specs::Root::root_rows, crate::specs::Root::root_members))]
     pub fn new(alloc: Global) -> Result<Root, AllocError>
         ensures { IfOk result (λ root. root_members root
             ≡ root_of_asset (asset_of_version (codes "2.0"))) }

@@ -1,6 +1,6 @@
 //! The glTF 2.0 objects of meshes, nodes, scenes and animations, and a document's own description.
-//! This crate names what `gltf_meshes`, `gltf_nodes` and `gltf_animations` hold, under the modules
-//! of the format.
+//! This crate names what `gltf_meshes`, `gltf_nodes` and `gltf_animations` hold, and `Asset` of
+//! `gltf_root`, under the modules of the format.
 #![tactic(auto)]
 
 /// What moves nodes over time.
@@ -13,7 +13,7 @@ pub mod animation {
 
 /// What a document says of itself.
 pub mod asset {
-    pub use gltf_nodes::asset::Asset;
+    pub use gltf_root::asset::Asset;
 }
 
 /// How a scene is seen.
@@ -22,7 +22,7 @@ pub mod camera {
     pub use gltf_nodes::camera::{Camera, Orthographic, Perspective};
 }
 
-/// Extension objects: what stands behind the member `extensions` of an object.
+/// Extension objects: the values of an object's member `extensions`.
 pub mod extensions {
     pub use gltf_base::extensions::{ENABLED_EXTENSIONS, SUPPORTED_EXTENSIONS};
 
@@ -33,7 +33,7 @@ pub mod extensions {
 
     /// That of a document's own description.
     pub mod asset {
-        pub use gltf_nodes::extensions::asset::Asset;
+        pub use gltf_root::extensions::asset::Asset;
     }
 
     /// Those of cameras and their projections.

@@ -1,18 +1,18 @@
 -- Attributes that were written are read back.
 use Rattle.std.proofs.Common.{◌≡◌, ℕ, ◌^◌, List, [], ◌∷◌, Bool, true, false, cond, nat_lt, nat_cmp, Option, Some, None, refl, sym, ap, ◌∙◌, subst, Ordering, Less, Equal, Greater, true≢false}
 use Rattle.std.specs.Prelude.{⊤}
-use Rattle.std.proofs.lemmas.Bool.{false≢true, ltb-true, and_parts}
+use Rattle.std.proofs.lemmas.Bool.{false≢true, and_parts}
 use Rattle.std.specs.BTreeMap.{insert_entry}
 use Rattle.std.specs.Cmp.{IsTotalOrder, alike_right, tied_itself, on_total}
 use Rattle.std.specs.Cmp.Lexicographic.{slice_cmp, nat_list_cmp_total}
 use Rattle.std.specs.Ordering.{match_ordering, ordering_then, ordering_reverse, on, is_lt}
 use Rattle.serde_json.specs.Data.{Data, number, unsigned, Members, no_members, member, put}
 use Rattle.gltf_checked.specs.Keys.{Key, extras, positions, normals, tangents, colors, tex_coords, joints, weights, unknown, key_text, key_cmp}
-use Rattle.gltf_checked.specs.Names.{key_named, IsNamed}
+use Rattle.gltf_checked.specs.Names.{key_named, is_named}
 use Rattle.gltf_checked.proofs.KeyLemmas.{key_named-key_text}
 use Rattle.gltf_schema.specs.Maybe.{◌>>=◌}
 use Rattle.gltf_schema.specs.Read.{read_entries, small_number}
-use Rattle.gltf_schema.specs.Write.{write_entries, are_in_order, is_named, key_name, small_data}
+use Rattle.gltf_schema.specs.Write.{write_entries, are_in_order, key_name, small_data}
 use Rattle.gltf_schema.proofs.ReadPlain.{bound}
 use Rattle.gltf_schema.proofs.PuttingIn.{same_name}
 
@@ -116,21 +116,10 @@ read_put n d i es (member l e ms) small before = read_put_at _ n l d e i es ms r
 
 -- ---- one entry
 
-named_from : (key : Key) → is_named key ≡ true → IsNamed key
-named_from (extras name) h = tt
-named_from positions h = tt
-named_from normals h = tt
-named_from tangents h = tt
-named_from (colors set) h = ltb-true set (2 ^ 32) h
-named_from (tex_coords set) h = ltb-true set (2 ^ 32) h
-named_from (joints set) h = ltb-true set (2 ^ 32) h
-named_from (weights set) h = ltb-true set (2 ^ 32) h
-named_from unknown h = absurd (false≢true h)
-
 named_back_at : (b : Bool) (key : Key) (n : List ℕ) → is_named key ≡ b → cond b (Some (key_text key)) None ≡ Some n → key_named n ≡ key
 named_back_at true key n is h =
     let text : key_text key ≡ n = cc in
-    ap key_named (sym text) ∙ key_named-key_text key (named_from key is)
+    ap key_named (sym text) ∙ key_named-key_text key is
 named_back_at false key n is h = absurd cc
 
 -- a key's name is read as the key

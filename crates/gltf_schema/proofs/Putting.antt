@@ -1,14 +1,14 @@
 -- Items, entries and members written in turn.
-use Rattle.std.proofs.lemmas.Bool.{lt-ltb, false≢true, or_left, or_right}
+use Rattle.std.proofs.lemmas.Bool.{false≢true, or_left, or_right}
 use Rattle.std.specs.List.{AllZip}
 use Rattle.std.specs.declared.alloc.Global.{Global}
 use Rattle.serde_json.specs.declared.value.Value.{Value}
-use Rattle.std.proofs.Common.{◌≡◌, ℕ, zero, suc, drop, ◌^◌, Bool, true, false, if◌then◌else◌, String, string_bytes, nat_eq, length, List, [], ◌∷◌, ◌++◌, Option, Some, None, option_map, map, refl, ap, ◌∙◌}
+use Rattle.std.proofs.Common.{◌≡◌, ℕ, zero, suc, drop, Bool, true, false, if◌then◌else◌, String, string_bytes, nat_eq, length, List, [], ◌∷◌, ◌++◌, Option, Some, None, option_map, map, refl, ap, ◌∙◌}
 use Rattle.serde_json.specs.Data as json
 use Rattle.serde_json.specs.Data.{Data, Members, put}
 use Rattle.serde_json.specs.View.{items_of, view, members_view}
-use Rattle.gltf_checked.specs.Keys.{Key, extras, positions, normals, tangents, colors, tex_coords, joints, weights, unknown, key_text}
-use Rattle.gltf_checked.specs.Names.{IsNamed}
+use Rattle.gltf_checked.specs.Keys.{Key, key_text}
+use Rattle.gltf_checked.specs.Names.{is_named}
 use Rattle.gltf_paths.specs.declared.error.Error.{Error}
 use Rattle.gltf_paths.specs.declared.error.Error.TheVariants as errors
 use Rattle.gltf_schema.specs.Maybe.{◌>>=◌}
@@ -86,16 +86,8 @@ in_order_withheld e true written b h = h
 in_order_withheld e false written b h = withheld_through e written None b b (λ g. (refl, g.1)) h
 
 -- what a semantic means has a name
-pub named : (k : Key) → IsNamed k → key_name k ≡ Some (key_text k)
-named (extras name) h = refl
-named positions h = refl
-named normals h = refl
-named tangents h = refl
-named (colors set) h = rw (lt-ltb set (2 ^ 32) h) refl
-named (tex_coords set) h = rw (lt-ltb set (2 ^ 32) h) refl
-named (joints set) h = rw (lt-ltb set (2 ^ 32) h) refl
-named (weights set) h = rw (lt-ltb set (2 ^ 32) h) refl
-named unknown h = absurd h
+pub named : (k : Key) → is_named k ≡ true → key_name k ≡ Some (key_text k)
+named k h = rw h refl
 
 -- one attribute, and those after it
 pub entry_written : (e : Key × ℕ) (es : List (Key × ℕ)) (ms : Members) (n : List ℕ) (d : Data) → key_name e.0 ≡ Some n → small_data e.1 ≡ Some d

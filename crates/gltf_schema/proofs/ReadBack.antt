@@ -127,7 +127,8 @@ member_back (unless x) write read t d back some h = back.same d h
 member_back sometimes write read t d back some h = back.same d h
 member_back or_null write read t d back some h = or_null_back write read t d back some h
 
--- the row's member is read back, other names keep theirs, and the members whose names are no row's stay
+-- the row's member is read back, other names keep theirs, and the members whose names are no row's
+-- stay
 record IsPut (n : List ℕ) (mark : Mark) (read : Data → Option Tree) (t : Tree) (old new : Members) : Type 0 where
   reads : get_member n old ≡ None → read_member mark read (get_member n new) ≡ Some t
   elsewhere : (q : List ℕ) → (q ≡ n → ⊥) → get_member q new ≡ get_member q old
@@ -154,7 +155,8 @@ put_at false n mark write read t old new back some is h =
 
 -- ---- kinds and rows
 
--- rows that were written are read back, other names keep their members, and so do members whose names are no row's
+-- rows that were written are read back, other names keep their members, and so do members whose
+-- names are no row's
 record AreBack (rows : Rows) (ts : Trees) (old new : Members) : Type 0 where
   reads : read_rows rows new ≡ Some ts
   elsewhere : (q : List ℕ) → has_row q rows ≡ false → get_member q new ≡ get_member q old

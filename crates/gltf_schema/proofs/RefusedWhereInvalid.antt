@@ -8,12 +8,13 @@ use Rattle.serde_json.specs.Find.{get_member, as_null, as_bool, as_number, as_st
 use Rattle.gltf_checked.specs.Keys.{Key, unknown}
 use Rattle.gltf_checked.specs.Spelling.{Spelling, is_spelled}
 use Rattle.gltf_checked.specs.declared.choice.Form.{Form}
+use Rattle.gltf_checked.specs.Names.{is_named}
 use Rattle.gltf_schema.specs.Maybe.{◌>>=◌}
 use Rattle.gltf_schema.specs.Tree as tree
 use Rattle.gltf_schema.specs.Tree.{Tree, Trees, end, with_tree}
 use Rattle.gltf_schema.specs.Kind.{Mark, required, optional, always, unless, sometimes, or_null, Kind, IndexInto, SourceImage, ChannelSampler, U32, U64, Stride, Number, Numbers, Text, Truth, Any, Choice, Attributes, ListOf, Object, Rows, no_rows, row}
 use Rattle.gltf_schema.specs.Read.{read, read_rows, read_items, read_member, read_entries, all_numbers, spelling_in, choice_among, small_number, whole_number, kept}
-use Rattle.gltf_schema.specs.Write.{write, write_rows, write_items, write_member, write_entries, written, leaves_out, is_default, is_named, key_name, small_data, are_in_order}
+use Rattle.gltf_schema.specs.Write.{write, write_rows, write_items, write_member, write_entries, written, leaves_out, is_default, key_name, small_data, are_in_order}
 use Rattle.gltf_schema.specs.Invalid.{is_unknown, any_unknown, holds_invalid, any_holds_invalid}
 use Rattle.gltf_schema.specs.Sound.{has_written_default, is_sound, are_sound}
 use Rattle.gltf_schema.proofs.TakingOut.{sound_row, sound_rows}

@@ -10,7 +10,8 @@ kept_extensions = Object no_rule no_rows true
 abbrev pub dropped_extensions : Kind
 dropped_extensions = Object no_rule no_rows false
 
--- an object's extensions, and what an application adds of its own (glTF 2.0, sections 5.15 and 5.16)
+-- an object's extensions, and what an application adds of its own (glTF 2.0, sections 5.15 and
+-- 5.16)
 abbrev pub extensions_and_extras : Kind → Rows
 extensions_and_extras kind =
     (codes "extensions", optional, kind)

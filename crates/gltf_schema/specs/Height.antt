@@ -14,7 +14,7 @@ rule_height requires_enabled = 3
 rule_height holds_samplers = 0
 
 abbrev mutual
-  -- the steps to what stands deepest in a tree of a kind; what cannot be wrong is passed over
+  -- the steps to the deepest place in a tree of a kind; what cannot be wrong is passed over
   pub kind_height : Kind → ℕ
   kind_height (Attributes named) = 1
   kind_height (ListOf kind) = suc (kind_height kind)

@@ -26,13 +26,14 @@ pub data Rule : Type 0 where
 pub data Mark : Type 0 where
   -- it has to be there, and is always written
   required : Mark
-  -- absent where it is missing or null; written where it is there
+  -- absent if it is missing or null; written if it is there. The format allows no null here; the
+  -- ported crate reads it as absent
   optional : Mark
-  -- the tree where it is missing; always written
+  -- the tree if it is missing; always written
   always : Tree → Mark
-  -- the tree where it is missing; written where it is another
+  -- the tree if it is missing; written if it is another
   unless : Tree → Mark
-  -- absent where it is missing, and null is refused; written where it is there
+  -- absent if it is missing, and null is refused; written if it is there
   sometimes : Mark
   -- as optional, but absent is written as null
   or_null : Mark
@@ -66,7 +67,8 @@ mutual
     no_rows : Rows
     row : List ℕ → Mark → Kind → Rows → Rows
 
--- a line of the table: a member's name, mark and kind
+-- a line of the table: a member's name, mark and kind; lines are in the ported crate's order, which
+-- is that of reports
 infixr 4 ◌◂◌
 abbrev pub ◌◂◌ : List ℕ × Mark × Kind → Rows → Rows
 line ◂ rows = row line.0 line.1 line.2 rows

@@ -4,11 +4,12 @@ use Rattle.std.specs.List.{list_all}
 use Rattle.gltf_checked.specs.Keys.{Key}
 use Rattle.gltf_schema.specs.Tree.{Tree, whole, number, numbers, text, truth, any, chosen, invalid, index, list, attributes, object, Trees, end, with_tree, is_absent}
 use Rattle.gltf_schema.specs.Kind.{Mark, optional, sometimes, or_null, Kind, IndexInto, SourceImage, ChannelSampler, U32, U64, Stride, Number, Numbers, Text, Truth, Any, Choice, Attributes, ListOf, Object, Rows, no_rows, row}
-use Rattle.gltf_schema.specs.Write.{is_named, are_in_order}
+use Rattle.gltf_checked.specs.Names.{is_named}
+use Rattle.gltf_schema.specs.Write.{are_in_order}
 use Rattle.gltf_schema.specs.Plain.{is_of_form, are_none, all_trees}
 use Rattle.gltf_schema.specs.Invalid.{is_unknown}
 
--- the key is unknown, or has a name
+-- the key means nothing, or it has a name
 abbrev pub is_nameable : Key → Bool
 is_nameable k = is_unknown k || is_named k
 
@@ -24,7 +25,8 @@ may_be_absent or_null = true
 may_be_absent _ = false
 
 abbrev mutual
-  -- the tree is one that a value of the kind may have, also where an item or a key in it is invalid
+  -- the tree has the shape of the kind, also if an item or a key in it is invalid; an item of a
+  -- choice has to be spelled as the choice spells its items, and need not be listed
   pub is_of_kind : Kind → Tree → Bool
   is_of_kind (IndexInto named) (index n) = nat_lt n (2 ^ 32)
   is_of_kind SourceImage (index n) = nat_lt n (2 ^ 32)

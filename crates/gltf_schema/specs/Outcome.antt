@@ -1,4 +1,4 @@
--- What a call that reads or writes answers, want of memory aside.
+-- The results of calls that read or write; each may also fail with `Memory`.
 use Rattle.std.specs.Prelude.{◌≡◌, Bool, true, Option, Some, None, Result, Ok, Err, ⊤}
 use Rattle.gltf_paths.specs.declared.error.Error.{Error}
 use Rattle.gltf_paths.specs.declared.error.Error.TheVariants as errors

@@ -1,4 +1,5 @@
--- Trees in which nothing is said in a way that reading would not give.
+-- Trees that are as reading gives them, if they are of their kind: a tree of another kind can be
+-- plain too.
 use Rattle.std.specs.Prelude.{Bool, true, false, not, ◌&&◌, ◌||◌}
 use Rattle.std.specs.List.{list_any}
 use Rattle.serde_json.specs.Data.{null, Members, no_members, member}
@@ -8,7 +9,7 @@ use Rattle.gltf_checked.specs.declared.choice.Form.TheVariants as form
 use Rattle.gltf_schema.specs.Tree.{Tree, any, chosen, list, object, Trees, end, with_tree}
 use Rattle.gltf_schema.specs.Kind.{Mark, optional, or_null, Kind, Choice, ListOf, Object, Rows, no_rows, row, has_row}
 
--- a null that is kept as it stands
+-- a null that is kept as it is
 abbrev pub is_null : Tree → Bool
 is_null (any null) = true
 is_null _ = false
@@ -39,7 +40,8 @@ all_trees p end = true
 all_trees p (with_tree t ts) = p t && all_trees p ts
 
 abbrev mutual
-  -- no null where null is absent, no row's name among the others, and each choice one that is read
+  -- no member is null if null is read as absent, no other member has a row's name, others are there
+  -- only if they are kept, and each choice has an item that is listed
   pub is_plain : Kind → Tree → Bool
   is_plain (Choice form listed) (chosen s) = is_of_form form s && list_any (λ t. is_spelled t s) listed
   is_plain (ListOf kind) (list ts) = all_trees (is_plain kind) ts

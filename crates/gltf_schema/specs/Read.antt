@@ -65,7 +65,8 @@ left false ms = no_members
 abbrev pub kept : Bool → Rows → Members → Members
 kept keeps rows ms = left keeps (others rows ms)
 
--- the entries, and then those of the members, whose names stand in byte order: a key has the index of its last name
+-- the entries, and then those of the members, whose names are in byte order: a key has the index of
+-- its last name
 abbrev pub read_entries : List (Key × ℕ) → Members → Option (List (Key × ℕ))
 read_entries es no_members = Some es
 read_entries es (member n d ms) = small_number d >>= λ i. read_entries (insert_entry key_cmp es (key_named n) i) ms

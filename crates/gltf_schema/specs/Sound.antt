@@ -1,5 +1,6 @@
 -- Kinds whose rows fit together: what they read is plain, is written, and is read back.
-use Rattle.std.specs.Prelude.{Bool, true, false, not, ◌&&◌, is_some}
+use Rattle.std.specs.Prelude.{Bool, true, false, not, ◌&&◌, is_some, codes}
+use Rattle.std.specs.Str.{bytes_eq}
 use Rattle.gltf_paths.specs.Lists.{ListName}
 use Rattle.gltf_schema.specs.Kind.{Mark, always, unless, Kind, Attributes, ListOf, Object, Rows, no_rows, row, has_row, Rule, no_rule, needs_data, needs_projection, needs_cone, needs_positions, requires_enabled, holds_samplers}
 use Rattle.gltf_schema.specs.Write.{write}
@@ -17,12 +18,12 @@ has_written_default (always t) kind = is_some (write kind t)
 has_written_default (unless t) kind = is_some (write kind t)
 has_written_default _ kind = true
 
--- the first row has attributes, which are indexes of accessors
+-- the first row is named `attributes`, and has indexes of accessors: those of primitives begin so
 abbrev pub has_attributes : Rows → Bool
-has_attributes (row name mark (Attributes ListName.accessors) rows) = true
+has_attributes (row name mark (Attributes ListName.accessors) rows) = bytes_eq name (codes "attributes")
 has_attributes rows = false
 
--- the rows have what the rule looks up in the document: that of primitives looks up an attribute
+-- the rows have what the rule looks up in the document: only that of primitives looks up an index
 abbrev pub suits : Rule → Rows → Bool
 suits no_rule rows = true
 suits needs_data rows = true
@@ -33,7 +34,8 @@ suits requires_enabled rows = true
 suits holds_samplers rows = true
 
 abbrev mutual
-  -- no object of the kind has two rows of one name, each default is plain and can be written, and each rule has its row
+  -- no object of the kind has two rows of one name, each default is plain and can be written, and
+  -- each rule has its row
   pub is_sound : Kind → Bool
   is_sound (ListOf kind) = is_sound kind
   is_sound (Object rule rows keeps) = suits rule rows && are_sound rows

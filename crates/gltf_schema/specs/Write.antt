@@ -1,9 +1,12 @@
--- The JSON that each tree is written as: none where an item or a key is invalid, and none where the tree is no value's.
+-- The JSON that each tree is written as. There is none if an item or a key in it is invalid, if the
+-- tree has another shape than the kind, or if a number of 32 bits is larger. Nothing asks whether a
+-- choice has the item that is written, or whether a `U64` or a stride has 64 bits.
 use Rattle.std.specs.Prelude.{ℕ, ◌^◌, ◌==◌, nat_lt, length, List, [], ◌∷◌, Bool, true, false, not, ◌&&◌, Option, Some, None, option_map, if◌then◌else◌}
 use Rattle.std.specs.Ordering.{is_lt}
 use Rattle.serde_json.specs.Data as json
 use Rattle.serde_json.specs.Data.{Num, unsigned, Data, Items, Members, no_members, put}
-use Rattle.gltf_checked.specs.Keys.{Key, colors, tex_coords, joints, weights, unknown, key_text, key_cmp}
+use Rattle.gltf_checked.specs.Keys.{Key, key_text, key_cmp}
+use Rattle.gltf_checked.specs.Names.{is_named}
 use Rattle.gltf_checked.specs.Spelling.{Spelling, by_number, by_name, is_spelled}
 use Rattle.gltf_schema.specs.Maybe.{◌>>=◌}
 use Rattle.gltf_schema.specs.Tree.{Tree, absent, whole, number, numbers, text, truth, any, chosen, index, list, attributes, object, Trees, end, with_tree, is_absent}
@@ -22,15 +25,7 @@ abbrev pub spelled : Spelling → Data
 spelled (by_number n) = json.number (unsigned n)
 spelled (by_name s) = json.string s
 
--- the key means something, and its set has 32 bits
-abbrev pub is_named : Key → Bool
-is_named (colors set) = nat_lt set (2 ^ 32)
-is_named (tex_coords set) = nat_lt set (2 ^ 32)
-is_named (joints set) = nat_lt set (2 ^ 32)
-is_named (weights set) = nat_lt set (2 ^ 32)
-is_named unknown = false
-is_named _ = true
-
+-- the name of a key, if it has one
 abbrev pub key_name : Key → Option (List ℕ)
 key_name k = if is_named k then Some (key_text k) else None
 
@@ -39,7 +34,7 @@ abbrev pub write_entries : List (Key × ℕ) → Members → Option Members
 write_entries [] ms = Some ms
 write_entries (e ∷ es) ms = key_name e.0 >>= λ n. small_data e.1 >>= λ d. write_entries es (put n d ms)
 
--- the keys stand in their order, each once, as a map holds them
+-- the keys are in their order, each once, as a map holds them
 abbrev pub are_in_order : List (Key × ℕ) → Bool
 are_in_order [] = true
 are_in_order (e ∷ []) = true
@@ -50,8 +45,8 @@ abbrev pub write_items : (Tree → Option Data) → Trees → Option Items
 write_items f end = Some json.no_items
 write_items f (with_tree t ts) = f t >>= λ d. option_map (json.item d) (write_items f ts)
 
--- whether a tree is the default under which a member is left out; the table leaves out truths, indexes, items of choices and
--- empty lists alone
+-- whether a tree is the default under which a member is left out; the table leaves out only truths,
+-- indexes, items of choices and empty lists
 abbrev pub is_default : Tree → Tree → Bool
 is_default (truth true) (truth b) = b
 is_default (truth false) (truth b) = not b

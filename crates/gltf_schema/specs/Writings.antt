@@ -1,5 +1,5 @@
--- What each method of Writing gives: the members that are written so far, or the error that was met.
--- Each definition stays folded in a record, so that an object's chain of rows isn't computed.
+-- What each method of Writing gives: the members that are written so far, or the error that was
+-- met. Each definition stays folded in a record, so that an object's chain of rows isn't computed.
 use Rattle.std.specs.Prelude.{◌≡◌, ℕ, List, Bool, true, false, Some, Result, Ok, Err}
 use Rattle.serde_json.specs.Data.{Members}
 use Rattle.gltf_paths.specs.declared.error.Error.{Error}
@@ -15,7 +15,7 @@ use Rattle.gltf_schema.specs.Kind.{Mark, Kind}
 abbrev pub writing_state : Writing → Result Members Error
 writing_state w = members_or_error w.state
 
--- the members that were there at first; a copy of them may want memory
+-- the members that were there at first; to copy them may take memory
 abbrev pub BeginFrom : Bool → Members → Result Members Error → Type 0
 BeginFrom true ms state = Writes (λ m. m) state (Some ms) false
 BeginFrom false ms state = state ≡ Ok ms

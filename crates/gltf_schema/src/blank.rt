@@ -1,11 +1,11 @@
-//! Values that stand where nothing was read.
+//! Values that a failed read leaves in place of a member.
 
 use gltf_base::validation::{Checked, USize64};
 use gltf_base::{IndexTo, Real};
 use std::alloc::Global;
 use std::collections::BTreeMap;
 
-/// A type with a value that stands where reading failed, and that is dropped with the object.
+/// A type with a value that a failed read leaves, and that is dropped with the object.
 pub trait Blank: Drop {
     /// That value, which takes no memory.
     fn blank(alloc: Global) -> Self;

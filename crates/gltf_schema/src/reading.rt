@@ -16,8 +16,8 @@ use std::mem;
 
 /// The members of an object that are not read yet, or why they are not read.
 ///
-/// Each method reads one row of the table. Once a row was refused, the further ones answer blank
-/// values, and [`Reading::finish`] drops them and answers the error.
+/// Each method reads one row of the table. Once a row was refused, the methods return blank values,
+/// and [`Reading::finish`] drops them and fails with the error.
 #[derive(Drop)]
 pub struct Reading {
     alloc: Global,

@@ -23,17 +23,18 @@ use std::alloc::Global;
 
 /// A type whose values are read and written as those of a kind of the table.
 pub trait Schema: Tabled + Drop {
-    /// The value that a JSON value is: `Ok` exactly where the table reads it, as the table reads
-    /// it, else `Schema`; `Memory` may come in place of either where a growth was refused.
+    /// Returns the value that a JSON value is, as the table reads it. Fails with `Schema` if and
+    /// only if the table does not read it; `Memory` may come in place of either if a growth was
+    /// refused.
     fn decode(alloc: Global, value: Value) -> Result<Self, Error>
         ensures by_table { Reads Self.tree result (read Self.kind (view value)) }
         // What is no object needs no memory to be refused.
         ensures no_object { IsTrue (wants_object Self.kind (view value))
             → result ≡ Err Error.Schema };
 
-    /// The JSON value that the value is written as. `InvalidItem` comes exactly where an item of a
-    /// choice or the key of an attribute is invalid, here or below; `Memory` may come in place of
-    /// either where a growth was refused.
+    /// Returns the JSON value that the value is written as. Fails with `InvalidItem` if and only if
+    /// an item of a choice or the key of an attribute is invalid, here or below; `Memory` may come
+    /// in place of either if a growth was refused.
     fn encode(&self, alloc: Global) -> Result<Value, Error>
         ensures { Writes view result (write Self.kind (Self.tree self.now))
             (holds_invalid (Self.tree self.now)) };
@@ -55,14 +56,18 @@ pub trait Object: Drop {
 
     ghost unknown: { Self → Members };
 
-    /// The object of these members. `Schema` comes where a row refuses its member or lacks it,
-    /// `Memory` where a growth was refused.
+    /// The steps from the object to the deepest place at which something can be wrong.
+    ghost height: { ℕ };
+
+    /// Returns the object of these members. Fails with `Schema` if a row refuses its member or
+    /// lacks it, and with `Memory` if a growth was refused.
     fn decode_members(alloc: Global, found: Map<String, Value>) -> Result<Self, Error>
         ensures { Reads (λ x. (members x, unknown x)) result
             (take_all rows keeps (members_view found.entries)) };
 
-    /// The members of this object: each row's onto those that no row names. `InvalidItem` comes
-    /// where a row's member holds an invalid item or key, `Memory` where a growth was refused.
+    /// Returns the members of this object: each row's onto those that no row names. Fails with
+    /// `InvalidItem` if a row's member holds an invalid item or key, and with `Memory` if a growth
+    /// was refused.
     fn encode_members(&self, alloc: Global) -> Result<Map<String, Value>, Error>
         ensures { Writes (λ m. members_view m.entries) result
             (put_rows rows (members self.now) (unknown self.now))
@@ -72,10 +77,7 @@ pub trait Object: Drop {
     // rule has the row that it looks up.
     ghost sound: { is_sound (object_kind rule rows keeps) ≡ true };
 
-    /// The steps from the object to the deepest place at which something can be wrong.
-    ghost height: { ℕ };
-
-    // It is so by the rows, and a path has room for it below any six steps.
+    // The rows say the same of the height, and a path has room for as many steps below any six.
     ghost low: { (kind_height (object_kind rule rows keeps) ≡ height) × (height ≤ 10) };
 }
 

@@ -18,8 +18,8 @@ use std::alloc::Global;
 
 /// The members of an object that are written so far, or why they are not written.
 ///
-/// Each method writes one row of the table. Once a row was refused, the further ones write nothing,
-/// and [`Writing::finish`] answers the error.
+/// Each method writes one row of the table. Once a row was refused, the methods write nothing, and
+/// [`Writing::finish`] fails with the error.
 #[derive(Drop)]
 pub struct Writing {
     alloc: Global,

@@ -1,2 +1,1 @@
-pub mod MaterialExtensionTable
-pub mod MaterialExtensionTrees
+pub mod MaterialExtension

@@ -1,4 +1,4 @@
-//! Extension objects of materials and of their references to textures: what stands behind their
+//! Extension objects of materials and of their references to textures: the values of their
 //! member `extensions`.
 
 pub mod material;

@@ -7,7 +7,7 @@ ghost use Rattle.gltf_schema.specs.Tree.{tree_or_absent};
 use gltf_base::Real;
 use gltf_schema::Tabled;
 
-/// A factor from 0 to 1; `None` stands for 1.
+/// A factor from 0 to 1; `None` means 1.
 #[derive(Clone, Debug, Default, Drop)]
 pub struct StrengthFactor(pub Option<Real>);
 

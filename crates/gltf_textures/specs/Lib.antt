@@ -1,2 +1,1 @@
-pub mod TextureTable
-pub mod TextureTrees
+pub mod Texture

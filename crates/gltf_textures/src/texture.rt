@@ -6,8 +6,7 @@ ghost use Rattle.std.proofs.Common.{lit≤};
 ghost use Rattle.serde_json.specs.Data.{no_members};
 ghost use Rattle.gltf_paths.specs.Lists.{samplers, textures};
 ghost use Rattle.gltf_schema.specs.Defaults.{defaults};
-ghost use Rattle.gltf_textures.specs.TextureTable.{sampler_rows, sampler_sound, sampler_height, texture_rows, texture_sound, texture_height, info_rows, info_sound, info_height};
-ghost use Rattle.gltf_textures.specs.TextureTrees.{sampler_members, texture_members, info_members};
+ghost use Rattle.gltf_textures.specs.Texture.{sampler_rows, sampler_sound, sampler_height, texture_rows, texture_sound, texture_height, info_rows, info_sound, info_height, sampler_members, texture_members, info_members};
 
 use crate::extensions;
 use gltf_base::texture::{MagFilter, MinFilter, WrappingMode};
@@ -20,7 +19,7 @@ use serde_json::{Map, Value};
 use std::alloc::Global;
 
 /// How a texture is sampled: how it is filtered, and what lies past its edges.
-// What takes longest to drop stands last (docs/DECISIONS.md).
+// What takes longest to drop comes last (docs/DECISIONS.md).
 #[derive(Clone, Debug)]
 pub struct Sampler {
     /// How the texture is shown larger than it is.
@@ -53,7 +52,7 @@ impl Drop for Sampler {
 
 impl Sampler {
     /// A sampler with every member at its default: it repeats the texture.
-    #[tactic(auto, unfolding(crate::specs::TextureTable::sampler_rows, crate::specs::TextureTrees::sampler_members))]
+    #[tactic(auto, unfolding(crate::specs::Texture::sampler_rows, crate::specs::Texture::sampler_members))]
     pub fn new() -> Sampler
         ensures { sampler_members result ≡ defaults sampler_rows }
     {
@@ -121,11 +120,11 @@ impl Object for Sampler {
     }
 }
 
-/// The number at `source` that stands for no image.
+/// The number at `source` that means no image.
 pub const NO_IMAGE: u32 = u32::MAX;
 
 /// An image and how it is sampled.
-// What takes longest to drop stands last (docs/DECISIONS.md).
+// What takes longest to drop comes last (docs/DECISIONS.md).
 #[derive(Clone, Debug)]
 pub struct Texture {
     /// The image; [`NO_IMAGE`], which is 4294967295, where the document names none, as where an

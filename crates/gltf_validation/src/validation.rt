@@ -1,11 +1,11 @@
-//! What is wrong in a value, told to a sink.
+//! Validation: each report of a value is handed to a sink.
 
 ghost use Rattle.std.specs.Prelude.{◌≡◌, ℕ, Option, None};
 ghost use Rattle.gltf_schema.specs.Tree.{Tree, absent};
 ghost use Rattle.gltf_faults.specs.Context.{Context, rules_of, standard_rules, under};
 ghost use Rattle.gltf_schema.specs.Kind.{Kind};
 ghost use Rattle.gltf_sinks.specs.Report.{From};
-ghost use Rattle.gltf_root.specs.RootTrees.{root_tree};
+ghost use Rattle.gltf_root.specs.Root.{root_tree};
 ghost use Rattle.gltf_sinks.specs.Handed.{Walked};
 ghost use Rattle.gltf_validation.specs.ByType.{reports_by, no_reports};
 
@@ -24,7 +24,7 @@ pub use table::{InTable, TableObject};
 
 /// What can be validated.
 pub trait Validate {
-    /// The kind in the table of what such a value is; `None` for a type whose reports are its own.
+    /// The kind of such a value in the table; `None` for a type with reports of its own.
     ghost kind: { Option Kind } = { None };
 
     /// The value as the table sees it.
@@ -37,12 +37,12 @@ pub trait Validate {
     /// in which something can be wrong, and the places of its reports.
     ghost depth: { ℕ } = { 0 };
 
-    /// Hands the sink what is wrong in the value by `rules`, in order, each path beginning with the
-    /// steps of `path`. Indexes are looked up in `root`. On every exit `path` is as it was.
-    /// Nothing is allocated.
+    /// Hands the sink each report of the value by `rules`, in order; each path begins with the
+    /// steps of `path`. Indexes are looked up in `root`. On every exit `path` is as it was. Nothing
+    /// is allocated.
     ///
-    /// It stops with `StepsFull` only where the steps of `path` and the depth of the type are more
-    /// than 16 together, and with `Sink` where the sink refuses a report.
+    /// Fails with `StepsFull` only if the steps of `path` and the depth of the type are more than
+    /// 16 together, and with `Sink` if the sink refuses a report.
     fn validate_with<'a, S: Sink>(
         &'a self,
         rules: &Rules<'_>,
@@ -56,7 +56,7 @@ pub trait Validate {
             (under (rules_of rules.now) (root_tree root.now))) depth result path.new
             (S.state sink.new) };
 
-    /// Hands the sink what is wrong in the value where nobody rules otherwise: `validate_with` by
+    /// Hands the sink each report of the value by the standard rules: `validate_with` with
     /// `Rules::new()`.
     fn validate<'a, S: Sink>(
         &'a self,

@@ -26,7 +26,7 @@ pub(crate) const NEW: &str = r#"{"asset":{"version":"2.0"}}"#;
 /// The same document in lines.
 pub(crate) const NEW_IN_LINES: &str = "{\n  \"asset\": {\n    \"version\": \"2.0\"\n  }\n}";
 
-/// A document in which the number of a choice is none of those listed, though its lower 32 bits are.
+/// A document in which the number of a choice is not listed, though its lower 32 bits are.
 pub(crate) const PAST_32_BITS: &str =
     r#"{"asset":{"version":"2.0"},"buffers":[{"byteLength":4}],"bufferViews":[{"buffer":0,"byteLength":4}],"accessors":[{"bufferView":0,"count":1,"componentType":4294972416,"type":"SCALAR"}]}"#;
 

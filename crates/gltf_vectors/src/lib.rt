@@ -1,8 +1,8 @@
-//! The tests that only code can be: what calls answer that no document shows, and that they succeed,
-//! devices and memory that fail, documents and objects that are made by hand, and types of users. All
-//! that a document can show is in `gltf_corpus`. They stand here so that each crate is proved once.
+//! The tests that only code can be: results of calls that no document shows, devices and memory
+//! that fail, documents and objects that are built by hand, and types of users. All that a document
+//! can show is in `gltf_corpus`. The tests are here because a crate with tests is proved twice.
 //!
-//! What is compared is a function of its own that answers whether it holds. A test that asserts
+//! Each comparison is a function of its own that returns whether it holds. A test that asserts
 //! while it holds what it read, or goes over an array of tuples, takes many times as long to prove.
 #![tactic(auto)]
 

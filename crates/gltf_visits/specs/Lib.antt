@@ -1,3 +1,4 @@
-pub mod Plan
-pub mod Planned
-pub mod Parts
+pub mod Outline
+pub mod OutlineOf
+pub mod ValueRefs
+pub mod Moves

@@ -1,61 +1,134 @@
 //! Animations.
 
-ghost use Rattle.gltf_animations.specs.AnimationTable.{animation_target_kind, animation_sampler_kind, animation_kind};
-ghost use Rattle.gltf_animations.specs.AnimationTrees.{animation_target_members, animation_sampler_members, animation_members};
+ghost use Rattle.gltf_animations.specs.Animation.{animation_target_kind, animation_sampler_kind, animation_kind, animation_target_members, animation_sampler_members, animation_members};
 ghost use Rattle.gltf_schema.specs.Fields.{closed_object, list_tree};
 ghost use Rattle.gltf_schema.specs.Kind.{ListOf};
 
-use crate::part::Part;
-use crate::visited::Visited;
+use crate::event::EventBuilder;
+use crate::events::Events;
+use crate::lists::are_channels_quiet;
+use crate::quiet::{Quiet, are_quiet, is_object_quiet};
+use crate::value_ref::ValueRef;
+use crate::visitable::Visitable;
 use gltf_animations::animation::{Animation, Sampler, Target};
-use gltf_faults::Context;
+use gltf_base::Step;
+use gltf_faults::{Context, HasContext};
 
-impl Visited for Target {
+impl Visitable for Target {
     ghost kind = { animation_target_kind };
 
     ghost tree = { λ v. closed_object (animation_target_members v) };
 
-    fn part<'a>(&'a self, _context: &Context<'_>) -> Part<'a> {
-        Part::AnimationTarget(self)
+    fn value_ref<'a>(&'a self, _context: &Context<'_>) -> ValueRef<'a> {
+        ValueRef::AnimationTarget(self)
     }
 }
 
-impl Visited for Sampler {
+impl<'a, E: EventBuilder<'a>> Events<'a, E> for Target {
+    #[tactic(auto, using(crate::proofs::Past::past), unfolding(gltf_animations::specs::Animation::animation_target_rows, gltf_animations::specs::Animation::animation_target_members))]
+    fn event<C: HasContext>(&'a self, number: usize, context: &C) -> E {
+        match number {
+            0 => E::member("node", &self.node, context),
+            1 => E::member("path", &self.path, context),
+            _ => E::end(),
+        }
+    }
+}
+
+impl Quiet for Target {
+    fn is_quiet<C: HasContext>(&self, context: &C) -> bool {
+        is_object_quiet(self, context)
+    }
+}
+
+impl Visitable for Sampler {
     ghost kind = { animation_sampler_kind };
 
     ghost tree = { λ v. closed_object (animation_sampler_members v) };
 
-    fn part<'a>(&'a self, _context: &Context<'_>) -> Part<'a> {
-        Part::AnimationSampler(self)
+    fn value_ref<'a>(&'a self, _context: &Context<'_>) -> ValueRef<'a> {
+        ValueRef::AnimationSampler(self)
     }
 }
 
-impl Visited for Vec<Sampler> {
+impl<'a, E: EventBuilder<'a>> Events<'a, E> for Sampler {
+    #[tactic(auto, using(crate::proofs::Past::past), unfolding(gltf_animations::specs::Animation::animation_sampler_rows, gltf_animations::specs::Animation::animation_sampler_members))]
+    fn event<C: HasContext>(&'a self, number: usize, context: &C) -> E {
+        match number {
+            0 => E::member("input", &self.input, context),
+            1 => E::member("interpolation", &self.interpolation, context),
+            2 => E::member("output", &self.output, context),
+            _ => E::end(),
+        }
+    }
+}
+
+impl Quiet for Sampler {
+    fn is_quiet<C: HasContext>(&self, context: &C) -> bool {
+        is_object_quiet(self, context)
+    }
+}
+
+impl Visitable for Vec<Sampler> {
     ghost kind = { ListOf animation_sampler_kind };
 
     ghost tree = { λ v. list_tree (λ x. closed_object (animation_sampler_members x)) v.items };
 
-    fn part<'a>(&'a self, _context: &Context<'_>) -> Part<'a> {
-        Part::AnimationSamplers(self)
+    fn value_ref<'a>(&'a self, _context: &Context<'_>) -> ValueRef<'a> {
+        ValueRef::AnimationSamplers(self)
     }
 }
 
-impl Visited for Animation {
+impl Quiet for Vec<Sampler> {
+    fn is_quiet<C: HasContext>(&self, context: &C) -> bool {
+        are_quiet(self, context)
+    }
+}
+
+impl Visitable for Animation {
     ghost kind = { animation_kind };
 
     ghost tree = { λ v. closed_object (animation_members v) };
 
-    fn part<'a>(&'a self, _context: &Context<'_>) -> Part<'a> {
-        Part::Animation(self)
+    fn value_ref<'a>(&'a self, _context: &Context<'_>) -> ValueRef<'a> {
+        ValueRef::Animation(self)
     }
 }
 
-impl Visited for Vec<Animation> {
+impl<'a, E: EventBuilder<'a>> Events<'a, E> for Animation {
+    #[tactic(auto, using(crate::proofs::Past::past), unfolding(gltf_animations::specs::Animation::animation_rows, gltf_animations::specs::Animation::animation_channel_rows, gltf_animations::specs::Animation::animation_sampler_rows, gltf_animations::specs::Animation::animation_members))]
+    fn event<C: HasContext>(&'a self, number: usize, context: &C) -> E {
+        match number {
+            0 => E::member("samplers", &self.samplers, context),
+            1 => E::enter(
+                Step::Field("channels"),
+                ValueRef::Channels(self),
+                are_channels_quiet(self, context),
+                context,
+            ),
+            _ => E::end(),
+        }
+    }
+}
+
+impl Quiet for Animation {
+    fn is_quiet<C: HasContext>(&self, context: &C) -> bool {
+        is_object_quiet(self, context)
+    }
+}
+
+impl Visitable for Vec<Animation> {
     ghost kind = { ListOf animation_kind };
 
     ghost tree = { λ v. list_tree (λ x. closed_object (animation_members x)) v.items };
 
-    fn part<'a>(&'a self, _context: &Context<'_>) -> Part<'a> {
-        Part::Animations(self)
+    fn value_ref<'a>(&'a self, _context: &Context<'_>) -> ValueRef<'a> {
+        ValueRef::Animations(self)
+    }
+}
+
+impl Quiet for Vec<Animation> {
+    fn is_quiet<C: HasContext>(&self, context: &C) -> bool {
+        are_quiet(self, context)
     }
 }

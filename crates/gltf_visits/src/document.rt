@@ -1,55 +1,123 @@
 //! Whole documents.
 
-ghost use Rattle.gltf_root.specs.RootTable.{root_kind};
-ghost use Rattle.gltf_root.specs.RootTrees.{root_tree};
-ghost use Rattle.gltf_root.specs.RootExtensionTable.{root_extensions_kind, lights_kind, variants_kind, variants_rows};
-ghost use Rattle.gltf_root.specs.RootExtensionTrees.{root_extensions, lights_members, variants_members};
+ghost use Rattle.gltf_root.specs.Root.{root_kind, root_tree};
+ghost use Rattle.gltf_root.specs.RootExtension.{root_extensions_kind, lights_kind, variants_kind, variants_rows, root_extensions, lights_members, variants_members};
 ghost use Rattle.gltf_schema.specs.Fields.{closed_object};
 ghost use Rattle.std.specs.Prelude.{refl};
-ghost use Rattle.gltf_nodes.specs.AssetTable.{asset_kind, asset_rows};
-ghost use Rattle.gltf_nodes.specs.AssetTrees.{asset_members};
-ghost use Rattle.gltf_nodes.specs.LightTable.{variant_rows};
+ghost use Rattle.gltf_root.specs.Asset.{asset_kind, asset_rows, asset_members};
+ghost use Rattle.gltf_nodes.specs.Light.{variant_rows};
 
-use crate::part::Part;
-use crate::silent::Silent;
-use crate::visited::Visited;
-use gltf_faults::Context;
-use gltf_nodes::asset::Asset;
+use crate::always_valid::AlwaysValid;
+use crate::event::EventBuilder;
+use crate::events::Events;
+use crate::quiet::{Quiet, is_object_quiet};
+use crate::value_ref::ValueRef;
+use crate::visitable::Visitable;
+use gltf_base::Step;
+use gltf_faults::{Context, HasContext};
+use gltf_root::asset::Asset;
 use gltf_root::extensions::root as extensions;
 use gltf_root::extensions::root::{KhrLightsPunctual, KhrMaterialsVariants};
 use gltf_root::root::Root;
 
-impl Visited for Root {
+impl Visitable for Root {
     ghost kind = { root_kind };
 
     ghost tree = { root_tree };
 
-    fn part<'a>(&'a self, _context: &Context<'_>) -> Part<'a> {
-        Part::Root(self)
+    fn value_ref<'a>(&'a self, _context: &Context<'_>) -> ValueRef<'a> {
+        ValueRef::Root(self)
     }
 }
 
-impl Visited for extensions::Root {
+impl<'a, E: EventBuilder<'a>> Events<'a, E> for Root {
+    #[tactic(auto, using(crate::proofs::Past::past), unfolding(gltf_root::specs::Root::root_rows, gltf_animations::specs::Animation::animation_rows, gltf_animations::specs::Animation::animation_sampler_rows, gltf_root::specs::Asset::asset_rows, gltf_data::specs::Buffer::buffer_rows, gltf_data::specs::Image::image_rows, gltf_root::specs::RootExtension::lights_rows, gltf_materials::specs::Material::material_rows, gltf_meshes::specs::Mesh::mesh_rows, gltf_nodes::specs::Scene::node_rows, gltf_root::specs::RootExtension::root_extension_rows, gltf_textures::specs::Texture::sampler_rows, gltf_nodes::specs::Scene::scene_rows, gltf_nodes::specs::Scene::skin_rows, gltf_textures::specs::Texture::texture_rows, gltf_data::specs::Buffer::view_rows, gltf_root::specs::Root::root_members))]
+    fn event<C: HasContext>(&'a self, number: usize, context: &C) -> E {
+        match number {
+            0 => E::member("accessors", &self.accessors, context),
+            1 => E::member("animations", &self.animations, context),
+            2 => E::member("bufferViews", &self.buffer_views, context),
+            3 => E::member("scene", &self.scene, context),
+            4 => E::member("extensions", &self.extensions, context),
+            5 => E::member("cameras", &self.cameras, context),
+            6 => E::member("images", &self.images, context),
+            7 => E::member("materials", &self.materials, context),
+            8 => E::member("meshes", &self.meshes, context),
+            9 => E::member("nodes", &self.nodes, context),
+            10 => E::member("samplers", &self.samplers, context),
+            11 => E::member("scenes", &self.scenes, context),
+            12 => E::member("skins", &self.skins, context),
+            13 => E::member("textures", &self.textures, context),
+            14 => E::enter(
+                Step::Field("extensionsRequired"),
+                ValueRef::RequiredExtensions(&self.extensions_required),
+                false,
+                context,
+            ),
+            _ => E::end(),
+        }
+    }
+}
+
+impl Quiet for Root {
+    fn is_quiet<C: HasContext>(&self, context: &C) -> bool {
+        is_object_quiet(self, context)
+    }
+}
+
+impl Visitable for extensions::Root {
     ghost kind = { root_extensions_kind };
 
     ghost tree = { root_extensions };
 
-    fn part<'a>(&'a self, _context: &Context<'_>) -> Part<'a> {
-        Part::RootExtensions(self)
+    fn value_ref<'a>(&'a self, _context: &Context<'_>) -> ValueRef<'a> {
+        ValueRef::RootExtensions(self)
     }
 }
 
-impl Visited for KhrLightsPunctual {
+impl<'a, E: EventBuilder<'a>> Events<'a, E> for extensions::Root {
+    #[tactic(auto, using(crate::proofs::Past::past), unfolding(gltf_root::specs::RootExtension::root_extension_rows, gltf_root::specs::RootExtension::lights_rows, gltf_nodes::specs::Light::variant_rows, gltf_root::specs::RootExtension::variants_rows, gltf_root::specs::RootExtension::root_extension_members))]
+    fn event<C: HasContext>(&'a self, number: usize, context: &C) -> E {
+        match number {
+            0 => E::member("KHR_lights_punctual", &self.khr_lights_punctual, context),
+            _ => E::end(),
+        }
+    }
+}
+
+impl Quiet for extensions::Root {
+    fn is_quiet<C: HasContext>(&self, context: &C) -> bool {
+        is_object_quiet(self, context)
+    }
+}
+
+impl Visitable for KhrLightsPunctual {
     ghost kind = { lights_kind };
 
     ghost tree = { λ v. closed_object (lights_members v) };
 
-    fn part<'a>(&'a self, _context: &Context<'_>) -> Part<'a> {
-        Part::RootLights(self)
+    fn value_ref<'a>(&'a self, _context: &Context<'_>) -> ValueRef<'a> {
+        ValueRef::RootLights(self)
     }
 }
 
-impl Silent for KhrMaterialsVariants {
+impl<'a, E: EventBuilder<'a>> Events<'a, E> for KhrLightsPunctual {
+    #[tactic(auto, using(crate::proofs::Past::past), unfolding(gltf_root::specs::RootExtension::lights_rows, gltf_root::specs::RootExtension::lights_members))]
+    fn event<C: HasContext>(&'a self, number: usize, context: &C) -> E {
+        match number {
+            0 => E::member("lights", &self.lights, context),
+            _ => E::end(),
+        }
+    }
+}
+
+impl Quiet for KhrLightsPunctual {
+    fn is_quiet<C: HasContext>(&self, context: &C) -> bool {
+        is_object_quiet(self, context)
+    }
+}
+
+impl AlwaysValid for KhrMaterialsVariants {
     ghost kind = { variants_kind };
 
     ghost tree = { λ v. closed_object (variants_members v) };
@@ -57,7 +125,7 @@ impl Silent for KhrMaterialsVariants {
     ghost silent = { λ _ _. unfold variants_rows variant_rows variants_members in refl };
 }
 
-impl Silent for Asset {
+impl AlwaysValid for Asset {
     ghost kind = { asset_kind };
 
     ghost tree = { λ v. closed_object (asset_members v) };

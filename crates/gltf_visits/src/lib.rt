@@ -1,21 +1,30 @@
-//! What a walk over a document visits: the parts of the document, and the plan that each is walked
-//! by.
+//! The values of a document that a walk visits, the events of each, and whether a value is quiet:
+//! whether nothing is wrong in it.
 #![tactic(auto)]
 
 mod accessor;
+mod always_valid;
 mod animation;
 mod buffer;
 mod camera;
 mod document;
+mod event;
+mod events;
 mod light;
+mod lists;
+mod look;
 mod material;
 mod mesh;
-mod part;
+mod quiet;
 mod scene;
 mod shading;
-mod silent;
 mod texture;
-mod visited;
+mod value_ref;
+mod visitable;
 
-pub use part::Part;
-pub use visited::Visited;
+pub use event::{Event, EventBuilder};
+pub use events::Events;
+pub use look::Look;
+pub use quiet::Quiet;
+pub use value_ref::ValueRef;
+pub use visitable::Visitable;

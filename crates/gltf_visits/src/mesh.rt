@@ -1,80 +1,165 @@
 //! Meshes.
 
-ghost use Rattle.gltf_meshes.specs.MeshTable.{mesh_kind, primitive_kind, morph_target_kind, primitive_extensions_kind, primitive_extension_rows, variant_mappings_kind, variant_mappings_rows, variant_mapping_kind, variant_mapping_rows};
-ghost use Rattle.gltf_meshes.specs.MeshTrees.{mesh_members, primitive_members, morph_target_members, primitive_extensions, primitive_extension_members, variant_mappings_members, variant_mapping_members};
+ghost use Rattle.gltf_meshes.specs.Mesh.{mesh_kind, primitive_kind, morph_target_kind, primitive_extensions_kind, primitive_extension_rows, variant_mappings_kind, variant_mappings_rows, variant_mapping_kind, variant_mapping_rows, mesh_members, primitive_members, morph_target_members, primitive_extensions, primitive_extension_members, variant_mappings_members, variant_mapping_members};
 ghost use Rattle.gltf_schema.specs.Fields.{closed_object, list_tree};
 ghost use Rattle.gltf_schema.specs.Kind.{ListOf};
 ghost use Rattle.std.specs.Prelude.{refl};
 
-use crate::part::Part;
-use crate::silent::Silent;
-use crate::visited::Visited;
-use gltf_faults::Context;
+use crate::always_valid::AlwaysValid;
+use crate::event::EventBuilder;
+use crate::events::Events;
+use crate::lists::are_positions_quiet;
+use crate::quiet::{Quiet, are_quiet, is_object_quiet};
+use crate::value_ref::ValueRef;
+use crate::visitable::Visitable;
+use gltf_base::Step;
+use gltf_faults::{Context, HasContext, position_faults};
 use gltf_meshes::extensions::mesh as extensions;
 use gltf_meshes::extensions::mesh::{KhrMaterialsVariants, Mapping};
 use gltf_meshes::mesh::{Mesh, MorphTarget, Primitive};
 
-impl Visited for Mesh {
+impl Visitable for Mesh {
     ghost kind = { mesh_kind };
 
     ghost tree = { λ v. closed_object (mesh_members v) };
 
-    fn part<'a>(&'a self, _context: &Context<'_>) -> Part<'a> {
-        Part::Mesh(self)
+    fn value_ref<'a>(&'a self, _context: &Context<'_>) -> ValueRef<'a> {
+        ValueRef::Mesh(self)
     }
 }
 
-impl Visited for Vec<Mesh> {
+impl<'a, E: EventBuilder<'a>> Events<'a, E> for Mesh {
+    #[tactic(auto, using(crate::proofs::Past::past), unfolding(gltf_meshes::specs::Mesh::mesh_rows, gltf_meshes::specs::Mesh::mesh_members))]
+    fn event<C: HasContext>(&'a self, number: usize, context: &C) -> E {
+        match number {
+            0 => E::member("primitives", &self.primitives, context),
+            _ => E::end(),
+        }
+    }
+}
+
+impl Quiet for Mesh {
+    fn is_quiet<C: HasContext>(&self, context: &C) -> bool {
+        is_object_quiet(self, context)
+    }
+}
+
+impl Visitable for Vec<Mesh> {
     ghost kind = { ListOf mesh_kind };
 
     ghost tree = { λ v. list_tree (λ x. closed_object (mesh_members x)) v.items };
 
-    fn part<'a>(&'a self, _context: &Context<'_>) -> Part<'a> {
-        Part::Meshes(self)
+    fn value_ref<'a>(&'a self, _context: &Context<'_>) -> ValueRef<'a> {
+        ValueRef::Meshes(self)
     }
 }
 
-impl Visited for Primitive {
+impl Quiet for Vec<Mesh> {
+    fn is_quiet<C: HasContext>(&self, context: &C) -> bool {
+        are_quiet(self, context)
+    }
+}
+
+impl Visitable for Primitive {
     ghost kind = { primitive_kind };
 
     ghost tree = { λ v. closed_object (primitive_members v) };
 
-    fn part<'a>(&'a self, _context: &Context<'_>) -> Part<'a> {
-        Part::Primitive(self)
+    fn value_ref<'a>(&'a self, _context: &Context<'_>) -> ValueRef<'a> {
+        ValueRef::Primitive(self)
     }
 }
 
-impl Visited for Vec<Primitive> {
+impl<'a, E: EventBuilder<'a>> Events<'a, E> for Primitive {
+    #[tactic(auto, using(crate::proofs::Past::past), unfolding(gltf_meshes::specs::Mesh::primitive_rows, gltf_meshes::specs::Mesh::morph_target_rows, gltf_meshes::specs::Mesh::primitive_extension_rows, gltf_meshes::specs::Mesh::variant_mapping_rows, gltf_meshes::specs::Mesh::variant_mappings_rows, gltf_meshes::specs::Mesh::primitive_members))]
+    fn event<C: HasContext>(&'a self, number: usize, context: &C) -> E {
+        match number {
+            0 => E::member("attributes", &self.attributes, context),
+            1 => E::member("indices", &self.indices, context),
+            2 => E::member("material", &self.material, context),
+            3 => E::member("mode", &self.mode, context),
+            4 => E::member("targets", &self.targets, context),
+            5 => {
+                let faults = position_faults(self, context.context().root);
+                E::enter(
+                    Step::Field("attributes"),
+                    ValueRef::AtPositions(faults),
+                    are_positions_quiet(faults),
+                    context,
+                )
+            }
+            _ => E::end(),
+        }
+    }
+}
+
+impl Quiet for Primitive {
+    fn is_quiet<C: HasContext>(&self, context: &C) -> bool {
+        is_object_quiet(self, context)
+    }
+}
+
+impl Visitable for Vec<Primitive> {
     ghost kind = { ListOf primitive_kind };
 
     ghost tree = { λ v. list_tree (λ x. closed_object (primitive_members x)) v.items };
 
-    fn part<'a>(&'a self, _context: &Context<'_>) -> Part<'a> {
-        Part::Primitives(self)
+    fn value_ref<'a>(&'a self, _context: &Context<'_>) -> ValueRef<'a> {
+        ValueRef::Primitives(self)
     }
 }
 
-impl Visited for MorphTarget {
+impl Quiet for Vec<Primitive> {
+    fn is_quiet<C: HasContext>(&self, context: &C) -> bool {
+        are_quiet(self, context)
+    }
+}
+
+impl Visitable for MorphTarget {
     ghost kind = { morph_target_kind };
 
     ghost tree = { λ v. closed_object (morph_target_members v) };
 
-    fn part<'a>(&'a self, _context: &Context<'_>) -> Part<'a> {
-        Part::MorphTarget(self)
+    fn value_ref<'a>(&'a self, _context: &Context<'_>) -> ValueRef<'a> {
+        ValueRef::MorphTarget(self)
     }
 }
 
-impl Visited for Vec<MorphTarget> {
+impl<'a, E: EventBuilder<'a>> Events<'a, E> for MorphTarget {
+    #[tactic(auto, using(crate::proofs::Past::past), unfolding(gltf_meshes::specs::Mesh::morph_target_rows, gltf_meshes::specs::Mesh::morph_target_members))]
+    fn event<C: HasContext>(&'a self, number: usize, context: &C) -> E {
+        match number {
+            0 => E::member("POSITION", &self.positions, context),
+            1 => E::member("NORMAL", &self.normals, context),
+            2 => E::member("TANGENT", &self.tangents, context),
+            _ => E::end(),
+        }
+    }
+}
+
+impl Quiet for MorphTarget {
+    fn is_quiet<C: HasContext>(&self, context: &C) -> bool {
+        is_object_quiet(self, context)
+    }
+}
+
+impl Visitable for Vec<MorphTarget> {
     ghost kind = { ListOf morph_target_kind };
 
     ghost tree = { λ v. list_tree (λ x. closed_object (morph_target_members x)) v.items };
 
-    fn part<'a>(&'a self, _context: &Context<'_>) -> Part<'a> {
-        Part::MorphTargets(self)
+    fn value_ref<'a>(&'a self, _context: &Context<'_>) -> ValueRef<'a> {
+        ValueRef::MorphTargets(self)
     }
 }
 
-impl Silent for KhrMaterialsVariants {
+impl Quiet for Vec<MorphTarget> {
+    fn is_quiet<C: HasContext>(&self, context: &C) -> bool {
+        are_quiet(self, context)
+    }
+}
+
+impl AlwaysValid for KhrMaterialsVariants {
     ghost kind = { variant_mappings_kind };
 
     ghost tree = { λ v. closed_object (variant_mappings_members v) };
@@ -83,7 +168,7 @@ impl Silent for KhrMaterialsVariants {
         variant_mappings_members in refl };
 }
 
-impl Silent for Mapping {
+impl AlwaysValid for Mapping {
     ghost kind = { variant_mapping_kind };
 
     ghost tree = { λ v. closed_object (variant_mapping_members v) };
@@ -91,7 +176,7 @@ impl Silent for Mapping {
     ghost silent = { λ _ _. unfold variant_mapping_rows variant_mapping_members in refl };
 }
 
-impl Silent for extensions::Primitive {
+impl AlwaysValid for extensions::Primitive {
     ghost kind = { primitive_extensions_kind };
 
     ghost tree = { primitive_extensions };

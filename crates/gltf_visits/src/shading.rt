@@ -1,15 +1,17 @@
 //! Extensions of materials.
 
-ghost use Rattle.gltf_shading.specs.MaterialExtensionTable.{material_extensions_kind, pbr_specular_glossiness_kind, transmission_kind, volume_kind, specular_kind, unlit_kind, ior_kind, ior_rows, emissive_strength_kind, emissive_strength_rows};
-ghost use Rattle.gltf_materials.specs.MaterialTrees.{material_extensions};
-ghost use Rattle.gltf_shading.specs.MaterialExtensionTrees.{pbr_specular_glossiness_tree, transmission_members, volume_members, specular_members, unlit_tree, ior_members, emissive_strength_members};
+ghost use Rattle.gltf_shading.specs.MaterialExtension.{material_extensions_kind, pbr_specular_glossiness_kind, transmission_kind, volume_kind, specular_kind, unlit_kind, ior_kind, ior_rows, emissive_strength_kind, emissive_strength_rows, pbr_specular_glossiness_tree, transmission_members, volume_members, specular_members, unlit_tree, ior_members, emissive_strength_members};
+ghost use Rattle.gltf_materials.specs.Material.{material_extensions};
 ghost use Rattle.gltf_schema.specs.Fields.{closed_object};
 ghost use Rattle.std.specs.Prelude.{refl};
 
-use crate::part::Part;
-use crate::silent::Silent;
-use crate::visited::Visited;
-use gltf_faults::Context;
+use crate::always_valid::AlwaysValid;
+use crate::event::EventBuilder;
+use crate::events::Events;
+use crate::quiet::{Quiet, is_object_quiet};
+use crate::value_ref::ValueRef;
+use crate::visitable::Visitable;
+use gltf_faults::{Context, HasContext};
 use gltf_shading::extensions::material as extensions;
 use gltf_shading::extensions::material::{
     AttenuationColor, AttenuationDistance, EmissiveStrength, EmissiveStrengthFactor,
@@ -18,57 +20,154 @@ use gltf_shading::extensions::material::{
     Volume,
 };
 
-impl Visited for extensions::Material {
+impl Visitable for extensions::Material {
     ghost kind = { material_extensions_kind };
 
     ghost tree = { material_extensions };
 
-    fn part<'a>(&'a self, _context: &Context<'_>) -> Part<'a> {
-        Part::MaterialExtensions(self)
+    fn value_ref<'a>(&'a self, _context: &Context<'_>) -> ValueRef<'a> {
+        ValueRef::MaterialExtensions(self)
     }
 }
 
-impl Visited for PbrSpecularGlossiness {
+impl<'a, E: EventBuilder<'a>> Events<'a, E> for extensions::Material {
+    #[tactic(auto, using(crate::proofs::Past::past), unfolding(gltf_shading::specs::MaterialExtension::material_extension_rows, gltf_shading::specs::MaterialExtension::emissive_strength_rows, gltf_textures::specs::Texture::info_rows, gltf_shading::specs::MaterialExtension::ior_rows, gltf_shading::specs::MaterialExtension::pbr_specular_glossiness_rows, gltf_shading::specs::MaterialExtension::specular_rows, gltf_shading::specs::MaterialExtension::transmission_rows, gltf_shading::specs::MaterialExtension::volume_rows, gltf_shading::specs::MaterialExtension::material_extension_members))]
+    fn event<C: HasContext>(&'a self, number: usize, context: &C) -> E {
+        match number {
+            0 => E::member(
+                "KHR_materials_pbrSpecularGlossiness",
+                &self.pbr_specular_glossiness,
+                context,
+            ),
+            1 => E::member("KHR_materials_transmission", &self.transmission, context),
+            2 => E::member("KHR_materials_volume", &self.volume, context),
+            3 => E::member("KHR_materials_specular", &self.specular, context),
+            _ => E::end(),
+        }
+    }
+}
+
+impl Quiet for extensions::Material {
+    fn is_quiet<C: HasContext>(&self, context: &C) -> bool {
+        is_object_quiet(self, context)
+    }
+}
+
+impl Visitable for PbrSpecularGlossiness {
     ghost kind = { pbr_specular_glossiness_kind };
 
     ghost tree = { pbr_specular_glossiness_tree };
 
-    fn part<'a>(&'a self, _context: &Context<'_>) -> Part<'a> {
-        Part::PbrSpecularGlossiness(self)
+    fn value_ref<'a>(&'a self, _context: &Context<'_>) -> ValueRef<'a> {
+        ValueRef::PbrSpecularGlossiness(self)
     }
 }
 
-impl Visited for Transmission {
+impl<'a, E: EventBuilder<'a>> Events<'a, E> for PbrSpecularGlossiness {
+    #[tactic(auto, using(crate::proofs::Past::past), unfolding(gltf_shading::specs::MaterialExtension::pbr_specular_glossiness_rows, gltf_textures::specs::Texture::info_rows, gltf_shading::specs::MaterialExtension::pbr_specular_glossiness_members))]
+    fn event<C: HasContext>(&'a self, number: usize, context: &C) -> E {
+        match number {
+            0 => E::member("diffuseTexture", &self.diffuse_texture, context),
+            1 => E::member(
+                "specularGlossinessTexture",
+                &self.specular_glossiness_texture,
+                context,
+            ),
+            _ => E::end(),
+        }
+    }
+}
+
+impl Quiet for PbrSpecularGlossiness {
+    fn is_quiet<C: HasContext>(&self, context: &C) -> bool {
+        is_object_quiet(self, context)
+    }
+}
+
+impl Visitable for Transmission {
     ghost kind = { transmission_kind };
 
     ghost tree = { λ v. closed_object (transmission_members v) };
 
-    fn part<'a>(&'a self, _context: &Context<'_>) -> Part<'a> {
-        Part::Transmission(self)
+    fn value_ref<'a>(&'a self, _context: &Context<'_>) -> ValueRef<'a> {
+        ValueRef::Transmission(self)
     }
 }
 
-impl Visited for Volume {
+impl<'a, E: EventBuilder<'a>> Events<'a, E> for Transmission {
+    #[tactic(auto, using(crate::proofs::Past::past), unfolding(gltf_shading::specs::MaterialExtension::transmission_rows, gltf_textures::specs::Texture::info_rows, gltf_shading::specs::MaterialExtension::transmission_members))]
+    fn event<C: HasContext>(&'a self, number: usize, context: &C) -> E {
+        match number {
+            0 => E::member("transmissionTexture", &self.transmission_texture, context),
+            _ => E::end(),
+        }
+    }
+}
+
+impl Quiet for Transmission {
+    fn is_quiet<C: HasContext>(&self, context: &C) -> bool {
+        is_object_quiet(self, context)
+    }
+}
+
+impl Visitable for Volume {
     ghost kind = { volume_kind };
 
     ghost tree = { λ v. closed_object (volume_members v) };
 
-    fn part<'a>(&'a self, _context: &Context<'_>) -> Part<'a> {
-        Part::Volume(self)
+    fn value_ref<'a>(&'a self, _context: &Context<'_>) -> ValueRef<'a> {
+        ValueRef::Volume(self)
     }
 }
 
-impl Visited for Specular {
+impl<'a, E: EventBuilder<'a>> Events<'a, E> for Volume {
+    #[tactic(auto, using(crate::proofs::Past::past), unfolding(gltf_shading::specs::MaterialExtension::volume_rows, gltf_textures::specs::Texture::info_rows, gltf_shading::specs::MaterialExtension::volume_members))]
+    fn event<C: HasContext>(&'a self, number: usize, context: &C) -> E {
+        match number {
+            0 => E::member("thicknessTexture", &self.thickness_texture, context),
+            _ => E::end(),
+        }
+    }
+}
+
+impl Quiet for Volume {
+    fn is_quiet<C: HasContext>(&self, context: &C) -> bool {
+        is_object_quiet(self, context)
+    }
+}
+
+impl Visitable for Specular {
     ghost kind = { specular_kind };
 
     ghost tree = { λ v. closed_object (specular_members v) };
 
-    fn part<'a>(&'a self, _context: &Context<'_>) -> Part<'a> {
-        Part::Specular(self)
+    fn value_ref<'a>(&'a self, _context: &Context<'_>) -> ValueRef<'a> {
+        ValueRef::Specular(self)
     }
 }
 
-impl Silent for Unlit {
+impl<'a, E: EventBuilder<'a>> Events<'a, E> for Specular {
+    #[tactic(auto, using(crate::proofs::Past::past), unfolding(gltf_shading::specs::MaterialExtension::specular_rows, gltf_textures::specs::Texture::info_rows, gltf_shading::specs::MaterialExtension::specular_members))]
+    fn event<C: HasContext>(&'a self, number: usize, context: &C) -> E {
+        match number {
+            0 => E::member("specularTexture", &self.specular_texture, context),
+            1 => E::member(
+                "specularColorTexture",
+                &self.specular_color_texture,
+                context,
+            ),
+            _ => E::end(),
+        }
+    }
+}
+
+impl Quiet for Specular {
+    fn is_quiet<C: HasContext>(&self, context: &C) -> bool {
+        is_object_quiet(self, context)
+    }
+}
+
+impl AlwaysValid for Unlit {
     ghost kind = { unlit_kind };
 
     ghost tree = { unlit_tree };
@@ -76,7 +175,7 @@ impl Silent for Unlit {
     ghost silent = { λ _ _. refl };
 }
 
-impl Silent for Ior {
+impl AlwaysValid for Ior {
     ghost kind = { ior_kind };
 
     ghost tree = { λ v. closed_object (ior_members v) };
@@ -84,7 +183,7 @@ impl Silent for Ior {
     ghost silent = { λ _ _. unfold ior_rows ior_members in refl };
 }
 
-impl Silent for EmissiveStrength {
+impl AlwaysValid for EmissiveStrength {
     ghost kind = { emissive_strength_kind };
 
     ghost tree = { λ v. closed_object (emissive_strength_members v) };
@@ -92,42 +191,42 @@ impl Silent for EmissiveStrength {
     ghost silent = { λ _ _. unfold emissive_strength_rows emissive_strength_members in refl };
 }
 
-impl Silent for PbrDiffuseFactor {
+impl AlwaysValid for PbrDiffuseFactor {
     ghost silent = { λ _ _. refl };
 }
 
-impl Silent for PbrSpecularFactor {
+impl AlwaysValid for PbrSpecularFactor {
     ghost silent = { λ _ _. refl };
 }
 
-impl Silent for TransmissionFactor {
+impl AlwaysValid for TransmissionFactor {
     ghost silent = { λ _ _. refl };
 }
 
-impl Silent for ThicknessFactor {
+impl AlwaysValid for ThicknessFactor {
     ghost silent = { λ _ _. refl };
 }
 
-impl Silent for AttenuationDistance {
+impl AlwaysValid for AttenuationDistance {
     ghost silent = { λ _ _. refl };
 }
 
-impl Silent for AttenuationColor {
+impl AlwaysValid for AttenuationColor {
     ghost silent = { λ _ _. refl };
 }
 
-impl Silent for SpecularFactor {
+impl AlwaysValid for SpecularFactor {
     ghost silent = { λ _ _. refl };
 }
 
-impl Silent for SpecularColorFactor {
+impl AlwaysValid for SpecularColorFactor {
     ghost silent = { λ _ _. refl };
 }
 
-impl Silent for IndexOfRefraction {
+impl AlwaysValid for IndexOfRefraction {
     ghost silent = { λ _ _. refl };
 }
 
-impl Silent for EmissiveStrengthFactor {
+impl AlwaysValid for EmissiveStrengthFactor {
     ghost silent = { λ _ _. refl };
 }

@@ -1,72 +1,138 @@
 //! Textures and samplers.
 
-ghost use Rattle.gltf_textures.specs.TextureTable.{sampler_kind, texture_kind, info_kind, info_extensions_kind, info_extension_rows, texture_transform_kind, texture_transform_rows};
-ghost use Rattle.gltf_textures.specs.TextureTrees.{sampler_members, texture_members, info_members, info_extensions, info_extension_members, texture_transform_members};
+ghost use Rattle.gltf_textures.specs.Texture.{sampler_kind, texture_kind, info_kind, info_extensions_kind, info_extension_rows, texture_transform_kind, texture_transform_rows, sampler_members, texture_members, info_members, info_extensions, info_extension_members, texture_transform_members};
 ghost use Rattle.gltf_schema.specs.Fields.{closed_object, list_tree};
 ghost use Rattle.gltf_schema.specs.Kind.{ListOf};
 ghost use Rattle.std.specs.Prelude.{refl};
 
-use crate::part::Part;
-use crate::silent::Silent;
-use crate::visited::Visited;
-use gltf_faults::Context;
+use crate::always_valid::AlwaysValid;
+use crate::event::EventBuilder;
+use crate::events::Events;
+use crate::quiet::{Quiet, are_quiet, is_object_quiet};
+use crate::value_ref::ValueRef;
+use crate::visitable::Visitable;
+use gltf_faults::{Context, HasContext, source_fault};
 use gltf_textures::extensions::texture as extensions;
 use gltf_textures::extensions::texture::{
     TextureTransform, TextureTransformOffset, TextureTransformRotation, TextureTransformScale,
 };
 use gltf_textures::texture::{Info, Sampler, Texture};
 
-impl Visited for Sampler {
+impl Visitable for Sampler {
     ghost kind = { sampler_kind };
 
     ghost tree = { λ v. closed_object (sampler_members v) };
 
-    fn part<'a>(&'a self, _context: &Context<'_>) -> Part<'a> {
-        Part::Sampler(self)
+    fn value_ref<'a>(&'a self, _context: &Context<'_>) -> ValueRef<'a> {
+        ValueRef::Sampler(self)
     }
 }
 
-impl Visited for Vec<Sampler> {
+impl<'a, E: EventBuilder<'a>> Events<'a, E> for Sampler {
+    #[tactic(auto, using(crate::proofs::Past::past), unfolding(gltf_textures::specs::Texture::sampler_rows, gltf_textures::specs::Texture::sampler_members))]
+    fn event<C: HasContext>(&'a self, number: usize, context: &C) -> E {
+        match number {
+            0 => E::member("magFilter", &self.mag_filter, context),
+            1 => E::member("minFilter", &self.min_filter, context),
+            2 => E::member("wrapS", &self.wrap_s, context),
+            3 => E::member("wrapT", &self.wrap_t, context),
+            _ => E::end(),
+        }
+    }
+}
+
+impl Quiet for Sampler {
+    fn is_quiet<C: HasContext>(&self, context: &C) -> bool {
+        is_object_quiet(self, context)
+    }
+}
+
+impl Visitable for Vec<Sampler> {
     ghost kind = { ListOf sampler_kind };
 
     ghost tree = { λ v. list_tree (λ x. closed_object (sampler_members x)) v.items };
 
-    fn part<'a>(&'a self, _context: &Context<'_>) -> Part<'a> {
-        Part::Samplers(self)
+    fn value_ref<'a>(&'a self, _context: &Context<'_>) -> ValueRef<'a> {
+        ValueRef::Samplers(self)
     }
 }
 
-impl Visited for Texture {
+impl Quiet for Vec<Sampler> {
+    fn is_quiet<C: HasContext>(&self, context: &C) -> bool {
+        are_quiet(self, context)
+    }
+}
+
+impl Visitable for Texture {
     ghost kind = { texture_kind };
 
     ghost tree = { λ v. closed_object (texture_members v) };
 
-    fn part<'a>(&'a self, _context: &Context<'_>) -> Part<'a> {
-        Part::Texture(self)
+    fn value_ref<'a>(&'a self, _context: &Context<'_>) -> ValueRef<'a> {
+        ValueRef::Texture(self)
     }
 }
 
-impl Visited for Vec<Texture> {
+impl<'a, E: EventBuilder<'a>> Events<'a, E> for Texture {
+    #[tactic(auto, using(crate::proofs::Past::past), unfolding(gltf_textures::specs::Texture::texture_rows, gltf_textures::specs::Texture::texture_members))]
+    fn event<C: HasContext>(&'a self, number: usize, context: &C) -> E {
+        match number {
+            0 => E::member("sampler", &self.sampler, context),
+            1 => E::fault_at("source", source_fault(self, &context.context())),
+            _ => E::end(),
+        }
+    }
+}
+
+impl Quiet for Texture {
+    fn is_quiet<C: HasContext>(&self, context: &C) -> bool {
+        is_object_quiet(self, context)
+    }
+}
+
+impl Visitable for Vec<Texture> {
     ghost kind = { ListOf texture_kind };
 
     ghost tree = { λ v. list_tree (λ x. closed_object (texture_members x)) v.items };
 
-    fn part<'a>(&'a self, _context: &Context<'_>) -> Part<'a> {
-        Part::Textures(self)
+    fn value_ref<'a>(&'a self, _context: &Context<'_>) -> ValueRef<'a> {
+        ValueRef::Textures(self)
     }
 }
 
-impl Visited for Info {
+impl Quiet for Vec<Texture> {
+    fn is_quiet<C: HasContext>(&self, context: &C) -> bool {
+        are_quiet(self, context)
+    }
+}
+
+impl Visitable for Info {
     ghost kind = { info_kind };
 
     ghost tree = { λ v. closed_object (info_members v) };
 
-    fn part<'a>(&'a self, _context: &Context<'_>) -> Part<'a> {
-        Part::Info(self)
+    fn value_ref<'a>(&'a self, _context: &Context<'_>) -> ValueRef<'a> {
+        ValueRef::Info(self)
     }
 }
 
-impl Silent for TextureTransform {
+impl<'a, E: EventBuilder<'a>> Events<'a, E> for Info {
+    #[tactic(auto, using(crate::proofs::Past::past), unfolding(gltf_textures::specs::Texture::info_rows, gltf_textures::specs::Texture::info_extension_rows, gltf_textures::specs::Texture::texture_transform_rows, gltf_textures::specs::Texture::info_members))]
+    fn event<C: HasContext>(&'a self, number: usize, context: &C) -> E {
+        match number {
+            0 => E::member("index", &self.index, context),
+            _ => E::end(),
+        }
+    }
+}
+
+impl Quiet for Info {
+    fn is_quiet<C: HasContext>(&self, context: &C) -> bool {
+        is_object_quiet(self, context)
+    }
+}
+
+impl AlwaysValid for TextureTransform {
     ghost kind = { texture_transform_kind };
 
     ghost tree = { λ v. closed_object (texture_transform_members v) };
@@ -74,19 +140,19 @@ impl Silent for TextureTransform {
     ghost silent = { λ _ _. unfold texture_transform_rows texture_transform_members in refl };
 }
 
-impl Silent for TextureTransformOffset {
+impl AlwaysValid for TextureTransformOffset {
     ghost silent = { λ _ _. refl };
 }
 
-impl Silent for TextureTransformRotation {
+impl AlwaysValid for TextureTransformRotation {
     ghost silent = { λ _ _. refl };
 }
 
-impl Silent for TextureTransformScale {
+impl AlwaysValid for TextureTransformScale {
     ghost silent = { λ _ _. refl };
 }
 
-impl Silent for extensions::Info {
+impl AlwaysValid for extensions::Info {
     ghost kind = { info_extensions_kind };
 
     ghost tree = { info_extensions };

@@ -17,7 +17,7 @@ use Rattle.gltf_paths.specs.Indexes.{index_number}
 use Rattle.gltf_paths.specs.declared.index.IndexTo.{IndexTo}
 use Rattle.gltf_schema.specs.Fields.{entry_of}
 use Rattle.gltf_schema.proofs.AttributesBack.{keys_total}
-use Rattle.gltf_walk.specs.Left.{entries_behind, IsFirstBehind}
+use Rattle.gltf_walk.specs.Rest.{entries_behind, IsFirstBehind}
 
 -- ---- entries in the order of their keys
 

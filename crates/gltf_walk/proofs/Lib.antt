@@ -1,5 +1,5 @@
-pub mod PlanReports
-pub mod PlanHeight
+pub mod OutlineReports
+pub mod OutlineHeight
 pub mod Stacks
 pub mod Begun
 pub mod Moves

@@ -1,3 +1,3 @@
-pub mod Left
+pub mod Rest
 pub mod Stacks
 pub mod ToCome

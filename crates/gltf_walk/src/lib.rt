@@ -1,11 +1,10 @@
 //! A walk over a document, in one loop.
 #![tactic(auto)]
 
+mod attributes;
 mod frame;
-mod frames;
-mod lists;
-mod state;
+mod next_report;
 mod walk;
 
-pub use state::{Descent, Walk};
-pub use walk::StepsFull;
+pub use next_report::StepsFull;
+pub use walk::{ValueWalk, Walk};

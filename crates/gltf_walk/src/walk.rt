@@ -1,156 +1,35 @@
-//! The walk.
+//! What a walk holds.
 
-ghost use Rattle.std.specs.Prelude.{◌≡◌, ◌<◌, ◌≤◌, ◌+◌, [], length, IfOk, None, OnErr, false};
-ghost use Rattle.gltf_paths.specs.Steps.{steps_of};
-ghost use Rattle.gltf_root.specs.RootTrees.{root_tree};
-ghost use Rattle.gltf_faults.specs.Context.{rules_of, standard_rules};
-ghost use Rattle.gltf_faults.specs.Reports.{document_reports, reports_by_rules};
-ghost use Rattle.gltf_visits.specs.Parts.{plan_of};
-ghost use Rattle.gltf_schema.specs.Height.{kind_height};
-ghost use Rattle.gltf_visits.specs.Plan.{leaf};
-ghost use Rattle.gltf_walk.specs.ToCome.{base_count, depth_of_descent, left_of_descent, path_of_descent, to_come, path_of, IsNext, IsNextOf};
+ghost use Rattle.std.specs.Prelude.{◌≤◌, ◌-◌, suc, length};
+ghost use Rattle.gltf_faults.specs.Context.{rules_of, under};
+ghost use Rattle.gltf_root.specs.Root.{root_tree};
+ghost use Rattle.gltf_walk.specs.Rest.{outlines_left};
+ghost use Rattle.gltf_walk.specs.Stacks.{reach};
 
-use crate::frame::{Frame, begun_in};
-use crate::frames::next_in;
-use crate::state::{Descent, Walk};
+use crate::frame::Frame;
+use arrayvec::ArrayVec;
 use gltf_base::Steps;
-use gltf_base::validation::Error;
-use gltf_faults::{Context, Rules};
-use gltf_plans::Next;
+use gltf_faults::Rules;
 use gltf_root::root::Root;
-use gltf_visits::{Part, Visited};
 
-/// A path that has no room for one more step.
-#[derive(Clone, Copy, Debug, Drop, PartialEq, Eq)]
-pub struct StepsFull;
-
-impl<'a> Descent<'a> {
-    /// A walk over `value` by `rules` that looks its indexes up in `root`; each of its paths begins
-    /// with the steps of `base`.
-    pub fn new<T: Visited>(
-        rules: Rules<'a>,
-        value: &'a T,
-        root: &'a Root,
-        base: &Steps<'a>,
-    ) -> Descent<'a>
-        requires { kind_height T.kind ≤ 10 }
-        ensures reports { left_of_descent result
-            ≡ reports_by_rules (rules_of rules.entry) T.kind (T.tree value.now) (root_tree root.now)
-            (steps_of base.now) }
-        ensures base { base_count result ≡ length (steps_of base.now) }
-        ensures path { path_of_descent result ≡ steps_of base.now }
-        ensures depth { depth_of_descent result ≤ kind_height T.kind }
-    {
-        let part = value.part(&Context {
-            rules: &rules,
-            root,
-        });
-        Descent {
-            rules,
-            root,
-            frames: begun_in(part),
-            steps: copied(base),
-        }
-    }
-
-    /// The error of the next report, whose path is then in `steps`; `None` where there is none
-    /// left. `StepsFull` comes only where the first steps and those below the value are more than
-    /// 16.
-    pub fn next_report(&mut self) -> Result<Option<Error>, StepsFull>
-        ensures next { IfOk result (λ error. IsNextOf self.old error self.new) }
-        ensures depth { depth_of_descent self.new ≤ depth_of_descent self.old }
-        ensures full { OnErr result (16 < base_count self.old + depth_of_descent self.old) }
-    {
-        while let Some(mut frame) = self.frames.pop() {
-            let context = Context {
-                rules: &self.rules,
-                root: self.root,
-            };
-            match next_in(&mut frame, &context) {
-                Next::Done => {
-                    let _ = self.steps.pop();
-                }
-                Next::Fault(error) => {
-                    self.frames.push(frame);
-                    return Ok(Some(error));
-                }
-                Next::Down(step, part) => {
-                    self.frames.push(frame);
-                    // Most of what a walk comes to is an index or a choice with nothing wrong.
-                    if needs_frame(&part) {
-                        if self.steps.is_full() {
-                            return Err(StepsFull);
-                        }
-                        self.frames.push(Frame::at_start(part));
-                        self.steps.push(step);
-                    }
-                }
-            }
-        }
-        Ok(None)
-    }
-
-    /// The path of the last report.
-    pub fn steps(&self) -> &Steps<'a>
-        ensures { steps_of result.now ≡ path_of_descent self.now }
-    {
-        &self.steps
-    }
+/// A walk over a value from any place, by any rules, against a document.
+// Its calls, and those of `Walk`, are in next_report.rt: their contracts name these types, and a
+// file with a ghost field must not import a file that imports it.
+#[derive(Drop)]
+pub struct ValueWalk<'a> {
+    pub(crate) rules: Rules<'a>,
+    pub(crate) root: &'a Root,
+    /// The values that the walk is in, each below the one before.
+    pub(crate) frames: ArrayVec<Frame<'a>, 16>,
+    pub(crate) steps: Steps<'a>,
+    ghost fits: { reach 0 (outlines_left (under (rules_of rules) (root_tree root.now)) frames.items)
+        ≤ 10 },
+    ghost beside: { length frames.items ≤ suc (length steps.items) },
 }
 
-impl<'a> Walk<'a> {
-    /// A walk over `root` that has not begun.
-    pub fn new(root: &'a Root) -> Walk<'a>
-        ensures reports { to_come result ≡ document_reports standard_rules (root_tree root.now) }
-        ensures path { path_of result ≡ [] }
-    {
-        Walk::with_rules(Rules::new(), root)
-    }
-
-    /// A walk over `root` by rules of the caller's that has not begun.
-    pub fn with_rules(rules: Rules<'a>, root: &'a Root) -> Walk<'a>
-        ensures reports { to_come result
-            ≡ document_reports (rules_of rules.entry) (root_tree root.now) }
-        ensures path { path_of result ≡ [] }
-    {
-        Walk {
-            descent: Descent::new(rules, root, root, &Steps::new()),
-        }
-    }
-
-    /// The error of the next report, whose path is then in `steps`; `None`, with empty `steps`,
-    /// where there is none left.
-    pub fn next_report(&mut self) -> Option<Error>
-        ensures { IsNext (to_come self.old) result (path_of self.new) (to_come self.new) }
-    {
-        match self.descent.next_report() {
-            Ok(error) => error,
-            // No document is deeper than a path is long.
-            Err(StepsFull) => unreachable!(),
-        }
-    }
-
-    /// The path of the last report; empty before the first one and after the last one.
-    pub fn steps(&self) -> &Steps<'a>
-        ensures { steps_of result.now ≡ path_of self.now }
-    {
-        self.descent.steps()
-    }
-}
-
-/// The same steps.
-fn copied<'a>(base: &Steps<'a>) -> Steps<'a>
-    ensures { result.items ≡ base.now.items }
-{
-    let mut steps = Steps::new();
-    // They fit: both have the same room.
-    let _ = steps.try_extend_from_slice(base.as_slice());
-    steps
-}
-
-/// Whether a part has to be gone into: not where nothing stands below and nothing is wrong.
-fn needs_frame(part: &Part<'_>) -> bool
-    ensures { result ≡ false → (context : _) → plan_of context part.now ≡ leaf None }
-{
-    !matches!(part, Part::Leaf(None))
+/// A walk over a document against itself, which gives its reports one at a time.
+#[derive(Drop)]
+pub struct Walk<'a> {
+    pub(crate) inner: ValueWalk<'a>,
+    ghost from_root: { length inner.steps.items ≤ length inner.frames.items - 1 },
 }

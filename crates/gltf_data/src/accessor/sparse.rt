@@ -4,8 +4,7 @@
 ghost use Rattle.std.specs.Prelude.{false};
 ghost use Rattle.std.proofs.Common.{lit≤};
 ghost use Rattle.serde_json.specs.Data.{no_members};
-ghost use Rattle.gltf_data.specs.AccessorTable.{sparse_rows, sparse_sound, sparse_height, sparse_indices_rows, sparse_indices_sound, sparse_indices_height, sparse_values_rows, sparse_values_sound, sparse_values_height};
-ghost use Rattle.gltf_data.specs.AccessorTrees.{sparse_members, sparse_indices_members, sparse_values_members};
+ghost use Rattle.gltf_data.specs.Accessor.{sparse_rows, sparse_sound, sparse_height, sparse_indices_rows, sparse_indices_sound, sparse_indices_height, sparse_values_rows, sparse_values_sound, sparse_values_height, sparse_members, sparse_indices_members, sparse_values_members};
 
 use crate::buffer::View;
 use crate::extensions;
@@ -18,7 +17,7 @@ use serde_json::{Map, Value};
 use std::alloc::Global;
 
 /// Elements that deviate from those of the view.
-// What takes longest to drop stands last (docs/DECISIONS.md).
+// What takes longest to drop comes last (docs/DECISIONS.md).
 #[derive(Clone, Debug, Drop)]
 pub struct Sparse {
     /// How many elements deviate.

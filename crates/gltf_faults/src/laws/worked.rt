@@ -6,14 +6,14 @@ ghost use Rattle.gltf_paths.specs.Lists.{ListName};
 ghost use Rattle.gltf_paths.specs.Steps.{field, item, value};
 ghost use Rattle.gltf_paths.specs.declared.validation.Error.TheVariants.{IndexOutOfBounds, Invalid, Missing, Unsupported};
 ghost use Rattle.gltf_sinks.specs.Report.{report};
-ghost use Rattle.gltf_root.specs.RootTable.{root_kind};
+ghost use Rattle.gltf_root.specs.Root.{root_kind};
 ghost use Rattle.gltf_schema.specs.Read.{read};
 ghost use Rattle.gltf_schema.specs.Plain.{is_plain};
 ghost use Rattle.gltf_schema.specs.Tree.{any};
 ghost use Rattle.gltf_checked.specs.Spelling.{by_number, by_name};
-ghost use Rattle.gltf_data.specs.AccessorTable.{sparse_indices_kind};
-ghost use Rattle.gltf_nodes.specs.SceneTable.{node_extensions_kind};
-ghost use Rattle.gltf_root.specs.RootExtensionTable.{root_extensions_kind};
+ghost use Rattle.gltf_data.specs.Accessor.{sparse_indices_kind};
+ghost use Rattle.gltf_nodes.specs.Scene.{node_extensions_kind};
+ghost use Rattle.gltf_root.specs.RootExtension.{root_extensions_kind};
 ghost use Rattle.gltf_faults.specs.Context.{enabled_with_empty_textures};
 ghost use Rattle.gltf_faults.specs.Worked.{reports_in, reports_ruled, requiring, written_of, pushed_in, reports_pushed, whole, text, one, with_asset, with_accessor, with_view, accessor_of, in_accessor, in_view, with_one, in_one, odd_channel, in_channel, with_attributes, in_attributes, extended, in_extension, point_light, listed_variant, node_of, plain_in, plain_with_extras, indices_of, extensions_beside, node_extensions_beside};
 
@@ -113,7 +113,7 @@ pub fn worked_documents()
 {}
 
 /// What is wrong in documents by rules of the caller's.
-#[tactic(auto, unfolding(gltf_root::specs::RootTable::root_rows, gltf_nodes::specs::AssetTable::asset_rows, gltf_textures::specs::TextureTable::texture_rows))]
+#[tactic(auto, unfolding(gltf_root::specs::Root::root_rows, gltf_root::specs::Asset::asset_rows, gltf_textures::specs::Texture::texture_rows))]
 pub fn worked_rules()
     ensures no_image { reports_ruled true enabled_with_empty_textures
         (with_one (codes "textures") no_members) ≡ Some [] }
@@ -135,7 +135,7 @@ pub fn worked_rules()
 {}
 
 /// What documents are written as.
-#[tactic(auto, unfolding(gltf_root::specs::RootTable::root_rows, gltf_nodes::specs::AssetTable::asset_rows, gltf_data::specs::AccessorTable::accessor_rows, gltf_textures::specs::TextureTable::texture_rows, gltf_nodes::specs::SceneTable::node_rows, gltf_nodes::specs::SceneTable::node_extension_rows, gltf_animations::specs::AnimationTable::animation_rows))]
+#[tactic(auto, unfolding(gltf_root::specs::Root::root_rows, gltf_root::specs::Asset::asset_rows, gltf_data::specs::Accessor::accessor_rows, gltf_textures::specs::Texture::texture_rows, gltf_nodes::specs::Scene::node_rows, gltf_nodes::specs::Scene::node_extension_rows, gltf_animations::specs::Animation::animation_rows))]
 pub fn worked_writings()
     ensures bare { written_of (with_asset no_members) ≡ Some (with_asset no_members) }
     ensures no_image { written_of (with_one (codes "textures") no_members)
@@ -165,7 +165,7 @@ pub fn worked_writings()
 {}
 
 /// Documents with an item pushed onto a list, and their reports.
-#[tactic(auto, unfolding(gltf_root::specs::RootTable::root_rows, gltf_root::specs::RootExtensionTable::root_extension_rows, gltf_root::specs::RootExtensionTable::lights_rows, gltf_root::specs::RootExtensionTable::variants_rows, gltf_nodes::specs::AssetTable::asset_rows, gltf_nodes::specs::LightTable::light_rows, gltf_nodes::specs::LightTable::variant_rows, gltf_data::specs::BufferTable::view_rows, gltf_nodes::specs::SceneTable::node_rows))]
+#[tactic(auto, unfolding(gltf_root::specs::Root::root_rows, gltf_root::specs::RootExtension::root_extension_rows, gltf_root::specs::RootExtension::lights_rows, gltf_root::specs::RootExtension::variants_rows, gltf_root::specs::Asset::asset_rows, gltf_nodes::specs::Light::light_rows, gltf_nodes::specs::Light::variant_rows, gltf_data::specs::Buffer::view_rows, gltf_nodes::specs::Scene::node_rows))]
 pub fn worked_pushes()
     // A light makes the objects that it is listed in.
     ensures first_light { pushed_in ListName.lights point_light (with_asset no_members)
@@ -199,7 +199,7 @@ pub fn worked_pushes()
 {}
 
 /// Which documents and objects are plain.
-#[tactic(auto, unfolding(gltf_root::specs::RootTable::root_rows, gltf_root::specs::RootExtensionTable::root_extension_rows, gltf_nodes::specs::AssetTable::asset_rows, gltf_data::specs::AccessorTable::accessor_rows, gltf_data::specs::AccessorTable::sparse_indices_rows, gltf_nodes::specs::SceneTable::node_extension_rows, gltf_nodes::specs::LightTable::light_of_node_rows))]
+#[tactic(auto, unfolding(gltf_root::specs::Root::root_rows, gltf_root::specs::RootExtension::root_extension_rows, gltf_root::specs::Asset::asset_rows, gltf_data::specs::Accessor::accessor_rows, gltf_data::specs::Accessor::sparse_indices_rows, gltf_nodes::specs::Scene::node_extension_rows, gltf_nodes::specs::Light::light_of_node_rows))]
 pub fn worked_plainness()
     ensures what_is_read { plain_in (with_accessor (accessor_of (whole 1) (whole 5126) no_members))
         ≡ Some true }

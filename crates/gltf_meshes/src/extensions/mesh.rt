@@ -6,8 +6,7 @@ ghost use Rattle.serde_json.specs.Data.{no_members};
 ghost use Rattle.serde_json.specs.View.{members_view};
 ghost use Rattle.gltf_schema.specs.Tree.{end, list, whole, with_tree};
 ghost use Rattle.gltf_schema.specs.Defaults.{defaults};
-ghost use Rattle.gltf_meshes.specs.MeshTable.{primitive_extension_rows, primitive_extension_sound, primitive_extension_height, variant_mappings_rows, variant_mappings_sound, variant_mappings_height, variant_mapping_rows, variant_mapping_sound, variant_mapping_height};
-ghost use Rattle.gltf_meshes.specs.MeshTrees.{primitive_extension_members, variant_mappings_members, variant_mapping_members};
+ghost use Rattle.gltf_meshes.specs.Mesh.{primitive_extension_rows, primitive_extension_sound, primitive_extension_height, variant_mappings_rows, variant_mappings_sound, variant_mappings_height, variant_mapping_rows, variant_mapping_sound, variant_mapping_height, primitive_extension_members, variant_mappings_members, variant_mapping_members};
 
 use gltf_schema::{Error, KeptExtensions, Object, Reading, Writing};
 use serde_json::{Map, Value};
@@ -59,7 +58,7 @@ impl Object for Primitive {
 
 impl Primitive {
     /// No extension.
-    #[tactic(auto, unfolding(crate::specs::MeshTable::primitive_extension_rows, crate::specs::MeshTrees::primitive_extension_members))]
+    #[tactic(auto, unfolding(crate::specs::Mesh::primitive_extension_rows, crate::specs::Mesh::primitive_extension_members))]
     pub fn new(alloc: Global) -> Primitive
         ensures known { primitive_extension_members result ≡ defaults primitive_extension_rows }
         ensures unknown { members_view result.others.entries ≡ no_members }
@@ -110,7 +109,7 @@ impl Object for KhrMaterialsVariants {
 
 impl KhrMaterialsVariants {
     /// No mapping.
-    #[tactic(auto, unfolding(crate::specs::MeshTrees::variant_mappings_members))]
+    #[tactic(auto, unfolding(crate::specs::Mesh::variant_mappings_members))]
     pub fn new(alloc: Global) -> KhrMaterialsVariants
         ensures { variant_mappings_members result ≡ with_tree (list end) end }
     {
@@ -161,7 +160,7 @@ impl Object for Mapping {
 
 impl Mapping {
     /// The first material, under no variant.
-    #[tactic(auto, unfolding(crate::specs::MeshTrees::variant_mapping_members))]
+    #[tactic(auto, unfolding(crate::specs::Mesh::variant_mapping_members))]
     pub fn new(alloc: Global) -> Mapping
         ensures { variant_mapping_members result ≡ with_tree (whole 0) (with_tree (list end) end) }
     {

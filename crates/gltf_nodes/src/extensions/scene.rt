@@ -5,8 +5,7 @@ ghost use Rattle.std.proofs.Common.{lit≤};
 ghost use Rattle.serde_json.specs.Data.{no_members};
 ghost use Rattle.serde_json.specs.View.{members_view};
 ghost use Rattle.gltf_schema.specs.Defaults.{defaults};
-ghost use Rattle.gltf_nodes.specs.SceneTable.{node_extension_rows, node_extension_sound, node_extension_height};
-ghost use Rattle.gltf_nodes.specs.SceneTrees.{node_extension_members};
+ghost use Rattle.gltf_nodes.specs.Scene.{node_extension_rows, node_extension_sound, node_extension_height, node_extension_members};
 
 use gltf_schema::{Error, KeptExtensions, Object, Reading, Writing};
 use serde_json::{Map, Value};
@@ -18,7 +17,7 @@ pub mod khr_materials_variants;
 /// The extensions of a node.
 #[derive(Clone, Debug, Drop)]
 pub struct Node {
-    /// `KHR_lights_punctual`: the light that stands at the node.
+    /// `KHR_lights_punctual`: the light at the node.
     pub khr_lights_punctual: Option<khr_lights_punctual::KhrLightsPunctual>,
     /// The extensions that are not known.
     pub others: Map<String, Value>,
@@ -58,7 +57,7 @@ impl Object for Node {
 
 impl Node {
     /// No extension.
-    #[tactic(auto, unfolding(crate::specs::SceneTable::node_extension_rows, crate::specs::SceneTrees::node_extension_members))]
+    #[tactic(auto, unfolding(crate::specs::Scene::node_extension_rows, crate::specs::Scene::node_extension_members))]
     pub fn new(alloc: Global) -> Node
         ensures known { node_extension_members result ≡ defaults node_extension_rows }
         ensures unknown { members_view result.others.entries ≡ no_members }

@@ -6,8 +6,7 @@ ghost use Rattle.serde_json.specs.Data.{no_members};
 ghost use Rattle.serde_json.specs.View.{members_view};
 ghost use Rattle.gltf_schema.specs.Tree.{end, list, with_tree};
 ghost use Rattle.gltf_schema.specs.Defaults.{defaults};
-ghost use Rattle.gltf_root.specs.RootExtensionTable.{root_extension_rows, root_extension_sound, root_extension_height, lights_rows, lights_sound, lights_height, variants_rows, variants_sound, variants_height};
-ghost use Rattle.gltf_root.specs.RootExtensionTrees.{root_extension_members, lights_members, variants_members};
+ghost use Rattle.gltf_root.specs.RootExtension.{root_extension_rows, root_extension_sound, root_extension_height, lights_rows, lights_sound, lights_height, variants_rows, variants_sound, variants_height, root_extension_members, lights_members, variants_members};
 
 use gltf_nodes::extensions::scene::khr_lights_punctual::Light;
 use gltf_nodes::extensions::scene::khr_materials_variants::Variant;
@@ -63,7 +62,7 @@ impl Object for Root {
 
 impl Root {
     /// No extension.
-    #[tactic(auto, unfolding(crate::specs::RootExtensionTable::root_extension_rows, crate::specs::RootExtensionTrees::root_extension_members))]
+    #[tactic(auto, unfolding(crate::specs::RootExtension::root_extension_rows, crate::specs::RootExtension::root_extension_members))]
     pub fn new(alloc: Global) -> Root
         ensures known { root_extension_members result ≡ defaults root_extension_rows }
         ensures unknown { members_view result.others.entries ≡ no_members }
@@ -113,7 +112,7 @@ impl Object for KhrLightsPunctual {
 
 impl KhrLightsPunctual {
     /// No light.
-    #[tactic(auto, unfolding(crate::specs::RootExtensionTrees::lights_members))]
+    #[tactic(auto, unfolding(crate::specs::RootExtension::lights_members))]
     pub fn new(alloc: Global) -> KhrLightsPunctual
         ensures { lights_members result ≡ with_tree (list end) end }
     {
@@ -162,7 +161,7 @@ impl Object for KhrMaterialsVariants {
 
 impl KhrMaterialsVariants {
     /// No variant.
-    #[tactic(auto, unfolding(crate::specs::RootExtensionTrees::variants_members))]
+    #[tactic(auto, unfolding(crate::specs::RootExtension::variants_members))]
     pub fn new(alloc: Global) -> KhrMaterialsVariants
         ensures { variants_members result ≡ with_tree (list end) end }
     {

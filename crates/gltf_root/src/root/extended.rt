@@ -1,13 +1,12 @@
-//! The lists that stand in extension objects of a document.
+//! The lists that are in extension objects of a document.
 
 #![tactic(auto)]
 
 ghost use Rattle.gltf_schema.specs.Fields.{closed_object};
-ghost use Rattle.gltf_nodes.specs.LightTrees.{light_members, variant_members};
+ghost use Rattle.gltf_nodes.specs.Light.{light_members, variant_members};
 ghost use Rattle.gltf_root.specs.Items.{lights_of, put_lights, put_variants, variants_of};
 ghost use Rattle.gltf_root.specs.ItemTrees.{lights_of-trees, put_lights-trees, put_variants-trees, variants_of-trees};
-ghost use Rattle.gltf_root.specs.RootTable.{root_rows};
-ghost use Rattle.gltf_root.specs.RootTrees.{root_members};
+ghost use Rattle.gltf_root.specs.Root.{root_rows, root_members};
 
 use super::Root;
 use super::get::RootItem;
@@ -18,7 +17,7 @@ use gltf_base::{Index, PushError};
 use gltf_nodes::extensions::scene::khr_lights_punctual::Light;
 use gltf_nodes::extensions::scene::khr_materials_variants::Variant;
 
-#[tactic(auto, using(crate::proofs::Pushing::trees_push, crate::proofs::Undoing::trees_pop, crate::proofs::Undoing::last_or_pop), unfolding(crate::specs::RootTable::root_rows, crate::specs::RootTrees::root_members, crate::specs::RootExtensionTrees::root_extension_members, crate::specs::RootExtensionTrees::lights_members, crate::specs::RootExtensionTable::root_extension_rows, crate::specs::RootExtensionTable::lights_rows))]
+#[tactic(auto, using(crate::proofs::Pushing::trees_push, crate::proofs::Undoing::trees_pop, crate::proofs::Undoing::last_or_pop), unfolding(crate::specs::Root::root_rows, crate::specs::Root::root_members, crate::specs::RootExtension::root_extension_members, crate::specs::RootExtension::lights_members, crate::specs::RootExtension::root_extension_rows, crate::specs::RootExtension::lights_rows))]
 impl RootItem for Light {
     ghost tree = { λ x. closed_object (light_members x) };
 
@@ -30,7 +29,7 @@ impl RootItem for Light {
 
     ghost puts = { λ r list there. put_lights-trees r list there };
 
-    /// Those of the extension; none where it is missing.
+    /// Those of the extension; none if it is missing.
     fn list_of(root: &Root) -> &[Light] {
         let Some(extensions) = &root.extensions else {
             return &[];
@@ -91,7 +90,7 @@ impl RootItem for Light {
     }
 }
 
-#[tactic(auto, using(crate::proofs::Pushing::trees_push, crate::proofs::Undoing::trees_pop, crate::proofs::Undoing::last_or_pop), unfolding(crate::specs::RootTable::root_rows, crate::specs::RootTrees::root_members, crate::specs::RootExtensionTrees::root_extension_members, crate::specs::RootExtensionTrees::variants_members, crate::specs::RootExtensionTable::root_extension_rows, crate::specs::RootExtensionTable::variants_rows))]
+#[tactic(auto, using(crate::proofs::Pushing::trees_push, crate::proofs::Undoing::trees_pop, crate::proofs::Undoing::last_or_pop), unfolding(crate::specs::Root::root_rows, crate::specs::Root::root_members, crate::specs::RootExtension::root_extension_members, crate::specs::RootExtension::variants_members, crate::specs::RootExtension::root_extension_rows, crate::specs::RootExtension::variants_rows))]
 impl RootItem for Variant {
     ghost tree = { λ x. closed_object (variant_members x) };
 
@@ -103,7 +102,7 @@ impl RootItem for Variant {
 
     ghost puts = { λ r list there. put_variants-trees r list there };
 
-    /// Those of the extension; none where it is missing.
+    /// Those of the extension; none if it is missing.
     fn list_of(root: &Root) -> &[Variant] {
         let Some(extensions) = &root.extensions else {
             return &[];

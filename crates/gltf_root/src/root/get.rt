@@ -11,7 +11,7 @@ ghost use Rattle.gltf_schema.specs.Tree.{Tree, trees};
 ghost use Rattle.gltf_root.specs.Lists.{list_in, is_there};
 ghost use Rattle.gltf_root.specs.Lending.{lends_list};
 ghost use Rattle.gltf_root.specs.Pushed.{pushed, with_list};
-ghost use Rattle.gltf_root.specs.RootTrees.{root_tree};
+ghost use Rattle.gltf_root.specs.Root.{root_tree};
 ghost use Rattle.gltf_root.specs.Undone.{mark_in, undone};
 ghost use Rattle.gltf_root.specs.declared.root.Root.{Root};
 ghost use Rattle.gltf_root.specs.declared.root.mark.Mark.TheVariants.{Listed};
@@ -27,7 +27,7 @@ pub trait Get<T> {
 
     ghost listed: { Self → List T };
 
-    // The same document with another list of `T`, where it has one.
+    // The same document with another list of `T`, if it has one.
     ghost put: { Vec T Global → Self → Self };
 
     ghost named: { ListName };
@@ -40,11 +40,11 @@ pub trait Get<T> {
     fn get(&self, index: Index<T>) -> Option<&T>
         ensures { option_copied result ≡ slice_get (listed self.now) (index_number index) };
 
-    /// The list; empty where its extension object is missing.
+    /// The list; empty if its extension object is missing.
     fn list(&self) -> &[T]
         ensures { result.now ≡ listed self.now };
 
-    /// The list for writing; `None` exactly where its extension object is missing. Nothing is made.
+    /// The list for writing; `None` exactly if its extension object is missing. Nothing is made.
     fn list_mut(&mut self) -> Option<&mut Vec<T>>
         ensures* writes_back { sem 𝓛 (lends_list Self.row T.row put self.entry result) }
         ensures lent { IfSome result (λ list. list.now.items ≡ listed self.old) }
@@ -52,8 +52,8 @@ pub trait Get<T> {
 
     /// Appends an item to the list, and returns its index. Extension objects that are missing are
     /// made, empty but for the list, once the list has grown. `Full` comes for a list of 4294967295
-    /// items or more, before any memory is taken; `Memory` where the list could not grow. Memory is
-    /// taken by the allocator of the list, or of the list of nodes where the list has to be made.
+    /// items or more, before any memory is taken; `Memory` if the list could not grow. Memory is
+    /// taken by the allocator of the list, or of the list of nodes if the list has to be made.
     fn push(&mut self, item: T) -> Result<Index<T>, PushError<T>>
         ensures pushed { IfOk result (λ index. (index_number index ≡ length (listed self.old))
             × (document self.new ≡ pushed named (item_tree item) (document self.old))) }
@@ -65,11 +65,11 @@ pub trait Get<T> {
         ensures kept { OnErr result (listed self.new ≡ listed self.old) };
 
     /// Which of the extension objects around the list the document has. Taken before a push, it
-    /// tells `undo_push` what the push made.
+    /// says to `undo_push` what the push made.
     fn mark(&self) -> Mark
         ensures { result ≡ mark_in named (document self.now) };
 
-    /// Takes the last item out of the list, and returns it; `None` where the list is empty, and
+    /// Takes the last item out of the list, and returns it; `None` if the list is empty, and
     /// then nothing changes. What the mark says was missing before the push is missing again. With
     /// the mark of the document before a push, it is that document again.
     fn undo_push(&mut self, mark: Mark) -> Option<T>
@@ -82,7 +82,7 @@ pub trait Get<T> {
             → IfSome result (λ item. listed self.old ≡ listed self.new ++ item ∷ []) };
 }
 
-/// What a document lists: where its list stands in a root.
+/// What a document lists: where its list is in a root.
 pub trait RootItem: Listed + Drop {
     ghost use Rattle.std.specs.declared.vec.Vec.{Vec};
     ghost use Rattle.std.specs.declared.alloc.Global.{Global};
@@ -94,14 +94,14 @@ pub trait RootItem: Listed + Drop {
 
     ghost items: { Root → List Self };
 
-    // The same root with another list, where it has one.
+    // The same root with another list, if it has one.
     ghost put: { Vec Self Global → Root → Root };
 
     /// The list of a root.
     fn list_of(root: &Root) -> &[Self]
         ensures { result.now ≡ items root.now };
 
-    /// The list of a root for writing; `None` exactly where its extension object is missing.
+    /// The list of a root for writing; `None` exactly if its extension object is missing.
     fn list_of_mut(root: &mut Root) -> Option<&mut Vec<Self>>
         ensures* writes_back { sem 𝓛 (lends_list the_row Self.row put root.entry result) }
         ensures lent { IfSome result (λ list. list.now.items ≡ items root.old) }

@@ -1,10 +1,9 @@
 //! The lists that are members of a document itself.
 
-#![tactic(auto, unfolding(crate::specs::RootTrees::root_members))]
+#![tactic(auto, unfolding(crate::specs::Root::root_members))]
 
 ghost use Rattle.std.specs.Prelude.{refl};
-ghost use Rattle.gltf_root.specs.RootTable.{root_rows};
-ghost use Rattle.gltf_root.specs.RootTrees.{root_members};
+ghost use Rattle.gltf_root.specs.Root.{root_rows, root_members};
 
 use super::Root;
 use super::top_level::TopLevel;

@@ -8,8 +8,7 @@ ghost use Rattle.gltf_schema.specs.Plain.{is_plain};
 ghost use Rattle.gltf_schema.specs.Read.{read};
 ghost use Rattle.gltf_root.specs.Answer.{IsAnswer, IsReadAnswer, IsReading, IsRefusal, answer, byte_limit, call_limit};
 ghost use Rattle.gltf_devices.specs.Device.{IsFresh};
-ghost use Rattle.gltf_root.specs.RootTable.{root_kind};
-ghost use Rattle.gltf_root.specs.RootTrees.{root_tree};
+ghost use Rattle.gltf_root.specs.Root.{root_kind, root_tree};
 
 use super::Root;
 use gltf_devices::{ByteIn, read_to_end};
@@ -22,8 +21,9 @@ const MOST_BYTES: u64 = 1073741824;
 const MOST_CALLS: u64 = 2147483648;
 
 impl Root {
-    /// The document that a JSON value is: `Ok` exactly where the table reads it, as the table reads
-    /// it, else `Schema`; `Memory` may come in place of either where a growth was refused.
+    /// Returns the document that a JSON value is, as the table reads it. Fails with `Schema` if and
+    /// only if the table does not read it; `Memory` may come in place of either if a growth was
+    /// refused.
     pub fn from_value(alloc: Global, value: Value) -> Result<Root, Error>
         ensures by_table { Reads root_tree result (read root_kind (view value)) }
         // What is no object needs no memory to be refused.
@@ -33,8 +33,8 @@ impl Root {
         Root::decode(alloc, value)
     }
 
-    /// The document that bytes of JSON are: `Json` where they are no JSON, else as
-    /// [`Root::from_value`]; `Memory` may come in place of any answer where a growth was refused.
+    /// Returns the document that bytes of JSON are. Fails with `Json` if they are no JSON, else as
+    /// [`Root::from_value`]; `Memory` may come in place of any result if a growth was refused.
     #[tactic(auto, using(crate::proofs::AnswerLemmas::answers))]
     pub fn from_slice(alloc: Global, bytes: &[u8]) -> Result<Root, Error>
         ensures by_bytes { IsAnswer (answer bytes.now) result }

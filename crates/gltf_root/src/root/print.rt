@@ -1,6 +1,6 @@
 //! Documents as values, texts and bytes, and into writers.
 
-ghost use Rattle.std.specs.Prelude.{◌≡◌, ◌≢◌, true, false, Some, IfOk, IfErr, OnOk, Err, string_bytes};
+ghost use Rattle.std.specs.Prelude.{◌≡◌, ◌≢◌, ℕ, List, true, false, Some, IfOk, IfErr, OnOk, Err, string_bytes};
 ghost use Rattle.std.specs.Io.KnownBytes.{Appends};
 ghost use Rattle.serde_json.specs.View.{view};
 ghost use Rattle.gltf_schema.specs.Invalid.{holds_invalid};
@@ -9,9 +9,8 @@ ghost use Rattle.gltf_schema.specs.Plain.{is_plain};
 ghost use Rattle.gltf_schema.specs.Read.{read};
 ghost use Rattle.gltf_schema.specs.Write.{write};
 ghost use Rattle.gltf_devices.specs.Device.{AppendsFront};
-ghost use Rattle.gltf_root.specs.RootTable.{root_kind};
-ghost use Rattle.gltf_root.specs.RootTrees.{root_tree};
-ghost use Rattle.gltf_root.specs.Written.{IsCompact, IsPretty, Prints, IsReadBack, Takes};
+ghost use Rattle.gltf_root.specs.Root.{root_kind, root_tree};
+ghost use Rattle.gltf_root.specs.Written.{IsCompactOf, IsPrettyOf, IsReadBack, IsWithheld};
 
 use super::Root;
 use gltf_devices::{ByteOut, Failed, write_all};
@@ -20,9 +19,9 @@ use serde_json::Value;
 use std::alloc::Global;
 
 impl Root {
-    /// The JSON value that the document is written as. `InvalidItem` comes exactly where an item of
-    /// a choice or the key of an attribute is invalid; `Memory` may come in place of either where a
-    /// growth was refused. Indexes are written whether or not they name anything.
+    /// Returns the JSON value that the document is written as. Fails with `InvalidItem` if and only
+    /// if an item of a choice or the key of an attribute is invalid; `Memory` may come in place of
+    /// either if a growth was refused. Indexes are written whether or not they name anything.
     pub fn to_value(&self, alloc: Global) -> Result<Value, Error>
         ensures by_table { Writes view result (write root_kind (root_tree self.now))
             (holds_invalid (root_tree self.now)) }
@@ -34,21 +33,22 @@ impl Root {
         self.encode(alloc)
     }
 
-    /// The document as JSON in one line, without blanks between its tokens; errors are those of
-    /// [`Root::to_value`]. A plain one reads back where it isn't nested deeper than 127 levels.
+    /// Returns the document as JSON in one line, without blanks between its tokens; errors are
+    /// those of [`Root::to_value`]. A plain one reads back if it isn't nested deeper than 127
+    /// levels.
     pub fn to_vec(&self, alloc: Global) -> Result<Vec<u8>, Error>
-        ensures printed { Prints IsCompact (λ b. b.items) result
-            (write root_kind (root_tree self.now)) (holds_invalid (root_tree self.now)) }
+        ensures printed { IfOk result (λ b. IsCompactOf (root_tree self.now) b.items) }
+        ensures withheld { IfErr result (IsWithheld (root_tree self.now)) }
         ensures reads_back { IfOk result (λ b. IsReadBack (root_tree self.now) b.items) }
     {
         Ok(self.to_value(alloc)?.to_vec(alloc)?)
     }
 
-    /// The document as JSON in lines, two blanks deeper at each level, without a newline at the
-    /// end; errors are those of [`Root::to_value`].
+    /// Returns the document as JSON in lines, two blanks deeper at each level, without a newline at
+    /// the end; errors are those of [`Root::to_value`].
     pub fn to_vec_pretty(&self, alloc: Global) -> Result<Vec<u8>, Error>
-        ensures printed { Prints IsPretty (λ b. b.items) result
-            (write root_kind (root_tree self.now)) (holds_invalid (root_tree self.now)) }
+        ensures printed { IfOk result (λ b. IsPrettyOf (root_tree self.now) b.items) }
+        ensures withheld { IfErr result (IsWithheld (root_tree self.now)) }
         ensures reads_back { IfOk result (λ b. IsReadBack (root_tree self.now) b.items) }
     {
         Ok(self.to_value(alloc)?.to_vec_pretty(alloc)?)
@@ -57,8 +57,8 @@ impl Root {
     /// The text of [`Root::to_vec`].
     #[tactic(auto, using(crate::proofs::AnswerLemmas::texts))]
     pub fn to_string(&self, alloc: Global) -> Result<String, Error>
-        ensures printed { Prints IsCompact string_bytes result
-            (write root_kind (root_tree self.now)) (holds_invalid (root_tree self.now)) }
+        ensures printed { IfOk result (λ s. IsCompactOf (root_tree self.now) (string_bytes s)) }
+        ensures withheld { IfErr result (IsWithheld (root_tree self.now)) }
         ensures reads_back { IfOk result (λ s. IsReadBack (root_tree self.now) (string_bytes s)) }
     {
         Ok(self.to_value(alloc)?.to_string(alloc)?)
@@ -67,21 +67,26 @@ impl Root {
     /// The text of [`Root::to_vec_pretty`].
     #[tactic(auto, using(crate::proofs::AnswerLemmas::texts))]
     pub fn to_string_pretty(&self, alloc: Global) -> Result<String, Error>
-        ensures printed { Prints IsPretty string_bytes result (write root_kind (root_tree self.now))
-            (holds_invalid (root_tree self.now)) }
+        ensures printed { IfOk result (λ s. IsPrettyOf (root_tree self.now) (string_bytes s)) }
+        ensures withheld { IfErr result (IsWithheld (root_tree self.now)) }
         ensures reads_back { IfOk result (λ s. IsReadBack (root_tree self.now) (string_bytes s)) }
     {
         Ok(self.to_value(alloc)?.to_string_pretty(alloc)?)
     }
 
     /// Writes the bytes of [`Root::to_vec`], which are made before the first of them is written.
-    /// `Write` comes where the writer fails, which then has taken a prefix of them. Other errors are
-    /// those of [`Root::to_value`], and after one of them the writer is as it was. Nothing is
-    /// flushed.
+    /// Fails with `Write` if the writer fails, which then has taken a prefix of the bytes. Other
+    /// errors are those of [`Root::to_value`], and after one of them the writer is as it was.
+    /// Nothing is flushed.
     pub fn to_writer<W: ByteOut>(&self, alloc: Global, writer: &mut W) -> Result<(), Error>
-        ensures taken { Takes (λ d bytes. IsCompact d bytes × IsReadBack (root_tree self.now) bytes)
-            (W.taken writer.old) (W.taken writer.new) result
-            (write root_kind (root_tree self.now)) (holds_invalid (root_tree self.now)) }
+        ensures whole { IfOk result (λ _. (bytes : List ℕ)
+            × IsCompactOf (root_tree self.now) bytes × IsReadBack (root_tree self.now) bytes
+            × Appends (W.taken writer.old) (W.taken writer.new) bytes) }
+        ensures front { result ≡ Err Error.Write → (bytes : List ℕ)
+            × IsCompactOf (root_tree self.now) bytes × IsReadBack (root_tree self.now) bytes
+            × AppendsFront (W.taken writer.old) (W.taken writer.new) bytes }
+        ensures withheld { IfErr result (λ e. e ≢ Error.Write
+            → IsWithheld (root_tree self.now) e) }
         ensures works { OnOk result (W.has_failed writer.new ≡ W.has_failed writer.old) }
         ensures breaks { result ≡ Err Error.Write → W.has_failed writer.new ≡ true }
         ensures untouched { IfErr result (λ e. e ≢ Error.Write → writer.new ≡ writer.old) }
@@ -92,9 +97,14 @@ impl Root {
 
     /// Writes the bytes of [`Root::to_vec_pretty`], as [`Root::to_writer`].
     pub fn to_writer_pretty<W: ByteOut>(&self, alloc: Global, writer: &mut W) -> Result<(), Error>
-        ensures taken { Takes (λ d bytes. IsPretty d bytes × IsReadBack (root_tree self.now) bytes)
-            (W.taken writer.old) (W.taken writer.new) result
-            (write root_kind (root_tree self.now)) (holds_invalid (root_tree self.now)) }
+        ensures whole { IfOk result (λ _. (bytes : List ℕ)
+            × IsPrettyOf (root_tree self.now) bytes × IsReadBack (root_tree self.now) bytes
+            × Appends (W.taken writer.old) (W.taken writer.new) bytes) }
+        ensures front { result ≡ Err Error.Write → (bytes : List ℕ)
+            × IsPrettyOf (root_tree self.now) bytes × IsReadBack (root_tree self.now) bytes
+            × AppendsFront (W.taken writer.old) (W.taken writer.new) bytes }
+        ensures withheld { IfErr result (λ e. e ≢ Error.Write
+            → IsWithheld (root_tree self.now) e) }
         ensures works { OnOk result (W.has_failed writer.new ≡ W.has_failed writer.old) }
         ensures breaks { result ≡ Err Error.Write → W.has_failed writer.new ≡ true }
         ensures untouched { IfErr result (λ e. e ≢ Error.Write → writer.new ≡ writer.old) }
@@ -104,7 +114,7 @@ impl Root {
     }
 }
 
-/// Writes bytes, where a writer's failure is the only fault.
+/// Writes bytes. Fails with `Write` if the writer fails, and with nothing else.
 fn write_out<W: ByteOut>(writer: &mut W, bytes: &[u8]) -> Result<(), Error>
     ensures whole { OnOk result (Appends (W.taken writer.old) (W.taken writer.new) bytes.now) }
     ensures front { AppendsFront (W.taken writer.old) (W.taken writer.new) bytes.now }

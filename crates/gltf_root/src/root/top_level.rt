@@ -10,7 +10,7 @@ ghost use Rattle.gltf_schema.specs.Tree.{Tree, object, trees};
 ghost use Rattle.gltf_root.specs.Lending.{lends};
 ghost use Rattle.gltf_root.specs.Lists.{is_there, list_in};
 ghost use Rattle.gltf_root.specs.Pushed.{item_kind, with_list};
-ghost use Rattle.gltf_root.specs.RootTrees.{root_tree};
+ghost use Rattle.gltf_root.specs.Root.{root_tree};
 ghost use Rattle.gltf_root.specs.Undone.{mark_in, undone, without_last_item};
 ghost use Rattle.gltf_root.specs.declared.root.mark.Mark.{Mark};
 ghost use Rattle.gltf_root.specs.declared.root.mark.Mark.TheVariants.{Listed};

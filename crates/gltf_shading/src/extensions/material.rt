@@ -7,8 +7,7 @@ ghost use Rattle.serde_json.specs.View.{members_view};
 ghost use Rattle.gltf_schema.specs.Kind.{no_rows, Number, Numbers};
 ghost use Rattle.gltf_schema.specs.Tree.{end, tree_or_absent};
 ghost use Rattle.gltf_schema.specs.Defaults.{defaults};
-ghost use Rattle.gltf_shading.specs.MaterialExtensionTable.{material_extension_rows, material_extension_sound, material_extension_height, pbr_specular_glossiness_rows, pbr_specular_glossiness_sound, pbr_specular_glossiness_height, transmission_rows, transmission_sound, transmission_height, volume_rows, volume_sound, volume_height, specular_rows, specular_sound, specular_height, ior_rows, ior_sound, ior_height, emissive_strength_rows, emissive_strength_sound, emissive_strength_height};
-ghost use Rattle.gltf_shading.specs.MaterialExtensionTrees.{material_extension_members, pbr_specular_glossiness_members, transmission_members, volume_members, specular_members, ior_members, emissive_strength_members};
+ghost use Rattle.gltf_shading.specs.MaterialExtension.{material_extension_rows, material_extension_sound, material_extension_height, pbr_specular_glossiness_rows, pbr_specular_glossiness_sound, pbr_specular_glossiness_height, transmission_rows, transmission_sound, transmission_height, volume_rows, volume_sound, volume_height, specular_rows, specular_sound, specular_height, ior_rows, ior_sound, ior_height, emissive_strength_rows, emissive_strength_sound, emissive_strength_height, material_extension_members, pbr_specular_glossiness_members, transmission_members, volume_members, specular_members, ior_members, emissive_strength_members};
 ghost use Rattle.gltf_schema.specs.Fields.{real_tree, reals_tree};
 
 use crate::material::StrengthFactor;
@@ -112,7 +111,7 @@ impl Object for Material {
 
 impl Material {
     /// No extension.
-    #[tactic(auto, unfolding(crate::specs::MaterialExtensionTable::material_extension_rows, crate::specs::MaterialExtensionTrees::material_extension_members))]
+    #[tactic(auto, unfolding(crate::specs::MaterialExtension::material_extension_rows, crate::specs::MaterialExtension::material_extension_members))]
     pub fn new(alloc: Global) -> Material
         ensures known { material_extension_members result ≡ defaults material_extension_rows }
         ensures unknown { members_view result.others.entries ≡ no_members }
@@ -227,7 +226,7 @@ impl Object for PbrSpecularGlossiness {
 
 impl PbrSpecularGlossiness {
     /// Parameters with every member at its default.
-    #[tactic(auto, unfolding(crate::specs::MaterialExtensionTable::pbr_specular_glossiness_rows, crate::specs::MaterialExtensionTrees::pbr_specular_glossiness_members))]
+    #[tactic(auto, unfolding(crate::specs::MaterialExtension::pbr_specular_glossiness_rows, crate::specs::MaterialExtension::pbr_specular_glossiness_members))]
     pub fn new(alloc: Global) -> PbrSpecularGlossiness
         ensures known { pbr_specular_glossiness_members result
             ≡ defaults pbr_specular_glossiness_rows }
@@ -245,7 +244,7 @@ impl PbrSpecularGlossiness {
     }
 }
 
-/// The factors of a diffuse color: red, green, blue, alpha; `None` stands for ones.
+/// The factors of a diffuse color: red, green, blue, alpha; `None` means ones.
 #[derive(Clone, Debug, Default, Drop)]
 pub struct PbrDiffuseFactor(pub Option<[Real; 4]>);
 
@@ -255,7 +254,7 @@ impl Tabled for PbrDiffuseFactor {
     ghost tree = { λ factor. tree_or_absent reals_tree factor.0 };
 }
 
-/// The factors of a specular color: red, green, blue; `None` stands for ones.
+/// The factors of a specular color: red, green, blue; `None` means ones.
 #[derive(Clone, Debug, Default, Drop)]
 pub struct PbrSpecularFactor(pub Option<[Real; 3]>);
 
@@ -360,7 +359,7 @@ impl Object for Transmission {
 
 impl Transmission {
     /// A surface through which no light passes.
-    #[tactic(auto, unfolding(crate::specs::MaterialExtensionTable::transmission_rows, crate::specs::MaterialExtensionTrees::transmission_members))]
+    #[tactic(auto, unfolding(crate::specs::MaterialExtension::transmission_rows, crate::specs::MaterialExtension::transmission_members))]
     pub fn new() -> Transmission
         ensures { transmission_members result ≡ defaults transmission_rows }
     {
@@ -372,7 +371,7 @@ impl Transmission {
     }
 }
 
-/// The part of the light that passes, from 0 to 1; `None` stands for 0.
+/// The part of the light that passes, from 0 to 1; `None` means 0.
 #[derive(Clone, Debug, Default, Drop)]
 pub struct TransmissionFactor(pub Option<Real>);
 
@@ -453,7 +452,7 @@ impl Object for Volume {
 
 impl Volume {
     /// A surface without a body.
-    #[tactic(auto, unfolding(crate::specs::MaterialExtensionTable::volume_rows, crate::specs::MaterialExtensionTrees::volume_members))]
+    #[tactic(auto, unfolding(crate::specs::MaterialExtension::volume_rows, crate::specs::MaterialExtension::volume_members))]
     pub fn new() -> Volume
         ensures { volume_members result ≡ defaults volume_rows }
     {
@@ -467,7 +466,7 @@ impl Volume {
     }
 }
 
-/// A thickness, in the units of the mesh; `None` stands for 0, a surface without a body.
+/// A thickness, in the units of the mesh; `None` means 0, a surface without a body.
 #[derive(Clone, Debug, Default, Drop)]
 pub struct ThicknessFactor(pub Option<Real>);
 
@@ -477,7 +476,7 @@ impl Tabled for ThicknessFactor {
     ghost tree = { λ factor. tree_or_absent real_tree factor.0 };
 }
 
-/// A distance, in the units of the scene; `None` stands for one without end.
+/// A distance, in the units of the scene; `None` means one without end.
 #[derive(Clone, Debug, Default, Drop)]
 pub struct AttenuationDistance(pub Option<Real>);
 
@@ -487,7 +486,7 @@ impl Tabled for AttenuationDistance {
     ghost tree = { λ factor. tree_or_absent real_tree factor.0 };
 }
 
-/// A color: red, green, blue; `None` stands for ones.
+/// A color: red, green, blue; `None` means ones.
 #[derive(Clone, Debug, Default, Drop)]
 pub struct AttenuationColor(pub Option<[Real; 3]>);
 
@@ -568,7 +567,7 @@ impl Object for Specular {
 
 impl Specular {
     /// A reflection with every member at its default.
-    #[tactic(auto, unfolding(crate::specs::MaterialExtensionTable::specular_rows, crate::specs::MaterialExtensionTrees::specular_members))]
+    #[tactic(auto, unfolding(crate::specs::MaterialExtension::specular_rows, crate::specs::MaterialExtension::specular_members))]
     pub fn new() -> Specular
         ensures { specular_members result ≡ defaults specular_rows }
     {
@@ -582,7 +581,7 @@ impl Specular {
     }
 }
 
-/// How strong a reflection is, from 0 to 1; `None` stands for 1.
+/// How strong a reflection is, from 0 to 1; `None` means 1.
 #[derive(Clone, Debug, Default, Drop)]
 pub struct SpecularFactor(pub Option<Real>);
 
@@ -592,7 +591,7 @@ impl Tabled for SpecularFactor {
     ghost tree = { λ factor. tree_or_absent real_tree factor.0 };
 }
 
-/// The factors of the color of a reflection: red, green, blue; `None` stands for ones.
+/// The factors of the color of a reflection: red, green, blue; `None` means ones.
 #[derive(Clone, Debug, Default, Drop)]
 pub struct SpecularColorFactor(pub Option<[Real; 3]>);
 
@@ -645,7 +644,7 @@ impl Object for Ior {
 
 impl Ior {
     /// The default index of refraction.
-    #[tactic(auto, unfolding(crate::specs::MaterialExtensionTable::ior_rows, crate::specs::MaterialExtensionTrees::ior_members))]
+    #[tactic(auto, unfolding(crate::specs::MaterialExtension::ior_rows, crate::specs::MaterialExtension::ior_members))]
     pub fn new() -> Ior
         ensures { ior_members result ≡ defaults ior_rows }
     {
@@ -656,7 +655,7 @@ impl Ior {
     }
 }
 
-/// An index of refraction; `None` stands for 1.5.
+/// An index of refraction; `None` means 1.5.
 #[derive(Clone, Debug, Default, Drop)]
 pub struct IndexOfRefraction(pub Option<Real>);
 
@@ -705,7 +704,7 @@ impl Object for EmissiveStrength {
 
 impl EmissiveStrength {
     /// The default strength.
-    #[tactic(auto, unfolding(crate::specs::MaterialExtensionTable::emissive_strength_rows, crate::specs::MaterialExtensionTrees::emissive_strength_members))]
+    #[tactic(auto, unfolding(crate::specs::MaterialExtension::emissive_strength_rows, crate::specs::MaterialExtension::emissive_strength_members))]
     pub fn new() -> EmissiveStrength
         ensures { emissive_strength_members result ≡ defaults emissive_strength_rows }
     {
@@ -715,7 +714,7 @@ impl EmissiveStrength {
     }
 }
 
-/// The factor of an emitted light; `None` stands for 1.
+/// The factor of an emitted light; `None` means 1.
 #[derive(Clone, Debug, Default, Drop)]
 pub struct EmissiveStrengthFactor(pub Option<Real>);
 

@@ -5,8 +5,7 @@ ghost use Rattle.std.proofs.Common.{lit≤};
 ghost use Rattle.serde_json.specs.Data.{no_members};
 ghost use Rattle.serde_json.specs.View.{members_view};
 ghost use Rattle.gltf_schema.specs.Defaults.{defaults};
-ghost use Rattle.gltf_textures.specs.TextureTable.{info_extension_rows, info_extension_sound, info_extension_height, texture_transform_rows, texture_transform_sound, texture_transform_height};
-ghost use Rattle.gltf_textures.specs.TextureTrees.{info_extension_members, texture_transform_members};
+ghost use Rattle.gltf_textures.specs.Texture.{info_extension_rows, info_extension_sound, info_extension_height, texture_transform_rows, texture_transform_sound, texture_transform_height, info_extension_members, texture_transform_members};
 ghost use Rattle.gltf_schema.specs.Fields.{real_tree, reals_tree};
 ghost use Rattle.gltf_schema.specs.Kind.{Number, Numbers};
 ghost use Rattle.gltf_schema.specs.Tree.{tree_or_absent};
@@ -66,7 +65,7 @@ impl Object for Info {
 
 impl Info {
     /// No extension.
-    #[tactic(auto, unfolding(crate::specs::TextureTable::info_extension_rows, crate::specs::TextureTrees::info_extension_members))]
+    #[tactic(auto, unfolding(crate::specs::Texture::info_extension_rows, crate::specs::Texture::info_extension_members))]
     pub fn new(alloc: Global) -> Info
         ensures known { info_extension_members result ≡ defaults info_extension_rows }
         ensures unknown { members_view result.others.entries ≡ no_members }
@@ -79,7 +78,7 @@ impl Info {
 }
 
 /// How texture coordinates are changed before they are used: scaled, then turned, then moved.
-// What takes longest to drop stands last (docs/DECISIONS.md).
+// What takes longest to drop comes last (docs/DECISIONS.md).
 #[derive(Clone, Debug, Drop)]
 pub struct TextureTransform {
     /// Which set of texture coordinates is used in place of the one that the reference names.
@@ -134,7 +133,7 @@ impl Object for TextureTransform {
 
 impl TextureTransform {
     /// The transform that changes nothing.
-    #[tactic(auto, unfolding(crate::specs::TextureTable::texture_transform_rows, crate::specs::TextureTrees::texture_transform_members))]
+    #[tactic(auto, unfolding(crate::specs::Texture::texture_transform_rows, crate::specs::Texture::texture_transform_members))]
     pub fn new() -> TextureTransform
         ensures { texture_transform_members result ≡ defaults texture_transform_rows }
     {
@@ -148,7 +147,7 @@ impl TextureTransform {
     }
 }
 
-/// How far the origin is moved, in widths and heights of the texture; `None` stands for zeros.
+/// How far the origin is moved, in widths and heights of the texture; `None` means zeros.
 #[derive(Clone, Debug, Default, Drop)]
 pub struct TextureTransformOffset(pub Option<[Real; 2]>);
 
@@ -159,7 +158,7 @@ impl Tabled for TextureTransformOffset {
 }
 
 /// The angle by which the coordinates are turned round the origin, in radians, counter-clockwise;
-/// `None` stands for 0.
+/// `None` means 0.
 #[derive(Clone, Debug, Default, Drop)]
 pub struct TextureTransformRotation(pub Option<Real>);
 
@@ -169,7 +168,7 @@ impl Tabled for TextureTransformRotation {
     ghost tree = { λ factor. tree_or_absent real_tree factor.0 };
 }
 
-/// The factors by which the coordinates are scaled; `None` stands for ones.
+/// The factors by which the coordinates are scaled; `None` means ones.
 #[derive(Clone, Debug, Default, Drop)]
 pub struct TextureTransformScale(pub Option<[Real; 2]>);
 

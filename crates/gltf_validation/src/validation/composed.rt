@@ -10,7 +10,7 @@ ghost use Rattle.gltf_validation.specs.ByType.{option_reports, list_reports, lis
 use super::Validate;
 use super::within::within;
 use gltf_base::{Step, Steps};
-use gltf_faults::{Against, Context, Rules};
+use gltf_faults::{Context, HasContext, Rules};
 use gltf_root::root::Root;
 use gltf_sinks::{Sink, Stop};
 
@@ -60,7 +60,7 @@ impl<T: Validate> Validate for Vec<T> {
 }
 
 /// Validates each item of a list, at its number.
-fn each_item<'a, T: Validate, C: Against, S: Sink>(
+fn each_item<'a, T: Validate, C: HasContext, S: Sink>(
     items: &'a Vec<T>,
     context: &C,
     path: &mut Steps<'a>,

@@ -8,7 +8,7 @@ ghost use Rattle.gltf_validation.specs.ByType.{reports_in, each_entry};
 use super::Validate;
 use super::within::within;
 use gltf_base::{KeyStep, Steps};
-use gltf_faults::{Against, Context, Rules};
+use gltf_faults::{Context, HasContext, Rules};
 use gltf_root::root::Root;
 use gltf_sinks::{Sink, Stop};
 use std::collections::BTreeMap;
@@ -33,7 +33,7 @@ impl<K: KeyStep + Validate + Ord, V: Validate> Validate for BTreeMap<K, V> {
 }
 
 /// Validates the entries of a map in the order of the keys.
-fn entries_of<'a, K: KeyStep + Validate + Ord, V: Validate, C: Against, S: Sink>(
+fn entries_of<'a, K: KeyStep + Validate + Ord, V: Validate, C: HasContext, S: Sink>(
     map: &'a BTreeMap<K, V>,
     context: &C,
     path: &mut Steps<'a>,
@@ -51,7 +51,7 @@ fn entries_of<'a, K: KeyStep + Validate + Ord, V: Validate, C: Against, S: Sink>
 }
 
 /// Validates the key and the value of one entry.
-fn entry<'a, K: KeyStep + Validate, V: Validate, C: Against, S: Sink>(
+fn entry<'a, K: KeyStep + Validate, V: Validate, C: HasContext, S: Sink>(
     named: &'a K,
     value: &'a V,
     context: &C,

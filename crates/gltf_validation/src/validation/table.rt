@@ -1,12 +1,13 @@
-//! The types that the table knows.
+//! The types of the table.
 
 ghost use Rattle.std.specs.Prelude.{◌≡◌, ◌≤◌, ◌+◌, ℕ, Some};
+ghost use Rattle.std.proofs.Common.{ap, ◌∙◌};
 ghost use Rattle.gltf_schema.proofs.Heights.{at_most};
 ghost use Rattle.gltf_schema.specs.Height.{kind_height};
 ghost use Rattle.gltf_schema.specs.Kind.{Object as object_kind};
 ghost use Rattle.gltf_schema.specs.Tree.{object};
 ghost use Rattle.gltf_sinks.specs.Handed.{HandedOver};
-ghost use Rattle.gltf_walk.specs.ToCome.{base_count, depth_of_descent, left_of_descent};
+ghost use Rattle.gltf_walk.specs.ToCome.{base_count, depth_in, to_come_in};
 
 use super::Validate;
 use gltf_base::Steps;
@@ -14,42 +15,33 @@ use gltf_faults::Rules;
 use gltf_root::root::Root;
 use gltf_schema::Object;
 use gltf_sinks::{Sink, Stop};
-use gltf_visits::Visited;
-use gltf_walk::{Descent, StepsFull};
+use gltf_visits::Visitable;
+use gltf_walk::{StepsFull, ValueWalk};
 
 mod leaves;
 mod objects;
 
-/// A type that the table has by itself, and not as an option or a list: a walk goes through it.
-pub trait InTable: Visited {
-    /// A bound on the steps from a value's place to what its walk visits.
+/// A type that the table has by itself, not as an option or a list: a walk goes through it.
+pub trait InTable: Visitable {
+    /// A bound on the number of steps from a value to the deepest place of its walk.
     ghost depth: { ℕ } = { 0 };
 
     // It is one, and no value is deeper than a path is long.
     ghost shallow: { (kind_height Self.kind ≤ depth) × (depth ≤ 10) };
 }
 
-/// An object of the table that is validated by itself: `InTable` follows. What validation takes it
-/// for is what it is read and written as.
-pub trait TableObject: Object + Visited {
-    /// The steps from the object to the deepest place at which something can be wrong.
-    ghost height: { ℕ };
-
+/// An object of the table that is validated by itself: `InTable` follows. It has the same kind and
+/// the same tree in validation as in reading and writing.
+pub trait TableObject: Object + Visitable {
     ghost same_kind: { Self.kind ≡ object_kind Self.rule Self.rows Self.keeps };
 
     ghost same_tree: { (x : Self) → Self.tree x ≡ object (Self.members x) (Self.unknown x) };
-
-    // It is so by its rows, and a path has room for it below any six steps.
-    ghost low: { (kind_height Self.kind ≡ height) × (height ≤ 10) };
 }
 
 impl<T: TableObject> InTable for T {
-    ghost depth = { T.TableObject.height };
+    ghost depth = { T.height };
 
-    ghost shallow = { (
-      at_most T.kind T.TableObject.height T.TableObject.low.0,
-      T.TableObject.low.1,
-    ) };
+    ghost shallow = { (at_most T.kind T.height (ap kind_height T.same_kind ∙ T.low.0), T.low.1) };
 }
 
 impl<T: InTable> Validate for T {
@@ -68,15 +60,15 @@ impl<T: InTable> Validate for T {
         path: &mut Steps<'a>,
         sink: &mut S,
     ) -> Result<(), Stop<S::Refusal>> {
-        hand_over(&mut Descent::new(*rules, self, root, path), sink)
+        hand_over(&mut ValueWalk::new(*rules, self, root, path), sink)
     }
 }
 
-/// Hands the reports that a walk has left to a sink. It stops with `StepsFull` where a path has no
-/// room for one more step, and with `Sink` where the sink refuses.
-fn hand_over<S: Sink>(walk: &mut Descent<'_>, sink: &mut S) -> Result<(), Stop<S::Refusal>>
-    ensures { HandedOver S.next S.refuses (S.state sink.old) (left_of_descent walk.old)
-        (base_count walk.old + depth_of_descent walk.old) result (S.state sink.new) }
+/// Hands the reports that a walk has to come to a sink. Fails with `StepsFull` if a path has no
+/// room for one more step, and with `Sink` if the sink refuses.
+fn hand_over<S: Sink>(walk: &mut ValueWalk<'_>, sink: &mut S) -> Result<(), Stop<S::Refusal>>
+    ensures { HandedOver S.next S.refuses (S.state sink.old) (to_come_in walk.old)
+        (base_count walk.old + depth_in walk.old) result (S.state sink.new) }
 {
     loop {
         match walk.next_report() {

@@ -1,4 +1,4 @@
-//! What stands one step further.
+//! A value one step further.
 
 ghost use Rattle.std.specs.Prelude.{◌≡◌, ◌+◌, ◌++◌, ◌∷◌, []};
 ghost use Rattle.gltf_paths.specs.Steps.{step_of};
@@ -7,11 +7,11 @@ ghost use Rattle.gltf_validation.specs.ByType.{reports_by};
 
 use super::Validate;
 use gltf_base::{Step, Steps};
-use gltf_faults::Against;
+use gltf_faults::HasContext;
 use gltf_sinks::{Sink, Stop};
 
-/// Validates what stands one step further.
-pub(crate) fn within<'a, T: Validate, C: Against, S: Sink>(
+/// Validates a value one step further.
+pub(crate) fn within<'a, T: Validate, C: HasContext, S: Sink>(
     value: &'a T,
     step: Step<'a>,
     context: &C,

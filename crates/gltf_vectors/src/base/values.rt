@@ -83,53 +83,23 @@ fn paths_are_compared_and_made_of_steps(rt: HostRuntime) -> Result<(), Fail> {
     Ok(())
 }
 
-/// The name of an attribute, and how its key is printed and debugged.
-type Named = (&'static str, &'static str);
-
-const NAMED: [Named; 24] = [
-    ("POSITION", "POSITION Valid(Positions)"),
-    ("NORMAL", "NORMAL Valid(Normals)"),
-    ("TANGENT", "TANGENT Valid(Tangents)"),
-    (
-        "COLOR_4294967295",
-        "COLOR_4294967295 Valid(Colors(4294967295))",
-    ),
-    ("TEXCOORD_007", "TEXCOORD_7 Valid(TexCoords(7))"),
-    ("JOINTS_+0", "JOINTS_0 Valid(Joints(0))"),
-    ("WEIGHTS_10", "WEIGHTS_10 Valid(Weights(10))"),
-    ("_", "_ Valid(Extras(\"\"))"),
-    ("_POSITION", "_POSITION Valid(Extras(\"POSITION\"))"),
-    ("__+", "__+ Valid(Extras(\"_+\"))"),
-    ("", NO_NAME),
-    ("position", NO_NAME),
-    ("POSITIONS", NO_NAME),
-    ("COLOR", NO_NAME),
-    ("COLOR_", NO_NAME),
-    ("COLOR_1a", NO_NAME),
-    ("COLOR_4294967296", NO_NAME),
-    ("JOINTS_++0", NO_NAME),
-    ("JOINTS_-0", NO_NAME),
-    ("TEXCOORD_ 1", NO_NAME),
-    ("WEIGHTS_+", NO_NAME),
-    ("JOINTS_0x1", NO_NAME),
-    ("COLOR_1.0", NO_NAME),
-    ("TEXCOORD", NO_NAME),
-];
-
-const NO_NAME: &str = "<invalid semantic name> Invalid";
-
-/// Whether the name of an attribute is read as the key that is shown so.
-fn is_named(alloc: Global, (name, shown): &Named) -> Result<bool, AllocError> {
+/// How the key of an attribute's name is printed and debugged.
+fn key_shown(alloc: Global, name: &str) -> Result<String, AllocError> {
     let key = Semantic::checked(alloc, name)?;
     let written = key.to_string(alloc)?;
-    Ok(format!(in alloc; "{written} {key:?}")?.as_str() == *shown)
+    format!(in alloc; "{written} {key:?}")
 }
 
+// What more names mean is shown by documents of `gltf_corpus`.
 #[test]
 fn names_of_attributes_are_read(rt: HostRuntime) -> Result<(), Fail> {
-    for named in NAMED.iter() {
-        assert!(rt; is_named(rt.alloc(), named)?, "{}", named.0);
-    }
+    assert!(rt; shows(key_shown(rt.alloc(), "__+"), "__+ Valid(Extras(\"_+\"))")?);
+    assert!(rt;
+        shows(
+            key_shown(rt.alloc(), "WEIGHTS_+"),
+            "<invalid semantic name> Invalid"
+        )?
+    );
     Ok(())
 }
 
@@ -169,32 +139,35 @@ fn keys_and_sizes_are_values(rt: HostRuntime) -> Result<(), Fail> {
     Ok(())
 }
 
-/// The faults in their order, with their texts.
-const FAULTS: [(Error, &str); 5] = [
-    (Error::IndexOutOfBounds, "Index out of bounds"),
-    (Error::Invalid, "Invalid value"),
-    (Error::Missing, "Missing data"),
-    (Error::Oversize, "Size exceeds system limits"),
-    (Error::Unsupported, "Unsupported extension"),
-];
+/// The texts of the faults, in their order.
+fn faults_shown(alloc: Global) -> Result<String, AllocError> {
+    format!(in alloc;
+        "{}, {}, {}, {}, {}",
+        Error::IndexOutOfBounds,
+        Error::Invalid,
+        Error::Missing,
+        Error::Oversize,
+        Error::Unsupported
+    )
+}
 
-/// Whether a fault has its text, and stands behind the one before.
-fn is_next(
-    alloc: Global,
-    before: Option<Error>,
-    fault: &(Error, &str),
-) -> Result<bool, AllocError> {
-    let error = fault.0;
-    Ok(before < Some(error) && format!(in alloc; "{error}")?.as_str() == fault.1)
+/// Whether each fault is before the next one.
+fn are_faults_ordered() -> bool {
+    Error::IndexOutOfBounds < Error::Invalid
+        && Error::Invalid < Error::Missing
+        && Error::Missing < Error::Oversize
+        && Error::Oversize < Error::Unsupported
 }
 
 #[test]
 fn faults_have_texts_and_an_order(rt: HostRuntime) -> Result<(), Fail> {
-    let mut before = None;
-    for fault in FAULTS.iter() {
-        assert!(rt; is_next(rt.alloc(), before, fault)?, "{}", fault.1);
-        before = Some(fault.0);
-    }
+    assert!(rt; are_faults_ordered());
+    assert!(rt;
+        shows(
+            faults_shown(rt.alloc()),
+            "Index out of bounds, Invalid value, Missing data, Size exceeds system limits, Unsupported extension"
+        )?
+    );
     Ok(())
 }
 

@@ -8,12 +8,7 @@ use gltf_json::buffer::View;
 use gltf_json::extensions::scene::khr_lights_punctual::Light;
 use gltf_json::extensions::scene::khr_materials_variants::Variant;
 use gltf_json::root::Get;
-use gltf_json::texture::Sampler;
-use gltf_json::validation::USize64;
-use gltf_json::{
-    Accessor, Animation, Buffer, Camera, Error, Image, Index, Material, Mesh, Node, Root, Scene,
-    Schema, Skin, Texture,
-};
+use gltf_json::{Error, Index, Node, Root, Schema};
 use std::alloc::Global;
 use std::fmt::Debug;
 use std::test::Fail;
@@ -56,47 +51,36 @@ where
     Some(list.len())
 }
 
-/// Whether items that are pushed onto a new document are the first and the second of their list.
-fn are_in_order<T: Schema + Debug>(alloc: Global, item: &str) -> Result<bool, Fail>
+/// Whether an item that is read and pushed gets this number.
+fn is_pushed_as<T: Schema + Debug>(
+    alloc: Global,
+    root: &mut Root,
+    item: &str,
+    number: usize,
+) -> Result<bool, Fail>
 where
     Root: Get<T>,
 {
-    let mut root = Root::new(alloc)?;
-    let first = push_read::<T>(alloc, &mut root, item)?;
-    let is_alone = has_one::<T>(&root);
-    let second = push_read::<T>(alloc, &mut root, item)?;
-    Ok(
-        is_alone
-            && first == Index::new(0)
-            && second == Index::new(1)
-            && Get::<T>::list(&root).len() == 2,
-    )
+    Ok(push_read::<T>(alloc, root, item)?.value() == number)
 }
 
-/// For each type that is listed, whether items of it are pushed in order.
-fn are_all_in_order(alloc: Global) -> Result<[bool; 15], Fail> {
+/// Whether items that a document itself lists, and those that its extension objects list, are
+/// pushed in order. Items of each type are pushed in `clean`.
+fn are_in_order(alloc: Global, root: &mut Root) -> Result<[bool; 6], Fail> {
     Ok([
-        are_in_order::<Accessor>(alloc, r#"{"count":1,"componentType":5126,"type":"SCALAR"}"#)?,
-        are_in_order::<Animation>(alloc, "{}")?,
-        are_in_order::<Buffer>(alloc, "{}")?,
-        are_in_order::<View>(alloc, VIEW)?,
-        are_in_order::<Camera>(alloc, r#"{"type":"perspective"}"#)?,
-        are_in_order::<Image>(alloc, "{}")?,
-        are_in_order::<Material>(alloc, "{}")?,
-        are_in_order::<Mesh>(alloc, r#"{"primitives":[]}"#)?,
-        are_in_order::<Node>(alloc, "{}")?,
-        are_in_order::<Sampler>(alloc, "{}")?,
-        are_in_order::<Scene>(alloc, "{}")?,
-        are_in_order::<Skin>(alloc, "{}")?,
-        are_in_order::<Texture>(alloc, "{}")?,
-        are_in_order::<Light>(alloc, POINT)?,
-        are_in_order::<Variant>(alloc, r#"{"name":"a"}"#)?,
+        is_pushed_as::<View>(alloc, root, VIEW, 0)?,
+        is_pushed_as::<View>(alloc, root, VIEW, 1)?,
+        is_pushed_as::<Light>(alloc, root, POINT, 0)?,
+        is_pushed_as::<Light>(alloc, root, POINT, 1)?,
+        is_pushed_as::<Variant>(alloc, root, r#"{"name":"a"}"#, 0)?,
+        is_pushed_as::<Variant>(alloc, root, r#"{"name":"a"}"#, 1)?,
     ])
 }
 
 #[test]
 fn items_are_pushed_in_order(rt: HostRuntime) -> Result<(), Fail> {
-    assert_eq!(rt; are_all_in_order(rt.alloc())?, [true; 15]);
+    let mut root = Root::new(rt.alloc())?;
+    assert_eq!(rt; are_in_order(rt.alloc(), &mut root)?, [true; 6]);
     Ok(())
 }
 

@@ -7,7 +7,7 @@ use crate::writing::is_line;
 use gltf_json::extensions::scene::khr_lights_punctual::Light;
 use gltf_json::extensions::scene::khr_materials_variants::Variant;
 use gltf_json::root::{Get, Mark};
-use gltf_json::{Buffer, Node, Root, Schema, Value};
+use gltf_json::{Buffer, Root, Schema, Value};
 use std::alloc::Global;
 use std::fmt::Debug;
 use std::test::Fail;
@@ -15,8 +15,6 @@ use std::test::Fail;
 /// A document whose extension objects list nothing.
 const EMPTY_LISTS: &str =
     r#"{"asset":{"version":"2.0"},"extensions":{"KHR_lights_punctual":{"lights":[]},"KHR_materials_variants":{"variants":[]}}}"#;
-
-const VARIANT: &str = r#"{"name":"a"}"#;
 
 /// Whether an object is written as this text.
 fn is_object<T: Schema>(alloc: Global, object: &T, text: &str) -> Result<bool, Fail> {
@@ -45,22 +43,18 @@ where
 }
 
 /// Whether lights and variants go with what was made for them, and other items alone.
-fn are_taken_back(alloc: Global) -> Result<[bool; 8], Fail> {
+fn are_taken_back(alloc: Global) -> Result<[bool; 4], Fail> {
     Ok([
         is_taken_back::<Light>(alloc, NEW, Mark::NoExtensions, POINT)?,
-        is_taken_back::<Light>(alloc, NO_EXTENSIONS, Mark::NoObject, POINT)?,
         is_taken_back::<Light>(alloc, EMPTY_LISTS, Mark::Listed, POINT)?,
-        is_taken_back::<Variant>(alloc, NEW, Mark::NoExtensions, VARIANT)?,
-        is_taken_back::<Variant>(alloc, NO_EXTENSIONS, Mark::NoObject, VARIANT)?,
-        is_taken_back::<Variant>(alloc, EMPTY_LISTS, Mark::Listed, VARIANT)?,
+        is_taken_back::<Variant>(alloc, NO_EXTENSIONS, Mark::NoObject, r#"{"name":"a"}"#)?,
         is_taken_back::<Buffer>(alloc, NEW, Mark::Listed, r#"{"byteLength":4}"#)?,
-        is_taken_back::<Node>(alloc, EMPTY_LISTS, Mark::Listed, r#"{"name":"a"}"#)?,
     ])
 }
 
 #[test]
 fn items_go_with_what_was_made_for_them(rt: HostRuntime) -> Result<(), Fail> {
-    assert_eq!(rt; are_taken_back(rt.alloc())?, [true; 8]);
+    assert_eq!(rt; are_taken_back(rt.alloc())?, [true; 4]);
     Ok(())
 }
 
@@ -75,16 +69,15 @@ where
 }
 
 /// Whether nothing goes from empty lists.
-fn are_left_alone(alloc: Global) -> Result<[bool; 3], Fail> {
+fn are_left_alone(alloc: Global) -> Result<[bool; 2], Fail> {
     Ok([
         is_left_alone::<Buffer>(alloc, NEW, Mark::Listed)?,
-        is_left_alone::<Light>(alloc, NEW, Mark::NoExtensions)?,
         is_left_alone::<Light>(alloc, EMPTY_LISTS, Mark::NoObject)?,
     ])
 }
 
 #[test]
 fn nothing_goes_from_an_empty_list(rt: HostRuntime) -> Result<(), Fail> {
-    assert_eq!(rt; are_left_alone(rt.alloc())?, [true; 3]);
+    assert_eq!(rt; are_left_alone(rt.alloc())?, [true; 2]);
     Ok(())
 }

@@ -1,85 +1,69 @@
-//! Documents that are read in every way. Many more are answered by `gltf_corpus`.
+//! Documents that are read in every way. Runs over documents are in `gltf_corpus`.
 
-use super::run_over;
 use crate::documents::{NEW, SIX, SIX_LINES, has_lines};
-use crate::reading::{Way, read_by};
+use crate::reading::{WAYS, Way, read_by};
+use crate::shown::shows;
 use gltf_json::root::Watched;
 use gltf_json::{Error, Root, Value};
-use std::alloc::Global;
+use std::alloc::{AllocError, Global};
 use std::test::Fail;
 
-/// A document, the status of its run, and the text.
-type Case = (&'static str, u8, &'static str);
-
-const CASES: [Case; 5] = [
-    ("", 2, "refused: not JSON\n"),
-    ("{}", 3, "refused: not a glTF document\n"),
-    (r#"{"asset":{"version":"2.0"}"#, 2, "refused: not JSON\n"),
-    (NEW, 0, "clean\n"),
-    (SIX, 1, SIX_LINES),
-];
-
-/// The status that a run answers for a reading, if it has no fault, else that of the fault.
-fn status_without_reports(reading: &Result<Root, Error>) -> u8 {
-    match reading {
-        Ok(_) => 0,
-        Err(Error::Json) => 2,
-        Err(Error::Schema) => 3,
-        Err(_) => 4,
-    }
-}
-
-/// Whether a run over a document writes its text and answers its status.
-fn is_written(alloc: Global, (document, status, text): &Case) -> bool {
-    let (written, answered) = run_over(alloc, document);
-    answered == *status && written.as_slice() == text.as_bytes()
-}
-
-/// Whether a reader gives what a run that answers this status reads.
-fn is_read(alloc: Global, document: &str, expected: u8) -> bool {
-    let mut reader = Watched::new(document.as_bytes());
-    let read = Root::from_reader(alloc, &mut reader);
-    status_without_reports(&read) == expected && !reader.failed()
-}
-
-/// Whether a document is read, or refused, as its status says.
-fn is_answered(alloc: Global, (document, status, _): &Case) -> bool {
-    let expected = if *status == 1 { 0 } else { *status };
-    status_without_reports(&read_by(alloc, Way::Bytes, document)) == expected
-        && status_without_reports(&read_by(alloc, Way::Text, document)) == expected
-        && is_read(alloc, document, expected)
-}
-
-/// Whether a document's reports, collected, are the lines that are written; a document that is
-/// refused has none.
-fn is_collected(alloc: Global, way: Way, (document, status, text): &Case) -> bool {
-    match (read_by(alloc, way, document), status) {
-        (Ok(root), 0) => has_lines(alloc, &root, ""),
-        (Ok(root), 1) => has_lines(alloc, &root, text),
-        (Ok(_), _) => false,
-        (Err(_), status) => *status > 1,
-    }
-}
-
-/// Whether all of this holds of a document.
-fn is_told(alloc: Global, case: &Case) -> bool {
-    is_written(alloc, case)
-        && is_answered(alloc, case)
-        && is_collected(alloc, Way::Bytes, case)
-        && is_collected(alloc, Way::Text, case)
+/// Whether the reports of the document of six, collected and one at a time, are the lines that a
+/// run writes.
+fn are_six(alloc: Global, way: Way) -> Result<bool, Error> {
+    let root = read_by(alloc, way, SIX)?;
+    Ok(has_lines(alloc, &root, SIX_LINES))
 }
 
 #[test]
-fn documents_are_read_in_every_way(rt: HostRuntime) {
-    for case in CASES.iter() {
-        assert!(rt; is_told(rt.alloc(), case), "{}", case.0);
+fn six_are_reported_however_they_are_read(rt: HostRuntime) -> Result<(), Fail> {
+    for way in WAYS.iter() {
+        assert!(rt; are_six(rt.alloc(), *way)?);
     }
+    Ok(())
 }
 
-/// Whether a value is read as a document, or refused as none.
+/// Whether a document that a reader gives has no reports, collected and one at a time.
+fn is_new_clean(alloc: Global) -> Result<bool, Error> {
+    let mut reader = Watched::new(NEW.as_bytes());
+    let root = Root::from_reader(alloc, &mut reader)?;
+    Ok(has_lines(alloc, &root, "") && !reader.failed())
+}
+
+#[test]
+fn new_documents_are_clean(rt: HostRuntime) -> Result<(), Fail> {
+    assert!(rt; is_new_clean(rt.alloc())?);
+    Ok(())
+}
+
+/// Why a text that is no document is refused as bytes, as a text, and from a reader.
+fn refusals(alloc: Global, text: &str) -> Result<String, AllocError> {
+    let as_bytes = read_by(alloc, Way::Bytes, text).err();
+    let as_text = read_by(alloc, Way::Text, text).err();
+    let from_reader = Root::from_reader(alloc, &mut Watched::new(text.as_bytes())).err();
+    format!(in alloc; "{as_bytes:?} {as_text:?} {from_reader:?}")
+}
+
+#[test]
+fn texts_are_refused_in_every_way(rt: HostRuntime) -> Result<(), Fail> {
+    let (no_json, no_document) = (
+        "Some(Json) Some(Json) Some(Json)",
+        "Some(Schema) Some(Schema) Some(Schema)",
+    );
+    assert!(rt; shows(refusals(rt.alloc(), ""), no_json)?);
+    assert!(rt;
+        shows(
+            refusals(rt.alloc(), r#"{"asset":{"version":"2.0"}"#),
+            no_json
+        )?
+    );
+    assert!(rt; shows(refusals(rt.alloc(), "{}"), no_document)?);
+    Ok(())
+}
+
+/// Whether a value is read as a document.
 fn is_document(alloc: Global, text: &str) -> Result<bool, Fail> {
-    let reading = Root::from_value(alloc, Value::from_str(alloc, text)?);
-    Ok(status_without_reports(&reading) == 0)
+    Ok(Root::from_value(alloc, Value::from_str(alloc, text)?).is_ok())
 }
 
 #[test]

@@ -100,19 +100,24 @@ fn interrupted_writers_fail_at_once(rt: HostRuntime) -> Result<(), Fail> {
     Ok(())
 }
 
-/// Whether two documents that are written into one writer stand there one behind the other.
-fn is_appended(alloc: Global) -> Result<bool, Error> {
+/// What a writer takes if a new document is written into it twice.
+fn written_twice(alloc: Global) -> Result<Vec<u8>, Error> {
     let root = Root::new(alloc)?;
     let mut writer = Watched::new(Vec::new(alloc));
     root.to_writer(alloc, &mut writer)?;
     root.to_writer_pretty(alloc, &mut writer)?;
-    let taken = writer.into_inner();
-    Ok(taken.strip_prefix(NEW.as_bytes()) == Some(NEW_IN_LINES.as_bytes()))
+    Ok(writer.into_inner())
+}
+
+/// Whether bytes are two texts, one behind the other.
+fn are_both(bytes: &[u8], first: &str, second: &str) -> bool {
+    bytes.strip_prefix(first.as_bytes()) == Some(second.as_bytes())
 }
 
 #[test]
 fn documents_are_appended(rt: HostRuntime) -> Result<(), Fail> {
-    assert!(rt; is_appended(rt.alloc())?);
+    let taken = written_twice(rt.alloc())?;
+    assert!(rt; are_both(taken.as_slice(), NEW, NEW_IN_LINES));
     Ok(())
 }
 

@@ -1,6 +1,6 @@
 -- The sink refuses the first report, and was asked to take none where it took all.
 use Rattle.gltf_sinks.specs.Report.{From}
-use Rattle.gltf_root.specs.RootTrees.{root_tree}
+use Rattle.gltf_root.specs.Root.{root_tree}
 use Rattle.gltf_faults.specs.Context.{rules_of, under}
 use Rattle.gltf_validation.specs.ByType.{reports_by}
 use Rattle.gltf_clean.proofs.Sinking.{told_none, told_first}

@@ -1,6 +1,6 @@
 -- The list that a document holds is the list of its tree.
 use Rattle.std.proofs.Common.{◌∙◌, ap, sym, slice_get}
-use Rattle.gltf_root.specs.RootTrees.{root_tree}
+use Rattle.gltf_root.specs.Root.{root_tree}
 use Rattle.gltf_faults.proofs.Resolving.{count_in-items, index_there, index_past}
 use Rattle.gltf_faults.proofs.indexes.index_fault.Goals as goal
 

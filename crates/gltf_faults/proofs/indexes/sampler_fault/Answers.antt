@@ -2,8 +2,7 @@
 use Rattle.std.proofs.Common.{◌≡◌, length, sym}
 use Rattle.gltf_schema.specs.Fields.{closed_object}
 use Rattle.gltf_animations.specs.declared.animation.Animation.{Animation}
-use Rattle.gltf_animations.specs.AnimationTable.{animation_rows}
-use Rattle.gltf_animations.specs.AnimationTrees.{animation_members, animation_sampler_members}
+use Rattle.gltf_animations.specs.Animation.{animation_rows, animation_members, animation_sampler_members}
 use Rattle.gltf_root.specs.Lists.{sampler_count}
 use Rattle.gltf_faults.proofs.Resolving.{count_of-trees, index_there, index_past}
 use Rattle.gltf_faults.proofs.indexes.sampler_fault.Goals as goal

@@ -2,8 +2,7 @@ use Rattle.std.proofs.Common.{[]}
 use Rattle.gltf_schema.specs.Tree.{absent}
 use Rattle.gltf_faults.specs.Context.{under}
 use Rattle.gltf_faults.specs.Reports.{document_reports}
-use Rattle.gltf_root.specs.RootTable.{root_kind}
-use Rattle.gltf_root.specs.RootTrees.{root_tree}
+use Rattle.gltf_root.specs.Root.{root_kind, root_tree}
 use Rattle.gltf_faults.proofs.CleanIsClosed.{clean_is_closed}
 use Rattle.gltf_sinks.proofs.Counting.{none_counted}
 use Rattle.gltf_faults.proofs.laws.clean_documents_are_closed.Goals as goal

@@ -1,6 +1,6 @@
 use Rattle.gltf_schema.specs.Tree.{absent}
 use Rattle.gltf_root.specs.Pushed.{pushed}
-use Rattle.gltf_root.specs.RootTrees.{root_tree}
+use Rattle.gltf_root.specs.Root.{root_tree}
 use Rattle.gltf_faults.proofs.Growing.{grows}
 use Rattle.gltf_faults.proofs.Pushes.{reports_same}
 use Rattle.gltf_faults.proofs.laws.pushes_leave_other_reports.Goals as goal

@@ -1,6 +1,6 @@
 -- The lines of the reports that came, and of those that are still to come.
 use Rattle.std.proofs.Common.{◌≡◌, ◌++◌, length, string_bytes}
-use Rattle.gltf_root.specs.RootTrees.{root_tree}
+use Rattle.gltf_root.specs.Root.{root_tree}
 use Rattle.gltf_faults.specs.Context.{rules_of}
 use Rattle.gltf_walk.specs.ToCome.{to_come}
 use Rattle.gltf_faults.specs.Reports.{document_reports}

@@ -6,8 +6,7 @@ ghost use Rattle.serde_json.specs.Data.{no_members};
 ghost use Rattle.gltf_paths.specs.Lists.{lights};
 ghost use Rattle.gltf_schema.specs.Kind.{needs_cone};
 ghost use Rattle.gltf_schema.specs.Defaults.{defaults};
-ghost use Rattle.gltf_nodes.specs.LightTable.{light_of_node_rows, light_of_node_sound, light_of_node_height, light_rows, light_sound, light_height, spot_rows, spot_sound, spot_height};
-ghost use Rattle.gltf_nodes.specs.LightTrees.{light_of_node_members, light_members, spot_members};
+ghost use Rattle.gltf_nodes.specs.Light.{light_of_node_rows, light_of_node_sound, light_of_node_height, light_rows, light_sound, light_height, spot_rows, spot_sound, spot_height, light_of_node_members, light_members, spot_members};
 
 use gltf_base::extensions::scene::khr_lights_punctual::LightType;
 use gltf_base::validation::Checked;
@@ -17,7 +16,7 @@ use gltf_schema::{Error, Object, Reading, Writing};
 use serde_json::{Map, Value};
 use std::alloc::Global;
 
-/// The light that a node carries. It stands at the node's origin; a directional or a spot light
+/// The light that a node carries. It is at the node's origin; a directional or a spot light
 /// shines along the node's local -z axis.
 #[derive(Clone, Debug, Drop)]
 pub struct KhrLightsPunctual {
@@ -54,17 +53,17 @@ impl Object for KhrLightsPunctual {
 }
 
 /// A light.
-// What takes longest to drop stands last (docs/DECISIONS.md).
+// What takes longest to drop comes last (docs/DECISIONS.md).
 #[derive(Clone, Debug)]
 pub struct Light {
     /// How it shines: from afar, from a point, or into a cone.
     pub type_: Checked<LightType>,
     pub name: Option<String>,
-    /// How bright it is, in candela or, where it is directional, in lux; `None` stands for 1.
+    /// How bright it is, in candela or, if it is directional, in lux; `None` means 1.
     pub intensity: Option<Real>,
     /// How far it reaches, in meters; without it there is no end.
     pub range: Option<Real>,
-    /// Its color: red, green, blue; `None` stands for ones.
+    /// Its color: red, green, blue; `None` means ones.
     pub color: Option<[Real; 3]>,
     /// The extensions, as they are.
     pub extensions: Option<Value>,
@@ -149,10 +148,10 @@ impl Object for Light {
 /// The cone in which a light shines.
 #[derive(Clone, Debug, Drop)]
 pub struct Spot {
-    /// The angle from the axis to where the light begins to fall off, in radians; `None` stands for
+    /// The angle from the axis to where the light begins to fall off, in radians; `None` means
     /// 0.
     pub inner_cone_angle: Option<Real>,
-    /// The angle from the axis to where the light ends, in radians; `None` stands for a quarter of
+    /// The angle from the axis to where the light ends, in radians; `None` means a quarter of
     /// pi.
     pub outer_cone_angle: Option<Real>,
 }
@@ -192,7 +191,7 @@ impl Object for Spot {
 
 impl Spot {
     /// A cone with every member at its default.
-    #[tactic(auto, unfolding(crate::specs::LightTable::spot_rows, crate::specs::LightTrees::spot_members))]
+    #[tactic(auto, unfolding(crate::specs::Light::spot_rows, crate::specs::Light::spot_members))]
     pub fn new() -> Spot
         ensures { spot_members result ≡ defaults spot_rows }
     {

@@ -4,8 +4,7 @@ ghost use Rattle.std.specs.Prelude.{false};
 ghost use Rattle.std.proofs.Common.{lit≤};
 ghost use Rattle.serde_json.specs.Data.{no_members};
 ghost use Rattle.gltf_paths.specs.Lists.{variants};
-ghost use Rattle.gltf_nodes.specs.LightTable.{variant_rows, variant_sound, variant_height};
-ghost use Rattle.gltf_nodes.specs.LightTrees.{variant_members};
+ghost use Rattle.gltf_nodes.specs.Light.{variant_rows, variant_sound, variant_height, variant_members};
 
 use gltf_base::Listed;
 use gltf_schema::{Error, Object, Reading, Writing};

@@ -1,4 +1,5 @@
--- The entries that the iterator has left are still to be written, and their keys are among all keys.
+-- The entries that the iterator has left are still to be written, and their keys are among all
+-- keys.
 use Rattle.std.proofs.Common.{◌≡◌, map, true}
 use Rattle.serde_json.specs.Data.{no_members}
 use Rattle.serde_json.specs.View.{members_view}

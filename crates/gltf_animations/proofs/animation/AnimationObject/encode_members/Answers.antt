@@ -1,7 +1,6 @@
 -- Each row is written in the table's order.
 use Rattle.gltf_schema.proofs.RowsWritten.{all_written, write_none, write_row}
-use Rattle.gltf_animations.specs.AnimationTable.{animation_rows}
-use Rattle.gltf_animations.specs.AnimationTrees.{animation_members}
+use Rattle.gltf_animations.specs.Animation.{animation_rows, animation_members}
 use Rattle.gltf_animations.proofs.animation.AnimationObject.encode_members.Goals as goal
 
 pub returns : goal.returns

@@ -1,7 +1,6 @@
 -- Each row is read in the table's order.
 use Rattle.gltf_schema.proofs.RowByRow.{all_read, read_none, read_row, sampler_read}
-use Rattle.gltf_animations.specs.AnimationTable.{animation_channel_rows}
-use Rattle.gltf_animations.specs.AnimationTrees.{animation_channel_members}
+use Rattle.gltf_animations.specs.Animation.{animation_channel_rows, animation_channel_members}
 use Rattle.gltf_animations.proofs.animation.ChannelObject.decode_members.Goals as goal
 
 pub returns : goal.returns

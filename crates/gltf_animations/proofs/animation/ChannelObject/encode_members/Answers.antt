@@ -1,8 +1,7 @@
 -- Each row is written in the table's order.
 use Rattle.std.proofs.Common.{sym}
 use Rattle.gltf_schema.proofs.RowsWritten.{all_written, write_none, write_row, sampler_written}
-use Rattle.gltf_animations.specs.AnimationTable.{animation_channel_rows}
-use Rattle.gltf_animations.specs.AnimationTrees.{animation_channel_members}
+use Rattle.gltf_animations.specs.Animation.{animation_channel_rows, animation_channel_members}
 use Rattle.gltf_animations.proofs.animation.ChannelObject.encode_members.Goals as goal
 
 pub returns : goal.returns

@@ -1,7 +1,6 @@
 -- Each row is read in the table's order.
 use Rattle.gltf_schema.proofs.RowByRow.{all_read, read_none, read_row}
-use Rattle.gltf_animations.specs.AnimationTable.{animation_sampler_rows}
-use Rattle.gltf_animations.specs.AnimationTrees.{animation_sampler_members}
+use Rattle.gltf_animations.specs.Animation.{animation_sampler_rows, animation_sampler_members}
 use Rattle.gltf_animations.proofs.animation.SamplerObject.decode_members.Goals as goal
 
 pub returns : goal.returns

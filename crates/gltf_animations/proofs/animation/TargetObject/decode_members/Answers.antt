@@ -1,7 +1,6 @@
 -- Each row is read in the table's order.
 use Rattle.gltf_schema.proofs.RowByRow.{all_read, read_none, read_row}
-use Rattle.gltf_animations.specs.AnimationTable.{animation_target_rows}
-use Rattle.gltf_animations.specs.AnimationTrees.{animation_target_members}
+use Rattle.gltf_animations.specs.Animation.{animation_target_rows, animation_target_members}
 use Rattle.gltf_animations.proofs.animation.TargetObject.decode_members.Goals as goal
 
 pub returns : goal.returns

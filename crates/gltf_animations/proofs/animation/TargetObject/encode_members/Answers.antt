@@ -1,7 +1,6 @@
 -- Each row is written in the table's order.
 use Rattle.gltf_schema.proofs.RowsWritten.{all_written, write_none, write_row}
-use Rattle.gltf_animations.specs.AnimationTable.{animation_target_rows}
-use Rattle.gltf_animations.specs.AnimationTrees.{animation_target_members}
+use Rattle.gltf_animations.specs.Animation.{animation_target_rows, animation_target_members}
 use Rattle.gltf_animations.proofs.animation.TargetObject.encode_members.Goals as goal
 
 pub returns : goal.returns

@@ -1,7 +1,6 @@
 -- Each row is read in the table's order.
 use Rattle.gltf_schema.proofs.RowByRow.{all_read, read_none, read_row}
-use Rattle.gltf_data.specs.AccessorTable.{accessor_rows}
-use Rattle.gltf_data.specs.AccessorTrees.{accessor_members}
+use Rattle.gltf_data.specs.Accessor.{accessor_rows, accessor_members}
 use Rattle.gltf_data.proofs.accessor.AccessorObject.decode_members.Goals as goal
 
 pub returns : goal.returns

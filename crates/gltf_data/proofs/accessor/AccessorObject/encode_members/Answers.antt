@@ -1,7 +1,6 @@
 -- Each row is written in the table's order.
 use Rattle.gltf_schema.proofs.RowsWritten.{all_written, write_none, write_row}
-use Rattle.gltf_data.specs.AccessorTable.{accessor_rows}
-use Rattle.gltf_data.specs.AccessorTrees.{accessor_members}
+use Rattle.gltf_data.specs.Accessor.{accessor_rows, accessor_members}
 use Rattle.gltf_data.proofs.accessor.AccessorObject.encode_members.Goals as goal
 
 pub returns : goal.returns

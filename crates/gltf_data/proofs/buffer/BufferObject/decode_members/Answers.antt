@@ -1,7 +1,6 @@
 -- Each row is read in the table's order.
 use Rattle.gltf_schema.proofs.RowByRow.{all_read, read_none, read_row}
-use Rattle.gltf_data.specs.BufferTable.{buffer_rows}
-use Rattle.gltf_data.specs.BufferTrees.{buffer_members}
+use Rattle.gltf_data.specs.Buffer.{buffer_rows, buffer_members}
 use Rattle.gltf_data.proofs.buffer.BufferObject.decode_members.Goals as goal
 
 pub returns : goal.returns

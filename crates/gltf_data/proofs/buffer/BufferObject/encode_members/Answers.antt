@@ -1,7 +1,6 @@
 -- Each row is written in the table's order.
 use Rattle.gltf_schema.proofs.RowsWritten.{all_written, write_none, write_row}
-use Rattle.gltf_data.specs.BufferTable.{buffer_rows}
-use Rattle.gltf_data.specs.BufferTrees.{buffer_members}
+use Rattle.gltf_data.specs.Buffer.{buffer_rows, buffer_members}
 use Rattle.gltf_data.proofs.buffer.BufferObject.encode_members.Goals as goal
 
 pub returns : goal.returns

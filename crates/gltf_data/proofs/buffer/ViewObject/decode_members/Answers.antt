@@ -1,7 +1,6 @@
 -- Each row is read in the table's order.
 use Rattle.gltf_schema.proofs.RowByRow.{all_read, read_none, read_row}
-use Rattle.gltf_data.specs.BufferTable.{view_rows}
-use Rattle.gltf_data.specs.BufferTrees.{view_members}
+use Rattle.gltf_data.specs.Buffer.{view_rows, view_members}
 use Rattle.gltf_data.proofs.buffer.ViewObject.decode_members.Goals as goal
 
 pub returns : goal.returns

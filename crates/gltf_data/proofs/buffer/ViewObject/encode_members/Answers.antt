@@ -1,7 +1,6 @@
 -- Each row is written in the table's order.
 use Rattle.gltf_schema.proofs.RowsWritten.{all_written, write_none, write_row}
-use Rattle.gltf_data.specs.BufferTable.{view_rows}
-use Rattle.gltf_data.specs.BufferTrees.{view_members}
+use Rattle.gltf_data.specs.Buffer.{view_rows, view_members}
 use Rattle.gltf_data.proofs.buffer.ViewObject.encode_members.Goals as goal
 
 pub returns : goal.returns

@@ -1,7 +1,6 @@
 -- Each row is read in the table's order.
 use Rattle.gltf_schema.proofs.RowByRow.{all_read, read_none, read_row}
-use Rattle.gltf_data.specs.ImageTable.{image_rows}
-use Rattle.gltf_data.specs.ImageTrees.{image_members}
+use Rattle.gltf_data.specs.Image.{image_rows, image_members}
 use Rattle.gltf_data.proofs.image.ImageObject.decode_members.Goals as goal
 
 pub returns : goal.returns

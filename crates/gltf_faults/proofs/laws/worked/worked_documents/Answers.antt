@@ -1,17 +1,17 @@
 -- Each document computes.
 use Rattle.std.proofs.Common.{refl}
 use Rattle.gltf_checked.specs.Names as names
-use Rattle.gltf_data.specs.AccessorTable.{accessor_rows}
-use Rattle.gltf_data.specs.BufferTable.{buffer_rows, view_rows}
-use Rattle.gltf_nodes.specs.AssetTable.{asset_rows}
-use Rattle.gltf_textures.specs.TextureTable.{texture_rows}
-use Rattle.gltf_meshes.specs.MeshTable.{mesh_rows, primitive_rows}
-use Rattle.gltf_nodes.specs.CameraTable.{camera_rows}
-use Rattle.gltf_nodes.specs.LightTable.{light_rows, light_of_node_rows}
-use Rattle.gltf_nodes.specs.SceneTable.{node_rows, node_extension_rows}
-use Rattle.gltf_animations.specs.AnimationTable.{animation_rows, animation_channel_rows, animation_target_rows}
-use Rattle.gltf_root.specs.RootExtensionTable.{root_extension_rows, lights_rows}
-use Rattle.gltf_root.specs.RootTable.{root_rows}
+use Rattle.gltf_data.specs.Accessor.{accessor_rows}
+use Rattle.gltf_data.specs.Buffer.{buffer_rows, view_rows}
+use Rattle.gltf_root.specs.Asset.{asset_rows}
+use Rattle.gltf_textures.specs.Texture.{texture_rows}
+use Rattle.gltf_meshes.specs.Mesh.{mesh_rows, primitive_rows}
+use Rattle.gltf_nodes.specs.Camera.{camera_rows}
+use Rattle.gltf_nodes.specs.Light.{light_rows, light_of_node_rows}
+use Rattle.gltf_nodes.specs.Scene.{node_rows, node_extension_rows}
+use Rattle.gltf_animations.specs.Animation.{animation_rows, animation_channel_rows, animation_target_rows}
+use Rattle.gltf_root.specs.RootExtension.{root_extension_rows, lights_rows}
+use Rattle.gltf_root.specs.Root.{root_rows}
 use Rattle.gltf_faults.proofs.laws.worked.worked_documents.Goals as goal
 
 pub returns-clause-no_asset : goal.returns-clause-no_asset

@@ -3,8 +3,7 @@ use Rattle.std.proofs.Common.{ap}
 use Rattle.gltf_schema.specs.Kind.{always}
 use Rattle.gltf_schema.specs.Fields.{closed_object}
 use Rattle.gltf_schema.proofs.RowByRow.{all_read, marked, read_none, read_row}
-use Rattle.gltf_materials.specs.MaterialTable.{material_rows}
-use Rattle.gltf_materials.specs.MaterialTrees.{material_members}
+use Rattle.gltf_materials.specs.Material.{material_rows, material_members}
 use Rattle.gltf_materials.proofs.material.MaterialObject.decode_members.Goals as goal
 
 pub returns : goal.returns

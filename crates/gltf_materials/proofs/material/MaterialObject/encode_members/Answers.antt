@@ -1,7 +1,6 @@
 -- Each row is written in the table's order.
 use Rattle.gltf_schema.proofs.RowsWritten.{all_written, write_none, write_row}
-use Rattle.gltf_materials.specs.MaterialTable.{material_rows}
-use Rattle.gltf_materials.specs.MaterialTrees.{material_members}
+use Rattle.gltf_materials.specs.Material.{material_rows, material_members}
 use Rattle.gltf_materials.proofs.material.MaterialObject.encode_members.Goals as goal
 
 pub returns : goal.returns

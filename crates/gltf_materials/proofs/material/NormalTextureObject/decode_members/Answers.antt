@@ -1,7 +1,6 @@
 -- Each row is read in the table's order.
 use Rattle.gltf_schema.proofs.RowByRow.{all_read, read_none, read_row}
-use Rattle.gltf_materials.specs.MaterialTable.{normal_texture_rows}
-use Rattle.gltf_materials.specs.MaterialTrees.{normal_texture_members}
+use Rattle.gltf_materials.specs.Material.{normal_texture_rows, normal_texture_members}
 use Rattle.gltf_materials.proofs.material.NormalTextureObject.decode_members.Goals as goal
 
 pub returns : goal.returns

@@ -1,7 +1,6 @@
 -- Each row is written in the table's order.
 use Rattle.gltf_schema.proofs.RowsWritten.{all_written, write_none, write_row}
-use Rattle.gltf_materials.specs.MaterialTable.{normal_texture_rows}
-use Rattle.gltf_materials.specs.MaterialTrees.{normal_texture_members}
+use Rattle.gltf_materials.specs.Material.{normal_texture_rows, normal_texture_members}
 use Rattle.gltf_materials.proofs.material.NormalTextureObject.encode_members.Goals as goal
 
 pub returns : goal.returns

@@ -1,7 +1,6 @@
 -- Each row is read in the table's order.
 use Rattle.gltf_schema.proofs.RowByRow.{all_read, read_none, read_row}
-use Rattle.gltf_materials.specs.MaterialTable.{occlusion_texture_rows}
-use Rattle.gltf_materials.specs.MaterialTrees.{occlusion_texture_members}
+use Rattle.gltf_materials.specs.Material.{occlusion_texture_rows, occlusion_texture_members}
 use Rattle.gltf_materials.proofs.material.OcclusionTextureObject.decode_members.Goals as goal
 
 pub returns : goal.returns

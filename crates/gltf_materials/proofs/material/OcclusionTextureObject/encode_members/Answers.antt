@@ -1,7 +1,6 @@
 -- Each row is written in the table's order.
 use Rattle.gltf_schema.proofs.RowsWritten.{all_written, write_none, write_row}
-use Rattle.gltf_materials.specs.MaterialTable.{occlusion_texture_rows}
-use Rattle.gltf_materials.specs.MaterialTrees.{occlusion_texture_members}
+use Rattle.gltf_materials.specs.Material.{occlusion_texture_rows, occlusion_texture_members}
 use Rattle.gltf_materials.proofs.material.OcclusionTextureObject.encode_members.Goals as goal
 
 pub returns : goal.returns

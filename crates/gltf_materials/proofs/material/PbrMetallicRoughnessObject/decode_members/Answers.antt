@@ -1,7 +1,6 @@
 -- Each row is read in the table's order.
 use Rattle.gltf_schema.proofs.RowByRow.{all_read, read_none, read_row}
-use Rattle.gltf_materials.specs.MaterialTable.{pbr_metallic_roughness_rows}
-use Rattle.gltf_materials.specs.MaterialTrees.{pbr_metallic_roughness_members}
+use Rattle.gltf_materials.specs.Material.{pbr_metallic_roughness_rows, pbr_metallic_roughness_members}
 use Rattle.gltf_materials.proofs.material.PbrMetallicRoughnessObject.decode_members.Goals as goal
 
 pub returns : goal.returns

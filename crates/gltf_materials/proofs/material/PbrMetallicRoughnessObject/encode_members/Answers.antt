@@ -1,7 +1,6 @@
 -- Each row is written in the table's order.
 use Rattle.gltf_schema.proofs.RowsWritten.{all_written, write_none, write_row}
-use Rattle.gltf_materials.specs.MaterialTable.{pbr_metallic_roughness_rows}
-use Rattle.gltf_materials.specs.MaterialTrees.{pbr_metallic_roughness_members}
+use Rattle.gltf_materials.specs.Material.{pbr_metallic_roughness_rows, pbr_metallic_roughness_members}
 use Rattle.gltf_materials.proofs.material.PbrMetallicRoughnessObject.encode_members.Goals as goal
 
 pub returns : goal.returns

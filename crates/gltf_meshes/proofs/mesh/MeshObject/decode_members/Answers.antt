@@ -1,7 +1,6 @@
 -- Each row is read in the table's order.
 use Rattle.gltf_schema.proofs.RowByRow.{all_read, read_none, read_row}
-use Rattle.gltf_meshes.specs.MeshTable.{mesh_rows}
-use Rattle.gltf_meshes.specs.MeshTrees.{mesh_members}
+use Rattle.gltf_meshes.specs.Mesh.{mesh_rows, mesh_members}
 use Rattle.gltf_meshes.proofs.mesh.MeshObject.decode_members.Goals as goal
 
 pub returns : goal.returns

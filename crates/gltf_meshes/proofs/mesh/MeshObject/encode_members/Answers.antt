@@ -1,7 +1,6 @@
 -- Each row is written in the table's order.
 use Rattle.gltf_schema.proofs.RowsWritten.{all_written, write_none, write_row}
-use Rattle.gltf_meshes.specs.MeshTable.{mesh_rows}
-use Rattle.gltf_meshes.specs.MeshTrees.{mesh_members}
+use Rattle.gltf_meshes.specs.Mesh.{mesh_rows, mesh_members}
 use Rattle.gltf_meshes.proofs.mesh.MeshObject.encode_members.Goals as goal
 
 pub returns : goal.returns

@@ -1,7 +1,6 @@
 -- Each row is read in the table's order.
 use Rattle.gltf_schema.proofs.RowByRow.{all_read, read_none, read_row}
-use Rattle.gltf_meshes.specs.MeshTable.{morph_target_rows}
-use Rattle.gltf_meshes.specs.MeshTrees.{morph_target_members}
+use Rattle.gltf_meshes.specs.Mesh.{morph_target_rows, morph_target_members}
 use Rattle.gltf_meshes.proofs.mesh.MorphTargetObject.decode_members.Goals as goal
 
 pub returns : goal.returns

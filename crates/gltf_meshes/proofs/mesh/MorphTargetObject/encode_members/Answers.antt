@@ -1,7 +1,6 @@
 -- Each row is written in the table's order.
 use Rattle.gltf_schema.proofs.RowsWritten.{all_written, write_none, write_row}
-use Rattle.gltf_meshes.specs.MeshTable.{morph_target_rows}
-use Rattle.gltf_meshes.specs.MeshTrees.{morph_target_members}
+use Rattle.gltf_meshes.specs.Mesh.{morph_target_rows, morph_target_members}
 use Rattle.gltf_meshes.proofs.mesh.MorphTargetObject.encode_members.Goals as goal
 
 pub returns : goal.returns

@@ -1,7 +1,6 @@
 -- Each row is read in the table's order.
 use Rattle.gltf_schema.proofs.RowByRow.{all_read, read_none, read_row}
-use Rattle.gltf_meshes.specs.MeshTable.{primitive_rows}
-use Rattle.gltf_meshes.specs.MeshTrees.{primitive_members}
+use Rattle.gltf_meshes.specs.Mesh.{primitive_rows, primitive_members}
 use Rattle.gltf_meshes.proofs.mesh.PrimitiveObject.decode_members.Goals as goal
 
 pub returns : goal.returns

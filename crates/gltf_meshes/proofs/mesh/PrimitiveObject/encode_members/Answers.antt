@@ -1,7 +1,6 @@
 -- Each row is written in the table's order.
 use Rattle.gltf_schema.proofs.RowsWritten.{all_written, write_none, write_row}
-use Rattle.gltf_meshes.specs.MeshTable.{primitive_rows}
-use Rattle.gltf_meshes.specs.MeshTrees.{primitive_members}
+use Rattle.gltf_meshes.specs.Mesh.{primitive_rows, primitive_members}
 use Rattle.gltf_meshes.proofs.mesh.PrimitiveObject.encode_members.Goals as goal
 
 pub returns : goal.returns

@@ -1,7 +1,6 @@
 -- Each row is read in the table's order.
 use Rattle.gltf_schema.proofs.RowByRow.{all_read, read_none, read_row}
-use Rattle.gltf_nodes.specs.CameraTable.{camera_rows}
-use Rattle.gltf_nodes.specs.CameraTrees.{camera_members}
+use Rattle.gltf_nodes.specs.Camera.{camera_rows, camera_members}
 use Rattle.gltf_nodes.proofs.camera.CameraObject.decode_members.Goals as goal
 
 pub returns : goal.returns

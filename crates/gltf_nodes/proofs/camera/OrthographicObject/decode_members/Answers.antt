@@ -1,7 +1,6 @@
 -- Each row is read in the table's order.
 use Rattle.gltf_schema.proofs.RowByRow.{all_read, read_none, read_row}
-use Rattle.gltf_nodes.specs.CameraTable.{orthographic_rows}
-use Rattle.gltf_nodes.specs.CameraTrees.{orthographic_members}
+use Rattle.gltf_nodes.specs.Camera.{orthographic_rows, orthographic_members}
 use Rattle.gltf_nodes.proofs.camera.OrthographicObject.decode_members.Goals as goal
 
 pub returns : goal.returns

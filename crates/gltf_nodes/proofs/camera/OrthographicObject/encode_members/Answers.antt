@@ -1,7 +1,6 @@
 -- Each row is written in the table's order.
 use Rattle.gltf_schema.proofs.RowsWritten.{all_written, write_none, write_row}
-use Rattle.gltf_nodes.specs.CameraTable.{orthographic_rows}
-use Rattle.gltf_nodes.specs.CameraTrees.{orthographic_members}
+use Rattle.gltf_nodes.specs.Camera.{orthographic_rows, orthographic_members}
 use Rattle.gltf_nodes.proofs.camera.OrthographicObject.encode_members.Goals as goal
 
 pub returns : goal.returns

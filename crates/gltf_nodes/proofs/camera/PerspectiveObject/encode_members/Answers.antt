@@ -1,7 +1,6 @@
 -- Each row is written in the table's order.
 use Rattle.gltf_schema.proofs.RowsWritten.{all_written, write_none, write_row}
-use Rattle.gltf_nodes.specs.CameraTable.{perspective_rows}
-use Rattle.gltf_nodes.specs.CameraTrees.{perspective_members}
+use Rattle.gltf_nodes.specs.Camera.{perspective_rows, perspective_members}
 use Rattle.gltf_nodes.proofs.camera.PerspectiveObject.encode_members.Goals as goal
 
 pub returns : goal.returns

@@ -1,7 +1,6 @@
 -- Each row is read in the table's order.
 use Rattle.gltf_schema.proofs.RowByRow.{all_read, read_none, read_row}
-use Rattle.gltf_nodes.specs.SceneTable.{node_rows}
-use Rattle.gltf_nodes.specs.SceneTrees.{node_members}
+use Rattle.gltf_nodes.specs.Scene.{node_rows, node_members}
 use Rattle.gltf_nodes.proofs.scene.NodeObject.decode_members.Goals as goal
 
 pub returns : goal.returns

@@ -1,7 +1,6 @@
 -- Each row is written in the table's order.
 use Rattle.gltf_schema.proofs.RowsWritten.{all_written, write_none, write_row}
-use Rattle.gltf_nodes.specs.SceneTable.{node_rows}
-use Rattle.gltf_nodes.specs.SceneTrees.{node_members}
+use Rattle.gltf_nodes.specs.Scene.{node_rows, node_members}
 use Rattle.gltf_nodes.proofs.scene.NodeObject.encode_members.Goals as goal
 
 pub returns : goal.returns

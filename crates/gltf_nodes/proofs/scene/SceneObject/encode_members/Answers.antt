@@ -1,7 +1,6 @@
 -- Each row is written in the table's order.
 use Rattle.gltf_schema.proofs.RowsWritten.{all_written, write_none, write_row}
-use Rattle.gltf_nodes.specs.SceneTable.{scene_rows}
-use Rattle.gltf_nodes.specs.SceneTrees.{scene_members}
+use Rattle.gltf_nodes.specs.Scene.{scene_rows, scene_members}
 use Rattle.gltf_nodes.proofs.scene.SceneObject.encode_members.Goals as goal
 
 pub returns : goal.returns

@@ -1,6 +1,6 @@
 -- The value that is printed reads back, and so do its bytes.
 use Rattle.serde_json.specs.View.{view}
-use Rattle.gltf_root.specs.RootTrees.{root_tree}
+use Rattle.gltf_root.specs.Root.{root_tree}
 use Rattle.gltf_root.proofs.AnswerLemmas.{printed-read_back}
 use Rattle.gltf_root.proofs.root.Root.to_vec.Goals as goal
 

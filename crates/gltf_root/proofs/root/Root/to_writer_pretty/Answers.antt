@@ -1,10 +1,14 @@
 -- The bytes that are written are those that are printed.
-use Rattle.gltf_root.specs.RootTrees.{root_tree}
-use Rattle.gltf_root.specs.Written.{IsPretty, IsReadBack}
-use Rattle.gltf_root.proofs.Taking.{taken}
+use Rattle.gltf_root.specs.Root.{root_tree}
+use Rattle.gltf_root.specs.Written.{IsPrettyOf, IsReadBack}
+use Rattle.gltf_root.proofs.Taking.{taken, taken_front}
 use Rattle.gltf_root.proofs.root.Root.to_writer_pretty.Goals as goal
 
-pub returns-clause-taken : goal.returns-clause-taken
-returns-clause-taken g c =
-    taken IsPretty (IsReadBack (root_tree c.args.self.now)) (λ b. b.items) c.in_ok-bytes.bytes _ _ c.write_out.result _ _ _ _ c.deref.ensures.value
-    c.in_ok-bytes.ensures.printed c.in_ok-bytes.ensures.reads_back c.write_out.ensures.whole c.write_out.ensures.front c.write_out.ensures.breaks
+pub returns-clause-whole : goal.returns-clause-whole
+returns-clause-whole g c =
+    taken (IsPrettyOf (root_tree c.args.self.now)) (IsReadBack (root_tree c.args.self.now)) _ _ c.in_ok-bytes.bytes.items _ c.write_out.result
+    c.deref.ensures.value c.in_ok-bytes.ensures.printed c.in_ok-bytes.ensures.reads_back c.write_out.ensures.whole
+
+pub returns-clause-front : goal.returns-clause-front
+returns-clause-front g c = λ failed.
+    (c.in_ok-bytes.bytes.items, c.in_ok-bytes.ensures.printed, c.in_ok-bytes.ensures.reads_back, taken_front _ _ _ _ c.deref.ensures.value c.write_out.ensures.front)

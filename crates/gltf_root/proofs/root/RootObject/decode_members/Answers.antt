@@ -1,7 +1,6 @@
 -- Each row is read in the table's order.
 use Rattle.gltf_schema.proofs.RowByRow.{all_read, read_none, read_row}
-use Rattle.gltf_root.specs.RootTable.{root_rows}
-use Rattle.gltf_root.specs.RootTrees.{root_members}
+use Rattle.gltf_root.specs.Root.{root_rows, root_members}
 use Rattle.gltf_root.proofs.root.RootObject.decode_members.Goals as goal
 
 pub returns : goal.returns

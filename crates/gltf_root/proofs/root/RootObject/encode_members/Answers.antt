@@ -1,7 +1,6 @@
 -- Each row is written in the table's order.
 use Rattle.gltf_schema.proofs.RowsWritten.{all_written, write_none, write_row}
-use Rattle.gltf_root.specs.RootTable.{root_rows}
-use Rattle.gltf_root.specs.RootTrees.{root_members}
+use Rattle.gltf_root.specs.Root.{root_rows, root_members}
 use Rattle.gltf_root.proofs.root.RootObject.encode_members.Goals as goal
 
 pub returns : goal.returns

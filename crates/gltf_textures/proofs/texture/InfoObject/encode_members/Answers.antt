@@ -1,7 +1,6 @@
 -- Each row is written in the table's order.
 use Rattle.gltf_schema.proofs.RowsWritten.{all_written, write_none, write_row}
-use Rattle.gltf_textures.specs.TextureTable.{info_rows}
-use Rattle.gltf_textures.specs.TextureTrees.{info_members}
+use Rattle.gltf_textures.specs.Texture.{info_rows, info_members}
 use Rattle.gltf_textures.proofs.texture.InfoObject.encode_members.Goals as goal
 
 pub returns : goal.returns

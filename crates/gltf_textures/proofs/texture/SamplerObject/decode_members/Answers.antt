@@ -1,7 +1,6 @@
 -- Each row is read in the table's order.
 use Rattle.gltf_schema.proofs.RowByRow.{all_read, read_none, read_row}
-use Rattle.gltf_textures.specs.TextureTable.{sampler_rows}
-use Rattle.gltf_textures.specs.TextureTrees.{sampler_members}
+use Rattle.gltf_textures.specs.Texture.{sampler_rows, sampler_members}
 use Rattle.gltf_textures.proofs.texture.SamplerObject.decode_members.Goals as goal
 
 pub returns : goal.returns

@@ -3,8 +3,7 @@ use Rattle.std.proofs.Common.{ap}
 use Rattle.gltf_schema.specs.Tree.{index}
 use Rattle.gltf_schema.specs.Kind.{unless}
 use Rattle.gltf_schema.proofs.RowByRow.{all_read, marked, read_none, read_row, source_read}
-use Rattle.gltf_textures.specs.TextureTable.{texture_rows}
-use Rattle.gltf_textures.specs.TextureTrees.{texture_members}
+use Rattle.gltf_textures.specs.Texture.{texture_rows, texture_members}
 use Rattle.gltf_textures.proofs.texture.TextureObject.decode_members.Goals as goal
 
 pub returns : goal.returns

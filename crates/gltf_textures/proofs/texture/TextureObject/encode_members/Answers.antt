@@ -2,8 +2,7 @@
 use Rattle.std.proofs.Common.{ap}
 use Rattle.gltf_schema.specs.Tree.{index}
 use Rattle.gltf_schema.proofs.RowsWritten.{all_written, write_none, write_row, default_as, source_written}
-use Rattle.gltf_textures.specs.TextureTable.{texture_rows}
-use Rattle.gltf_textures.specs.TextureTrees.{texture_members}
+use Rattle.gltf_textures.specs.Texture.{texture_rows, texture_members}
 use Rattle.gltf_textures.proofs.texture.TextureObject.encode_members.Goals as goal
 
 pub returns : goal.returns

@@ -8,5 +8,5 @@ use Rattle.gltf_validation.proofs.validation.composed.each_item.Given as goal
 abbrev pub invariant-loop-i : goal.invariant-loop-i
 invariant-loop-i g l =
     let v = g.T.Validate in
-    let each = reports_in v.kind v.tree v.own (g.C.Against.context l.context) in
+    let each = reports_in v.kind v.tree v.own (g.C.HasContext.context l.context) in
     Underway g.S.Sink.next g.S.Sink.refuses l.fn.path (g.S.Sink.state l.fn.sink) (each_at each 0 l.items.items) (each_at each l.i (drop l.i l.items.items)) l.path (g.S.Sink.state l.sink)

@@ -1,7 +1,6 @@
 -- Each row is written in the table's order.
 use Rattle.gltf_schema.proofs.RowsWritten.{all_written, write_none, write_row}
-use Rattle.gltf_data.specs.AccessorTable.{sparse_rows}
-use Rattle.gltf_data.specs.AccessorTrees.{sparse_members}
+use Rattle.gltf_data.specs.Accessor.{sparse_rows, sparse_members}
 use Rattle.gltf_data.proofs.accessor.sparse.SparseObject.encode_members.Goals as goal
 
 pub returns : goal.returns

@@ -1,7 +1,6 @@
 -- Each row is written in the table's order.
 use Rattle.gltf_schema.proofs.RowsWritten.{all_written, write_none, write_row}
-use Rattle.gltf_data.specs.AccessorTable.{sparse_values_rows}
-use Rattle.gltf_data.specs.AccessorTrees.{sparse_values_members}
+use Rattle.gltf_data.specs.Accessor.{sparse_values_rows, sparse_values_members}
 use Rattle.gltf_data.proofs.accessor.sparse.ValuesObject.encode_members.Goals as goal
 
 pub returns : goal.returns

@@ -1,7 +1,6 @@
 -- Each row is read in the table's order.
 use Rattle.gltf_schema.proofs.RowByRow.{all_read, read_none, read_row}
-use Rattle.gltf_meshes.specs.MeshTable.{variant_mappings_rows}
-use Rattle.gltf_meshes.specs.MeshTrees.{variant_mappings_members}
+use Rattle.gltf_meshes.specs.Mesh.{variant_mappings_rows, variant_mappings_members}
 use Rattle.gltf_meshes.proofs.extensions.mesh.KhrMaterialsVariantsObject.decode_members.Goals as goal
 
 pub returns : goal.returns

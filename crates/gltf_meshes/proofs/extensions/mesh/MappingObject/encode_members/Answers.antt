@@ -1,7 +1,6 @@
 -- Each row is written in the table's order.
 use Rattle.gltf_schema.proofs.RowsWritten.{all_written, write_none, write_row}
-use Rattle.gltf_meshes.specs.MeshTable.{variant_mapping_rows}
-use Rattle.gltf_meshes.specs.MeshTrees.{variant_mapping_members}
+use Rattle.gltf_meshes.specs.Mesh.{variant_mapping_rows, variant_mapping_members}
 use Rattle.gltf_meshes.proofs.extensions.mesh.MappingObject.encode_members.Goals as goal
 
 pub returns : goal.returns

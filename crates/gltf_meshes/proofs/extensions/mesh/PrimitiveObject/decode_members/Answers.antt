@@ -1,8 +1,7 @@
 -- Each row is read in the table's order.
 use Rattle.serde_json.specs.View.{members_view}
 use Rattle.gltf_schema.proofs.RowByRow.{all_kept, read_none, read_row}
-use Rattle.gltf_meshes.specs.MeshTable.{primitive_extension_rows}
-use Rattle.gltf_meshes.specs.MeshTrees.{primitive_extension_members}
+use Rattle.gltf_meshes.specs.Mesh.{primitive_extension_rows, primitive_extension_members}
 use Rattle.gltf_meshes.proofs.extensions.mesh.PrimitiveObject.decode_members.Goals as goal
 
 pub returns : goal.returns

@@ -1,8 +1,7 @@
 -- Each row is read in the table's order.
 use Rattle.serde_json.specs.View.{members_view}
 use Rattle.gltf_schema.proofs.RowByRow.{all_kept, read_none, read_row}
-use Rattle.gltf_nodes.specs.SceneTable.{node_extension_rows}
-use Rattle.gltf_nodes.specs.SceneTrees.{node_extension_members}
+use Rattle.gltf_nodes.specs.Scene.{node_extension_rows, node_extension_members}
 use Rattle.gltf_nodes.proofs.extensions.scene.NodeObject.decode_members.Goals as goal
 
 pub returns : goal.returns

@@ -1,7 +1,6 @@
 -- Each row is written in the table's order.
 use Rattle.gltf_schema.proofs.RowsWritten.{all_written, write_none, write_row}
-use Rattle.gltf_nodes.specs.SceneTable.{node_extension_rows}
-use Rattle.gltf_nodes.specs.SceneTrees.{node_extension_members}
+use Rattle.gltf_nodes.specs.Scene.{node_extension_rows, node_extension_members}
 use Rattle.gltf_nodes.proofs.extensions.scene.NodeObject.encode_members.Goals as goal
 
 pub returns : goal.returns

@@ -1,7 +1,6 @@
 -- Each row is read in the table's order.
 use Rattle.gltf_schema.proofs.RowByRow.{all_read, read_none, read_row}
-use Rattle.gltf_root.specs.RootExtensionTable.{lights_rows}
-use Rattle.gltf_root.specs.RootExtensionTrees.{lights_members}
+use Rattle.gltf_root.specs.RootExtension.{lights_rows, lights_members}
 use Rattle.gltf_root.proofs.extensions.root.KhrLightsPunctualObject.decode_members.Goals as goal
 
 pub returns : goal.returns

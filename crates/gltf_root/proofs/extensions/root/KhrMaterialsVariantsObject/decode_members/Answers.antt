@@ -1,7 +1,6 @@
 -- Each row is read in the table's order.
 use Rattle.gltf_schema.proofs.RowByRow.{all_read, read_none, read_row}
-use Rattle.gltf_root.specs.RootExtensionTable.{variants_rows}
-use Rattle.gltf_root.specs.RootExtensionTrees.{variants_members}
+use Rattle.gltf_root.specs.RootExtension.{variants_rows, variants_members}
 use Rattle.gltf_root.proofs.extensions.root.KhrMaterialsVariantsObject.decode_members.Goals as goal
 
 pub returns : goal.returns

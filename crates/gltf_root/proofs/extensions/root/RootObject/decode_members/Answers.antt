@@ -1,8 +1,7 @@
 -- Each row is read in the table's order.
 use Rattle.serde_json.specs.View.{members_view}
 use Rattle.gltf_schema.proofs.RowByRow.{all_kept, read_none, read_row}
-use Rattle.gltf_root.specs.RootExtensionTable.{root_extension_rows}
-use Rattle.gltf_root.specs.RootExtensionTrees.{root_extension_members}
+use Rattle.gltf_root.specs.RootExtension.{root_extension_rows, root_extension_members}
 use Rattle.gltf_root.proofs.extensions.root.RootObject.decode_members.Goals as goal
 
 pub returns : goal.returns

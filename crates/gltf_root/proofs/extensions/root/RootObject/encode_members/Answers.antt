@@ -1,7 +1,6 @@
 -- Each row is written in the table's order.
 use Rattle.gltf_schema.proofs.RowsWritten.{all_written, write_none, write_row}
-use Rattle.gltf_root.specs.RootExtensionTable.{root_extension_rows}
-use Rattle.gltf_root.specs.RootExtensionTrees.{root_extension_members}
+use Rattle.gltf_root.specs.RootExtension.{root_extension_rows, root_extension_members}
 use Rattle.gltf_root.proofs.extensions.root.RootObject.encode_members.Goals as goal
 
 pub returns : goal.returns

@@ -2,7 +2,7 @@
 use Rattle.std.proofs.Common.{◌≡◌, false, refl, sym, ap}
 use Rattle.std.proofs.lemmas.Option.{none-some}
 use Rattle.gltf_root.specs.Lists.{is_there}
-use Rattle.gltf_root.specs.RootTrees.{root_tree}
+use Rattle.gltf_root.specs.Root.{root_tree}
 use Rattle.gltf_root.specs.declared.root.mark.Mark.TheVariants.{Listed}
 use Rattle.gltf_root.proofs.root.top_level.AnyRootItem.list_of_mut.Goals as goal
 

@@ -1,5 +1,5 @@
 use Rattle.std.proofs.Common.{sym}
-use Rattle.gltf_root.specs.RootTrees.{root_tree}
+use Rattle.gltf_root.specs.Root.{root_tree}
 use Rattle.gltf_root.specs.declared.root.mark.Mark.TheVariants.{Listed}
 use Rattle.gltf_root.proofs.root.top_level.AnyRootItem.mark_of.Goals as goal
 

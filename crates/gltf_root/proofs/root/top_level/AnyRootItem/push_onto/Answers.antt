@@ -2,7 +2,7 @@
 use Rattle.std.proofs.Common.{[], ◌∷◌, ◌++◌, vec_len, ◌∙◌, ap}
 use Rattle.std.proofs.lemmas.Result.{IfOk-weaker}
 use Rattle.gltf_schema.specs.Tree.{Tree, object}
-use Rattle.gltf_root.specs.RootTrees.{root_tree}
+use Rattle.gltf_root.specs.Root.{root_tree}
 use Rattle.gltf_root.proofs.TopLevel.{one_more}
 use Rattle.gltf_root.proofs.root.top_level.AnyRootItem.push_onto.Goals as goal
 

@@ -1,7 +1,7 @@
 -- The list that was put in place lacks the last item.
 use Rattle.std.proofs.Common.{sym, ◌∙◌, ap}
 use Rattle.gltf_schema.specs.Tree.{Tree, object}
-use Rattle.gltf_root.specs.RootTrees.{root_tree}
+use Rattle.gltf_root.specs.Root.{root_tree}
 use Rattle.gltf_root.proofs.TopLevel.{taken_out}
 use Rattle.gltf_root.proofs.root.top_level.AnyRootItem.undo_push_from.Goals as goal
 

@@ -1,7 +1,6 @@
 -- Each row is read in the table's order.
 use Rattle.gltf_schema.proofs.RowByRow.{all_read, read_none, read_row}
-use Rattle.gltf_shading.specs.MaterialExtensionTable.{emissive_strength_rows}
-use Rattle.gltf_shading.specs.MaterialExtensionTrees.{emissive_strength_members}
+use Rattle.gltf_shading.specs.MaterialExtension.{emissive_strength_rows, emissive_strength_members}
 use Rattle.gltf_shading.proofs.extensions.material.EmissiveStrengthObject.decode_members.Goals as goal
 
 pub returns : goal.returns

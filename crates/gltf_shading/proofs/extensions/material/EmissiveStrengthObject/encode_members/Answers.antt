@@ -1,7 +1,6 @@
 -- Each row is written in the table's order.
 use Rattle.gltf_schema.proofs.RowsWritten.{all_written, write_none, write_row}
-use Rattle.gltf_shading.specs.MaterialExtensionTable.{emissive_strength_rows}
-use Rattle.gltf_shading.specs.MaterialExtensionTrees.{emissive_strength_members}
+use Rattle.gltf_shading.specs.MaterialExtension.{emissive_strength_rows, emissive_strength_members}
 use Rattle.gltf_shading.proofs.extensions.material.EmissiveStrengthObject.encode_members.Goals as goal
 
 pub returns : goal.returns

@@ -1,7 +1,6 @@
 -- Each row is read in the table's order.
 use Rattle.gltf_schema.proofs.RowByRow.{all_read, read_none, read_row}
-use Rattle.gltf_shading.specs.MaterialExtensionTable.{ior_rows}
-use Rattle.gltf_shading.specs.MaterialExtensionTrees.{ior_members}
+use Rattle.gltf_shading.specs.MaterialExtension.{ior_rows, ior_members}
 use Rattle.gltf_shading.proofs.extensions.material.IorObject.decode_members.Goals as goal
 
 pub returns : goal.returns

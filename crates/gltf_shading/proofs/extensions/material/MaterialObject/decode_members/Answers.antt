@@ -1,8 +1,7 @@
 -- Each row is read in the table's order.
 use Rattle.serde_json.specs.View.{members_view}
 use Rattle.gltf_schema.proofs.RowByRow.{all_kept, read_none, read_row}
-use Rattle.gltf_shading.specs.MaterialExtensionTable.{material_extension_rows}
-use Rattle.gltf_shading.specs.MaterialExtensionTrees.{material_extension_members}
+use Rattle.gltf_shading.specs.MaterialExtension.{material_extension_rows, material_extension_members}
 use Rattle.gltf_shading.proofs.extensions.material.MaterialObject.decode_members.Goals as goal
 
 pub returns : goal.returns

@@ -1,8 +1,7 @@
 -- Each row is read in the table's order.
 use Rattle.serde_json.specs.View.{members_view}
 use Rattle.gltf_schema.proofs.RowByRow.{all_kept, read_none, read_row}
-use Rattle.gltf_shading.specs.MaterialExtensionTable.{pbr_specular_glossiness_rows}
-use Rattle.gltf_shading.specs.MaterialExtensionTrees.{pbr_specular_glossiness_members}
+use Rattle.gltf_shading.specs.MaterialExtension.{pbr_specular_glossiness_rows, pbr_specular_glossiness_members}
 use Rattle.gltf_shading.proofs.extensions.material.PbrSpecularGlossinessObject.decode_members.Goals as goal
 
 pub returns : goal.returns

@@ -1,7 +1,6 @@
 -- Each row is written in the table's order.
 use Rattle.gltf_schema.proofs.RowsWritten.{all_written, write_none, write_row}
-use Rattle.gltf_shading.specs.MaterialExtensionTable.{pbr_specular_glossiness_rows}
-use Rattle.gltf_shading.specs.MaterialExtensionTrees.{pbr_specular_glossiness_members}
+use Rattle.gltf_shading.specs.MaterialExtension.{pbr_specular_glossiness_rows, pbr_specular_glossiness_members}
 use Rattle.gltf_shading.proofs.extensions.material.PbrSpecularGlossinessObject.encode_members.Goals as goal
 
 pub returns : goal.returns

@@ -1,7 +1,6 @@
 -- Each row is read in the table's order.
 use Rattle.gltf_schema.proofs.RowByRow.{all_read, read_none, read_row}
-use Rattle.gltf_shading.specs.MaterialExtensionTable.{volume_rows}
-use Rattle.gltf_shading.specs.MaterialExtensionTrees.{volume_members}
+use Rattle.gltf_shading.specs.MaterialExtension.{volume_rows, volume_members}
 use Rattle.gltf_shading.proofs.extensions.material.VolumeObject.decode_members.Goals as goal
 
 pub returns : goal.returns

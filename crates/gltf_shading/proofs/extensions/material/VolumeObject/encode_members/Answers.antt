@@ -1,7 +1,6 @@
 -- Each row is written in the table's order.
 use Rattle.gltf_schema.proofs.RowsWritten.{all_written, write_none, write_row}
-use Rattle.gltf_shading.specs.MaterialExtensionTable.{volume_rows}
-use Rattle.gltf_shading.specs.MaterialExtensionTrees.{volume_members}
+use Rattle.gltf_shading.specs.MaterialExtension.{volume_rows, volume_members}
 use Rattle.gltf_shading.proofs.extensions.material.VolumeObject.encode_members.Goals as goal
 
 pub returns : goal.returns

@@ -1,8 +1,7 @@
 -- Each row is read in the table's order.
 use Rattle.serde_json.specs.View.{members_view}
 use Rattle.gltf_schema.proofs.RowByRow.{all_kept, read_none, read_row}
-use Rattle.gltf_textures.specs.TextureTable.{info_extension_rows}
-use Rattle.gltf_textures.specs.TextureTrees.{info_extension_members}
+use Rattle.gltf_textures.specs.Texture.{info_extension_rows, info_extension_members}
 use Rattle.gltf_textures.proofs.extensions.texture.InfoObject.decode_members.Goals as goal
 
 pub returns : goal.returns

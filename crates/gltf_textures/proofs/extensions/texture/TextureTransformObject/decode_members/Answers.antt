@@ -1,7 +1,6 @@
 -- Each row is read in the table's order.
 use Rattle.gltf_schema.proofs.RowByRow.{all_read, read_none, read_row}
-use Rattle.gltf_textures.specs.TextureTable.{texture_transform_rows}
-use Rattle.gltf_textures.specs.TextureTrees.{texture_transform_members}
+use Rattle.gltf_textures.specs.Texture.{texture_transform_rows, texture_transform_members}
 use Rattle.gltf_textures.proofs.extensions.texture.TextureTransformObject.decode_members.Goals as goal
 
 pub returns : goal.returns

@@ -1,7 +1,6 @@
 -- Each row is written in the table's order.
 use Rattle.gltf_schema.proofs.RowsWritten.{all_written, write_none, write_row}
-use Rattle.gltf_textures.specs.TextureTable.{texture_transform_rows}
-use Rattle.gltf_textures.specs.TextureTrees.{texture_transform_members}
+use Rattle.gltf_textures.specs.Texture.{texture_transform_rows, texture_transform_members}
 use Rattle.gltf_textures.proofs.extensions.texture.TextureTransformObject.encode_members.Goals as goal
 
 pub returns : goal.returns

@@ -1,7 +1,7 @@
 -- The fault of the choice is told.
 use Rattle.std.proofs.Common.{sym, ◌∙◌}
 use Rattle.gltf_checked.specs.Spelling.{by_number}
-use Rattle.gltf_root.specs.RootTrees.{root_tree}
+use Rattle.gltf_root.specs.Root.{root_tree}
 use Rattle.gltf_faults.specs.Context.{rules_of, under}
 use Rattle.gltf_validation.proofs.ByTable.{choice-checked}
 use Rattle.gltf_sinks.proofs.Walks.{walked_same}

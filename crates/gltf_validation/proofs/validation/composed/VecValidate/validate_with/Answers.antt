@@ -1,5 +1,5 @@
 -- The items by the table, where it has their kind.
-use Rattle.gltf_root.specs.RootTrees.{root_tree}
+use Rattle.gltf_root.specs.Root.{root_tree}
 use Rattle.gltf_faults.specs.Context.{rules_of, under}
 use Rattle.gltf_validation.proofs.ByTable.{list-each}
 use Rattle.gltf_sinks.proofs.Walks.{walked_same}

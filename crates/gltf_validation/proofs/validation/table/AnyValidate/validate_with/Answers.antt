@@ -1,11 +1,11 @@
 -- The reports that the walk begins with are those of the value.
 use Rattle.std.proofs.Common.{refl, arith, ◌+◌, ◌≤◌, length}
 use Rattle.gltf_paths.specs.Steps.{steps_of}
-use Rattle.gltf_root.specs.RootTrees.{root_tree}
+use Rattle.gltf_root.specs.Root.{root_tree}
 use Rattle.gltf_faults.specs.Context.{rules_of}
 use Rattle.gltf_faults.specs.Reports.{reports_by_rules}
 use Rattle.gltf_sinks.proofs.Walks.{handed-wider}
-use Rattle.gltf_walk.specs.ToCome.{depth_of_descent}
+use Rattle.gltf_walk.specs.ToCome.{depth_in}
 use Rattle.gltf_validation.proofs.validation.table.AnyValidate.validate_with.Goals as goal
 
 pub new-requires : goal.new-requires
@@ -16,6 +16,6 @@ returns-clause-walked g c =
     let s = g.S.Sink in
     let at = length (steps_of c.args.path.now) in
     let handed = rw (c.new.ensures.reports, c.new.ensures.base) at c.hand_over.ensures in
-    let wide : at + depth_of_descent c.new.result ≤ at + g.T.InTable.depth = omega (arith, c.new.ensures.depth, g.met.T.InTable.shallow.0) in
-    let told = reports_by_rules (rules_of c.args.rules.now) g.T.Visited.kind (g.T.Visited.tree c.args.self.now) (root_tree c.args.root.now) (steps_of c.args.path.now) in
+    let wide : at + depth_in c.new.result ≤ at + g.T.InTable.depth = omega (arith, c.new.ensures.depth, g.met.T.InTable.shallow.0) in
+    let told = reports_by_rules (rules_of c.args.rules.now) g.T.Visitable.kind (g.T.Visitable.tree c.args.self.now) (root_tree c.args.root.now) (steps_of c.args.path.now) in
     record { same = refl; handed = handed-wider s.next s.refuses (s.state c.args.sink.now) (s.state c.hand_over.new.sink) told _ _ _ wide handed }

@@ -1,7 +1,6 @@
 -- Each row is written in the table's order.
 use Rattle.gltf_schema.proofs.RowsWritten.{all_written, write_none, write_row}
-use Rattle.gltf_nodes.specs.LightTable.{light_of_node_rows}
-use Rattle.gltf_nodes.specs.LightTrees.{light_of_node_members}
+use Rattle.gltf_nodes.specs.Light.{light_of_node_rows, light_of_node_members}
 use Rattle.gltf_nodes.proofs.extensions.scene.khr_lights_punctual.KhrLightsPunctualObject.encode_members.Goals as goal
 
 pub returns : goal.returns

@@ -1,7 +1,6 @@
 -- Each row is read in the table's order.
 use Rattle.gltf_schema.proofs.RowByRow.{all_read, read_none, read_row}
-use Rattle.gltf_nodes.specs.LightTable.{light_rows}
-use Rattle.gltf_nodes.specs.LightTrees.{light_members}
+use Rattle.gltf_nodes.specs.Light.{light_rows, light_members}
 use Rattle.gltf_nodes.proofs.extensions.scene.khr_lights_punctual.LightObject.decode_members.Goals as goal
 
 pub returns : goal.returns

@@ -1,7 +1,6 @@
 -- Each row is read in the table's order.
 use Rattle.gltf_schema.proofs.RowByRow.{all_read, read_none, read_row}
-use Rattle.gltf_nodes.specs.LightTable.{variant_rows}
-use Rattle.gltf_nodes.specs.LightTrees.{variant_members}
+use Rattle.gltf_nodes.specs.Light.{variant_rows, variant_members}
 use Rattle.gltf_nodes.proofs.extensions.scene.khr_materials_variants.VariantObject.decode_members.Goals as goal
 
 pub returns : goal.returns

@@ -1,7 +1,6 @@
 -- Each row is written in the table's order.
 use Rattle.gltf_schema.proofs.RowsWritten.{all_written, write_none, write_row}
-use Rattle.gltf_nodes.specs.LightTable.{variant_rows}
-use Rattle.gltf_nodes.specs.LightTrees.{variant_members}
+use Rattle.gltf_nodes.specs.Light.{variant_rows, variant_members}
 use Rattle.gltf_nodes.proofs.extensions.scene.khr_materials_variants.VariantObject.encode_members.Goals as goal
 
 pub returns : goal.returns

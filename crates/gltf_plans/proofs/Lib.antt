@@ -1,3 +1,0 @@
-pub mod Past
-pub mod Leaves
-pub mod Items

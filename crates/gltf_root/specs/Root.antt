@@ -1,0 +1,106 @@
+-- The rows of a whole document (glTF 2.0, section 5.17).
+use Rattle.std.specs.Prelude.{◌≡◌, true, false, codes, refl, [], ◌∷◌}
+use Rattle.gltf_paths.specs.Lists.{ListName}
+use Rattle.gltf_schema.specs.Tree.{list, end, Tree, Trees, trees, tree_or_absent}
+use Rattle.gltf_schema.specs.Kind.{required, optional, unless, Kind, IndexInto, Text, Any, ListOf, Object, Rows, no_rows, ◌◂◌, requires_enabled}
+use Rattle.gltf_schema.specs.Sound.{is_sound}
+use Rattle.gltf_schema.specs.Height.{IsHigh}
+use Rattle.gltf_data.specs.Accessor.{accessor_kind, accessor_sound, accessor_height, accessor_members}
+use Rattle.gltf_data.specs.Buffer.{buffer_kind, buffer_sound, view_kind, view_sound, buffer_height, view_height, buffer_members, view_members}
+use Rattle.gltf_data.specs.Image.{image_kind, image_sound, image_height, image_members}
+use Rattle.gltf_textures.specs.Texture.{sampler_kind, sampler_sound, texture_kind, texture_sound, sampler_height, texture_height, sampler_members, texture_members}
+use Rattle.gltf_materials.specs.Material.{material_kind, material_sound, material_height, material_members}
+use Rattle.gltf_meshes.specs.Mesh.{mesh_kind, mesh_sound, mesh_height, mesh_members}
+use Rattle.gltf_root.specs.Asset.{asset_kind, asset_sound, asset_height, asset_members}
+use Rattle.gltf_nodes.specs.Camera.{camera_kind, camera_sound, camera_height, camera_members}
+use Rattle.gltf_nodes.specs.Scene.{node_kind, node_sound, scene_kind, scene_sound, skin_kind, skin_sound, node_height, scene_height, skin_height, node_members, scene_members, skin_members}
+use Rattle.gltf_animations.specs.Animation.{animation_kind, animation_sound, animation_height, animation_members}
+use Rattle.gltf_root.specs.RootExtension.{root_extensions_kind, root_extension_sound, root_extension_height, root_extensions}
+use Rattle.gltf_schema.specs.Defaults.{defaults}
+use Rattle.gltf_schema.specs.Fields.{index_tree, text_tree, any_tree, list_tree, closed_object}
+use Rattle.gltf_root.specs.Named.{put_named}
+use Rattle.gltf_root.specs.declared.root.Root.{Root}
+
+unfoldable pub root_rows : Rows
+root_rows =
+    (codes "accessors", unless (list end), ListOf accessor_kind)
+    ◂ (codes "animations", unless (list end), ListOf animation_kind)
+    ◂ (codes "asset", required, asset_kind)
+    ◂ (codes "buffers", unless (list end), ListOf buffer_kind)
+    ◂ (codes "bufferViews", unless (list end), ListOf view_kind)
+    ◂ (codes "scene", optional, IndexInto ListName.scenes)
+    ◂ (codes "extensions", optional, root_extensions_kind)
+    ◂ (codes "extras", optional, Any)
+    ◂ (codes "extensionsUsed", unless (list end), ListOf Text)
+    ◂ (codes "extensionsRequired", unless (list end), ListOf Text)
+    ◂ (codes "cameras", unless (list end), ListOf camera_kind)
+    ◂ (codes "images", unless (list end), ListOf image_kind)
+    ◂ (codes "materials", unless (list end), ListOf material_kind)
+    ◂ (codes "meshes", unless (list end), ListOf mesh_kind)
+    ◂ (codes "nodes", unless (list end), ListOf node_kind)
+    ◂ (codes "samplers", unless (list end), ListOf sampler_kind)
+    ◂ (codes "scenes", unless (list end), ListOf scene_kind)
+    ◂ (codes "skins", unless (list end), ListOf skin_kind)
+    ◂ (codes "textures", unless (list end), ListOf texture_kind)
+    ◂ no_rows
+
+abbrev pub root_kind : Kind
+root_kind = Object requires_enabled root_rows false
+
+-- ---- the tree of a whole document: its members in the rows' order
+
+unfoldable pub root_members : Root → Trees
+root_members v = trees (
+    list_tree (λ x. closed_object (accessor_members x)) v.accessors.items
+    ∷ list_tree (λ x. closed_object (animation_members x)) v.animations.items
+    ∷ closed_object (asset_members v.asset)
+    ∷ list_tree (λ x. closed_object (buffer_members x)) v.buffers.items
+    ∷ list_tree (λ x. closed_object (view_members x)) v.buffer_views.items
+    ∷ tree_or_absent index_tree v.scene
+    ∷ tree_or_absent root_extensions v.extensions
+    ∷ tree_or_absent any_tree v.extras
+    ∷ list_tree text_tree v.extensions_used.items
+    ∷ list_tree text_tree v.extensions_required.items
+    ∷ list_tree (λ x. closed_object (camera_members x)) v.cameras.items
+    ∷ list_tree (λ x. closed_object (image_members x)) v.images.items
+    ∷ list_tree (λ x. closed_object (material_members x)) v.materials.items
+    ∷ list_tree (λ x. closed_object (mesh_members x)) v.meshes.items
+    ∷ list_tree (λ x. closed_object (node_members x)) v.nodes.items
+    ∷ list_tree (λ x. closed_object (sampler_members x)) v.samplers.items
+    ∷ list_tree (λ x. closed_object (scene_members x)) v.scenes.items
+    ∷ list_tree (λ x. closed_object (skin_members x)) v.skins.items
+    ∷ list_tree (λ x. closed_object (texture_members x)) v.textures.items
+    ∷ [])
+
+abbrev pub root_tree : Root → Tree
+root_tree v = closed_object (root_members v)
+
+-- an asset, and every other member left out
+abbrev pub root_of_asset : Trees → Trees
+root_of_asset asset = put_named (codes "asset") root_rows (closed_object asset) (defaults root_rows)
+
+pub root_sound : is_sound root_kind ≡ true
+unfolding root_rows
+root_sound = rw (
+  accessor_sound,
+  animation_sound,
+  asset_sound,
+  buffer_sound,
+  view_sound,
+  root_extension_sound,
+  camera_sound,
+  image_sound,
+  material_sound,
+  mesh_sound,
+  node_sound,
+  sampler_sound,
+  scene_sound,
+  skin_sound,
+  texture_sound,
+) refl
+
+-- ---- how far down something can be wrong
+
+pub root_height : IsHigh 7 root_kind
+unfolding root_rows
+root_height = rw (accessor_height.0, accessor_height.1, animation_height.0, animation_height.1, asset_height.0, buffer_height.0, view_height.0, view_height.1, root_extension_height.0, root_extension_height.1, camera_height.0, camera_height.1, image_height.0, image_height.1, material_height.0, material_height.1, mesh_height.0, mesh_height.1, node_height.0, node_height.1, sampler_height.0, sampler_height.1, scene_height.0, scene_height.1, skin_height.0, skin_height.1, texture_height.0, texture_height.1) (refl, refl)

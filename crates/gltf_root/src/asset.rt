@@ -1,0 +1,117 @@
+//! What a document says of itself (glTF 2.0, section 5.9).
+
+ghost use Rattle.std.specs.Prelude.{◌≡◌, false, IfOk, codes, None, string_bytes};
+ghost use Rattle.std.proofs.Common.{lit≤};
+ghost use Rattle.serde_json.specs.Data.{no_members};
+ghost use Rattle.gltf_root.specs.Asset.{asset_rows, asset_sound, asset_height, asset_members, asset_of_version};
+
+use crate::extensions;
+use gltf_data::extras::Extras;
+use gltf_schema::{Blank, Error, Object, Reading, Writing};
+use serde_json::{Map, Value};
+use std::alloc::{AllocError, Global};
+
+/// What a document says of itself.
+#[derive(Clone, Debug)]
+pub struct Asset {
+    /// A note for credit to the author.
+    pub copyright: Option<String>,
+    /// The tool that wrote the document.
+    pub generator: Option<String>,
+    /// The least version of glTF that a reader has to know.
+    pub min_version: Option<String>,
+    /// The version of glTF that the document is written for.
+    pub version: String,
+    pub extensions: Option<extensions::asset::Asset>,
+    pub extras: Extras,
+}
+
+// One call drops it, wherever it is held (docs/DECISIONS.md).
+impl Drop for Asset {
+    fn drop(self) {
+        let Asset {
+            copyright: _,
+            generator: _,
+            min_version: _,
+            version: _,
+            extensions: _,
+            extras: _,
+        } = self;
+    }
+}
+
+impl Asset {
+    /// Version `2.0`, and nothing else. `Err` only if memory was refused for that text.
+    #[tactic(auto, unfolding(crate::specs::Asset::asset_members))]
+    pub fn new(alloc: Global) -> Result<Asset, AllocError>
+        ensures { IfOk result (λ a. asset_members a ≡ asset_of_version (codes "2.0")) }
+    {
+        Ok(Asset::of_version(String::from_str(alloc, "2.0")?))
+    }
+
+    /// A version alone.
+    #[tactic(auto, unfolding(crate::specs::Asset::asset_members))]
+    fn of_version(version: String) -> Asset
+        ensures { asset_members result ≡ asset_of_version (string_bytes version) }
+    {
+        Asset {
+            copyright: None,
+            generator: None,
+            min_version: None,
+            version,
+            extensions: None,
+            extras: None,
+        }
+    }
+}
+
+impl Object for Asset {
+    ghost rows = { asset_rows };
+
+    ghost keeps = { false };
+
+    ghost members = { asset_members };
+
+    ghost unknown = { λ _. no_members };
+
+    ghost sound = { asset_sound };
+
+    ghost height = { 0 };
+
+    ghost low = { (asset_height.1, lit≤ tt) };
+
+    fn decode_members(alloc: Global, found: Map<String, Value>) -> Result<Asset, Error> {
+        let mut reading = Reading::from_members(alloc, found);
+        let copyright = reading.optional("copyright");
+        let generator = reading.optional("generator");
+        let min_version = reading.optional("minVersion");
+        let version = reading.required("version");
+        let extensions = reading.optional("extensions");
+        let extras = reading.optional("extras");
+        reading.finish(Asset {
+            copyright,
+            generator,
+            min_version,
+            version,
+            extensions,
+            extras,
+        })
+    }
+
+    fn encode_members(&self, alloc: Global) -> Result<Map<String, Value>, Error> {
+        Writing::new(alloc)
+            .optional("copyright", &self.copyright)
+            .optional("generator", &self.generator)
+            .optional("minVersion", &self.min_version)
+            .always("version", &self.version)
+            .optional("extensions", &self.extensions)
+            .optional("extras", &self.extras)
+            .finish()
+    }
+}
+
+impl Blank for Asset {
+    fn blank(alloc: Global) -> Asset {
+        Asset::of_version(String::new(alloc))
+    }
+}

@@ -1,0 +1,39 @@
+-- What was found at a place is a leaf of its outline.
+use Rattle.std.proofs.Common.{◌≡◌, List, [], ◌∷◌, ◌++◌, Option, Some, None, refl, sym, ◌∙◌}
+use Rattle.gltf_paths.specs.Steps.{Step}
+use Rattle.gltf_paths.specs.declared.validation.Error.{Error}
+use Rattle.gltf_sinks.specs.Report.{From, found_at}
+use Rattle.gltf_checked.specs.Semantics.{checked_key}
+use Rattle.gltf_checked.specs.Spelling.{Spelling, by_number}
+use Rattle.gltf_checked.specs.declared.mesh.Semantic.{Semantic}
+use Rattle.gltf_checked.specs.declared.mesh.Semantic.TheVariants as semantic
+use Rattle.gltf_checked.specs.declared.validation.Checked.{Checked}
+use Rattle.gltf_checked.specs.declared.validation.Checked.TheVariants.{Valid, Invalid}
+use Rattle.gltf_schema.specs.Leaves.{checked_tree}
+use Rattle.gltf_faults.specs.Faults.{choice_faults, key_faults}
+use Rattle.gltf_visits.specs.Outline.{leaf}
+use Rattle.gltf_visits.specs.OutlineOf.{leaf_of, error_of}
+
+pub found_leaf : (f : From) (e : Option Error) (s : Step) → ((base : List Step) → found_at e (base ++ s ∷ []) ≡ f base) → leaf e ≡ leaf_of f
+found_leaf f None s h = rw (sym (h [])) refl
+found_leaf f (Some error) s h = rw (sym (h [])) refl
+
+pub found_error : (f : From) (e : Option Error) → ((base : List Step) → found_at e base ≡ f base) → e ≡ error_of f
+found_error f None h = rw (sym (h [])) refl
+found_error f (Some error) h = rw (sym (h [])) refl
+
+-- an attribute's key is wrong where it is an invalid choice
+key_error : (spell : Semantic → Spelling) (k : Checked Semantic) → error_of (choice_faults (checked_tree spell k)) ≡ error_of (key_faults (checked_key k))
+key_error spell (Valid (semantic.Extras name)) = refl
+key_error spell (Valid semantic.Positions) = refl
+key_error spell (Valid semantic.Normals) = refl
+key_error spell (Valid semantic.Tangents) = refl
+key_error spell (Valid (semantic.Colors set)) = refl
+key_error spell (Valid (semantic.TexCoords set)) = refl
+key_error spell (Valid (semantic.Joints set)) = refl
+key_error spell (Valid (semantic.Weights set)) = refl
+key_error spell Invalid = refl
+
+pub found_key : (k : Checked Semantic) (e : Option Error)
+    → ((spell : Semantic → Spelling) (base : List Step) → found_at e base ≡ choice_faults (checked_tree spell k) base) → e ≡ error_of (key_faults (checked_key k))
+found_key k e h = found_error (choice_faults (checked_tree (λ x. by_number 0) k)) e (h (λ x. by_number 0)) ∙ key_error (λ x. by_number 0) k

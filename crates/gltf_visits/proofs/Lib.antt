@@ -1,0 +1,4 @@
+pub mod Past
+pub mod Leaves
+pub mod Items
+pub mod QuietOutlines

@@ -1,0 +1,37 @@
+-- What an event says of a move, and what a look sees of it.
+use Rattle.std.specs.Prelude.{◌≡◌, ⊤}
+use Rattle.gltf_paths.specs.Steps.{step_of}
+use Rattle.gltf_faults.specs.Context.{Context}
+use Rattle.gltf_visits.specs.ValueRefs.{outline_of}
+use Rattle.gltf_visits.specs.Outline.{Move, down, fault, over, IsQuiet}
+use Rattle.gltf_visits.specs.declared.look.Look.{Look}
+use Rattle.gltf_visits.specs.declared.look.Look.TheVariants as look
+use Rattle.gltf_visits.specs.declared.event.Event.{Event}
+use Rattle.gltf_visits.specs.declared.event.Event.TheVariants as event
+
+-- the move of an event
+abbrev pub move_of : Context → Event → Move
+move_of context (event.Enter s q) = down (step_of s) (outline_of context q)
+move_of context (event.Fault e) = fault e
+move_of context event.End = over
+
+-- an event that is not the end
+abbrev pub IsMore : Event → Type 0
+IsMore event.End = ⊥
+IsMore _ = ⊤
+
+-- the event is the move
+abbrev pub IsGiven : Context → Move → Event → Type 0
+IsGiven context move n = move_of context n ≡ move
+
+-- what a look may see of a move: a step to a quiet value is `Quiet`, the end is `Over`, and any move may be `Loud`
+abbrev pub IsSeen : Move → Look → Type 0
+IsSeen (down s p) look.Quiet = IsQuiet p
+IsSeen over look.Over = ⊤
+IsSeen _ look.Loud = ⊤
+IsSeen _ _ = ⊥
+
+-- a look that is not the end
+abbrev pub IsSomething : Look → Type 0
+IsSomething look.Over = ⊥
+IsSomething _ = ⊤

@@ -1,0 +1,97 @@
+-- The outline of each value of a document.
+use Rattle.std.specs.Prelude.{[], ⊤}
+use Rattle.gltf_animations.specs.Animation.{animation_channel_kind, animation_target_kind, animation_sampler_kind, animation_kind, animation_channel_members, animation_target_members, animation_sampler_members, animation_members}
+use Rattle.gltf_data.specs.Accessor.{accessor_kind, sparse_kind, sparse_indices_kind, sparse_values_kind, accessor_members, sparse_members, sparse_indices_members, sparse_values_members}
+use Rattle.gltf_data.specs.Buffer.{view_kind, view_members}
+use Rattle.gltf_data.specs.Image.{image_kind, image_members}
+use Rattle.gltf_materials.specs.Material.{material_kind, pbr_metallic_roughness_kind, normal_texture_kind, occlusion_texture_kind, material_extensions, material_members, pbr_metallic_roughness_members, normal_texture_members, occlusion_texture_members}
+use Rattle.gltf_meshes.specs.Mesh.{mesh_kind, primitive_kind, morph_target_kind, mesh_members, primitive_members, morph_target_members}
+use Rattle.gltf_nodes.specs.Camera.{camera_kind, camera_members}
+use Rattle.gltf_nodes.specs.Light.{light_kind, light_of_node_kind, light_members, light_of_node_members}
+use Rattle.gltf_nodes.specs.Scene.{node_kind, node_extensions_kind, scene_kind, skin_kind, node_members, node_extensions, scene_members, skin_members}
+use Rattle.gltf_root.specs.RootExtension.{root_extensions_kind, lights_kind, root_extensions, lights_members}
+use Rattle.gltf_root.specs.Root.{root_kind, root_tree}
+use Rattle.gltf_shading.specs.MaterialExtension.{material_extensions_kind, pbr_specular_glossiness_kind, transmission_kind, volume_kind, specular_kind, pbr_specular_glossiness_tree, transmission_members, volume_members, specular_members}
+use Rattle.gltf_textures.specs.Texture.{sampler_kind, texture_kind, info_kind, sampler_members, texture_members, info_members}
+use Rattle.gltf_paths.specs.Lists.{ListName}
+use Rattle.gltf_schema.specs.Fields.{attributes_tree, closed_object, index_tree, list_tree, text_tree}
+use Rattle.gltf_schema.specs.Kind.{Attributes, IndexInto, ListOf}
+use Rattle.gltf_schema.specs.Tree.{absent, items_in}
+use Rattle.gltf_faults.specs.Context.{Context}
+use Rattle.gltf_faults.specs.declared.primitive.PositionFaults.{PositionFaults}
+use Rattle.gltf_visits.specs.Outline.{Outline, place, leaf}
+use Rattle.gltf_visits.specs.OutlineOf.{outline, entry_outline, bounds_outline, at_positions, item_outlines, name_outline}
+use Rattle.gltf_visits.specs.declared.value_ref.ValueRef.{ValueRef}
+use Rattle.gltf_visits.specs.declared.value_ref.ValueRef.TheVariants as value_ref
+
+abbrev pub faults_outline : PositionFaults → Outline
+faults_outline f = bounds_outline f.positions f.min f.max
+
+-- the outline of a value, in a context
+abbrev pub outline_of : Context → ValueRef → Outline
+outline_of context (value_ref.Leaf e) = leaf e
+outline_of context (value_ref.Accessor x) = outline accessor_kind (closed_object (accessor_members x.now)) context absent
+outline_of context (value_ref.Accessors xs) = outline (ListOf accessor_kind) (list_tree (λ x. closed_object (accessor_members x)) xs.now.items) context absent
+outline_of context (value_ref.Sparse x) = outline sparse_kind (closed_object (sparse_members x.now)) context absent
+outline_of context (value_ref.SparseIndices x) = outline sparse_indices_kind (closed_object (sparse_indices_members x.now)) context absent
+outline_of context (value_ref.SparseValues x) = outline sparse_values_kind (closed_object (sparse_values_members x.now)) context absent
+outline_of context (value_ref.View x) = outline view_kind (closed_object (view_members x.now)) context absent
+outline_of context (value_ref.Views xs) = outline (ListOf view_kind) (list_tree (λ x. closed_object (view_members x)) xs.now.items) context absent
+outline_of context (value_ref.Image x) = outline image_kind (closed_object (image_members x.now)) context absent
+outline_of context (value_ref.Images xs) = outline (ListOf image_kind) (list_tree (λ x. closed_object (image_members x)) xs.now.items) context absent
+outline_of context (value_ref.Sampler x) = outline sampler_kind (closed_object (sampler_members x.now)) context absent
+outline_of context (value_ref.Samplers xs) = outline (ListOf sampler_kind) (list_tree (λ x. closed_object (sampler_members x)) xs.now.items) context absent
+outline_of context (value_ref.Texture x) = outline texture_kind (closed_object (texture_members x.now)) context absent
+outline_of context (value_ref.Textures xs) = outline (ListOf texture_kind) (list_tree (λ x. closed_object (texture_members x)) xs.now.items) context absent
+outline_of context (value_ref.Info x) = outline info_kind (closed_object (info_members x.now)) context absent
+outline_of context (value_ref.Material x) = outline material_kind (closed_object (material_members x.now)) context absent
+outline_of context (value_ref.Materials xs) = outline (ListOf material_kind) (list_tree (λ x. closed_object (material_members x)) xs.now.items) context absent
+outline_of context (value_ref.PbrMetallicRoughness x) = outline pbr_metallic_roughness_kind (closed_object (pbr_metallic_roughness_members x.now)) context absent
+outline_of context (value_ref.NormalTexture x) = outline normal_texture_kind (closed_object (normal_texture_members x.now)) context absent
+outline_of context (value_ref.OcclusionTexture x) = outline occlusion_texture_kind (closed_object (occlusion_texture_members x.now)) context absent
+outline_of context (value_ref.MaterialExtensions x) = outline material_extensions_kind (material_extensions x.now) context absent
+outline_of context (value_ref.PbrSpecularGlossiness x) = outline pbr_specular_glossiness_kind (pbr_specular_glossiness_tree x.now) context absent
+outline_of context (value_ref.Transmission x) = outline transmission_kind (closed_object (transmission_members x.now)) context absent
+outline_of context (value_ref.Volume x) = outline volume_kind (closed_object (volume_members x.now)) context absent
+outline_of context (value_ref.Specular x) = outline specular_kind (closed_object (specular_members x.now)) context absent
+outline_of context (value_ref.Mesh x) = outline mesh_kind (closed_object (mesh_members x.now)) context absent
+outline_of context (value_ref.Meshes xs) = outline (ListOf mesh_kind) (list_tree (λ x. closed_object (mesh_members x)) xs.now.items) context absent
+outline_of context (value_ref.Primitive x) = outline primitive_kind (closed_object (primitive_members x.now)) context absent
+outline_of context (value_ref.Primitives xs) = outline (ListOf primitive_kind) (list_tree (λ x. closed_object (primitive_members x)) xs.now.items) context absent
+outline_of context (value_ref.MorphTarget x) = outline morph_target_kind (closed_object (morph_target_members x.now)) context absent
+outline_of context (value_ref.MorphTargets xs) = outline (ListOf morph_target_kind) (list_tree (λ x. closed_object (morph_target_members x)) xs.now.items) context absent
+outline_of context (value_ref.Node x) = outline node_kind (closed_object (node_members x.now)) context absent
+outline_of context (value_ref.Nodes xs) = outline (ListOf node_kind) (list_tree (λ x. closed_object (node_members x)) xs.now.items) context absent
+outline_of context (value_ref.NodeExtensions x) = outline node_extensions_kind (node_extensions x.now) context absent
+outline_of context (value_ref.Scene x) = outline scene_kind (closed_object (scene_members x.now)) context absent
+outline_of context (value_ref.Scenes xs) = outline (ListOf scene_kind) (list_tree (λ x. closed_object (scene_members x)) xs.now.items) context absent
+outline_of context (value_ref.Skin x) = outline skin_kind (closed_object (skin_members x.now)) context absent
+outline_of context (value_ref.Skins xs) = outline (ListOf skin_kind) (list_tree (λ x. closed_object (skin_members x)) xs.now.items) context absent
+outline_of context (value_ref.Camera x) = outline camera_kind (closed_object (camera_members x.now)) context absent
+outline_of context (value_ref.Cameras xs) = outline (ListOf camera_kind) (list_tree (λ x. closed_object (camera_members x)) xs.now.items) context absent
+outline_of context (value_ref.Light x) = outline light_kind (closed_object (light_members x.now)) context absent
+outline_of context (value_ref.Lights xs) = outline (ListOf light_kind) (list_tree (λ x. closed_object (light_members x)) xs.now.items) context absent
+outline_of context (value_ref.NodeLight x) = outline light_of_node_kind (closed_object (light_of_node_members x.now)) context absent
+outline_of context (value_ref.AnimationTarget x) = outline animation_target_kind (closed_object (animation_target_members x.now)) context absent
+outline_of context (value_ref.AnimationSampler x) = outline animation_sampler_kind (closed_object (animation_sampler_members x.now)) context absent
+outline_of context (value_ref.AnimationSamplers xs) = outline (ListOf animation_sampler_kind) (list_tree (λ x. closed_object (animation_sampler_members x)) xs.now.items) context absent
+outline_of context (value_ref.Animation x) = outline animation_kind (closed_object (animation_members x.now)) context absent
+outline_of context (value_ref.Animations xs) = outline (ListOf animation_kind) (list_tree (λ x. closed_object (animation_members x)) xs.now.items) context absent
+outline_of context (value_ref.Root x) = outline root_kind (root_tree x.now) context absent
+outline_of context (value_ref.RootExtensions x) = outline root_extensions_kind (root_extensions x.now) context absent
+outline_of context (value_ref.RootLights x) = outline lights_kind (closed_object (lights_members x.now)) context absent
+outline_of context (value_ref.NodeIndexes xs) = outline (ListOf (IndexInto ListName.nodes)) (list_tree index_tree xs.now.items) context absent
+outline_of context (value_ref.Channels a) =
+    outline (ListOf animation_channel_kind) (list_tree (λ x. closed_object (animation_channel_members x)) a.now.channels.items) context (closed_object (animation_members a.now))
+outline_of context (value_ref.Channel x a) = outline animation_channel_kind (closed_object (animation_channel_members x.now)) context (closed_object (animation_members a.now))
+outline_of context (value_ref.Attributes m) = outline (Attributes ListName.accessors) (attributes_tree m.now) context absent
+outline_of context (value_ref.Attribute k i) = entry_outline k i
+outline_of context (value_ref.AtPositions f) = at_positions (faults_outline f)
+outline_of context (value_ref.Positions f) = faults_outline f
+outline_of context (value_ref.RequiredExtensions xs) = place (item_outlines (name_outline context.rules.enabled) 0 (items_in (list_tree text_tree xs.now.items))) []
+outline_of context (value_ref.RequiredExtension x) = name_outline context.rules.enabled (text_tree x.now)
+
+-- a value whose moves are numbered; attributes are gone through by their keys
+abbrev pub IsNumbered : ValueRef → Type 0
+IsNumbered (value_ref.Attributes m) = ⊥
+IsNumbered _ = ⊤

@@ -1,0 +1,27 @@
+//! Runs each example in turn, over the documents in `data/`. Each module is a whole program: copied
+//! to `src/main.rt` of another crate it runs by itself.
+#![tactic(auto)]
+
+mod builder;
+mod checker;
+mod exporter;
+mod glb;
+mod linter;
+mod loader;
+
+use anyhow::Result;
+
+fn main(rt: HostRuntime) -> Result<()> {
+    println!(rt; "# checker")?;
+    checker::main(rt)?;
+    println!(rt; "# loader")?;
+    loader::main(rt)?;
+    println!(rt; "# glb")?;
+    glb::main(rt)?;
+    println!(rt; "# exporter")?;
+    exporter::main(rt)?;
+    println!(rt; "# builder")?;
+    builder::main(rt)?;
+    println!(rt; "# linter")?;
+    linter::main(rt)
+}

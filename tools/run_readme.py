@@ -1,0 +1,117 @@
+"""Compares README.md with the files that it shows.
+
+`python3 tools/run_readme.py` checks in a moment, without the toolchain: each Rust program is an
+example of `gltf_examples`, each document is a file of `examples/`, each output is part of what
+`rt ci` compares as the output of `gltf_examples`, and README has at most 900 words.
+`--run` also runs its programs and its first command by `rt try`, which takes some minutes.
+"""
+import re
+import shutil
+import subprocess
+import sys
+import tempfile
+from pathlib import Path
+
+ROOT = Path(__file__).resolve().parent.parent
+EXAMPLES = ROOT / "crates" / "gltf_examples"
+MOST_WORDS = 900
+BLOCK = re.compile(r"^```(\w+)\n(.*?)^```$", re.S | re.M)
+
+
+def program_of(example):
+    """An example as README shows it: without its first comment, and with `fn main`."""
+    lines = [line for line in example.read_text().split("\n") if not line.startswith("//!")]
+    return "\n".join(lines).replace("pub fn main", "fn main")
+
+
+class Readme:
+    def __init__(self):
+        self.text = (ROOT / "README.md").read_text()
+        self.faults = []
+        self.blocks = {}
+        for language, body in BLOCK.findall(self.text):
+            self.blocks.setdefault(language, []).append(body)
+        # What each example prints.
+        parts = re.split(r"^# (\w+)\n", (EXAMPLES / "stdout").read_text(), flags=re.M)
+        self.outputs = dict(zip(parts[1::2], parts[2::2]))
+        self.programs = {}
+
+    def expect(self, holds, fault):
+        if not holds:
+            self.faults.append(fault)
+
+    def check(self):
+        examples = {program_of(file): file.stem for file in (EXAMPLES / "src").glob("*.rt")}
+        for body in self.blocks.get("rust", []):
+            name = examples.get(body)
+            self.expect(name, f"no example is this program:\n{body}")
+            if name:
+                self.programs[name] = body
+        documents = {file.read_text() for file in (ROOT / "examples").glob("*.gltf")}
+        for body in self.blocks.get("json", []):
+            self.expect(body in documents, f"no file of examples/ is this document:\n{body}")
+        for body in self.blocks.get("text", []):
+            printed = any(body in output for output in self.outputs.values())
+            self.expect(printed, f"no example prints this:\n{body}")
+        for file in (EXAMPLES / "data").glob("*.gltf"):
+            shown = ROOT / "examples" / file.name
+            same = not shown.exists() or shown.read_text() == file.read_text()
+            self.expect(same, f"{file} differs from {shown}")
+        for path in re.findall(r"`((?:docs|crates|examples|tools)/[\w./]*\w)`", self.text):
+            there = (ROOT / path).exists() or "/my_" in path
+            self.expect(there, f"README names {path}, which isn't there")
+        words = len(self.text.split())
+        self.expect(words <= MOST_WORDS, f"README has {words} words")
+
+    def run(self):
+        """Runs README's programs as crates of a copy, and its first command."""
+        self.run_first_command()
+        lines = dict(re.findall(r"`(my_\w+): ([\w ]+)`", self.text))
+        with tempfile.TemporaryDirectory() as folder:
+            copy = Path(folder)
+            shutil.copytree(ROOT / "crates", copy / "crates", ignore=shutil.ignore_patterns("out"))
+            listed = (ROOT / "crates.txt").read_text()
+            listed += "".join(f"{name}: {uses}\n" for name, uses in lines.items())
+            (copy / "crates.txt").write_text(listed)
+            shutil.copy(ROOT / "HANDLES", copy)
+            shutil.copytree(ROOT / "examples", copy / "examples")
+            for name, body in self.programs.items():
+                self.expect(f"my_{name}" in lines, f"README has no line for my_{name}")
+                source = copy / "crates" / f"my_{name}" / "src"
+                source.mkdir(parents=True)
+                (source / "main.rt").write_text(body)
+            for name, body in self.programs.items():
+                self.run_program(copy / "crates" / f"my_{name}", name, body)
+
+    def run_program(self, crate, name, body):
+        # The files that README gives to a program are those that it reads.
+        options = re.findall(r"`rt try (--data (\S+?)=\S+)`", self.text)
+        given = [words.split() for words, file in options if f'"{file}"' in body]
+        printed = self.tried(crate, options=sum(given, []))
+        self.expect(printed == self.outputs[name], f"my_{name} printed:\n{printed}")
+
+    def run_first_command(self):
+        command = re.search(r"cd (\S+) && rt try < (\S+)\)", self.text)
+        crate = ROOT / command.group(1)
+        printed = self.tried(crate, (crate / command.group(2)).read_bytes())
+        self.expect(printed in self.blocks["text"], f"{command.group()} printed:\n{printed}")
+
+    def tried(self, crate, given=b"", options=()):
+        """What `rt try` prints of a crate."""
+        ran = subprocess.run(["rt", "try", *options], cwd=crate, input=given, capture_output=True)
+        return ran.stdout.decode()
+
+
+def main():
+    readme = Readme()
+    readme.check()
+    if "--run" in sys.argv[1:] and not readme.faults:
+        readme.run()
+    for fault in readme.faults:
+        print(fault)
+    print("README is right" if not readme.faults else f"{len(readme.faults)} faults in README")
+    sys.exit(1 if readme.faults else 0)
+
+
+if __name__ == "__main__":
+    main()

@@ -14,7 +14,7 @@ use gltf_base::{Index, Listed};
 use gltf_data::accessor::Accessor;
 use gltf_data::extras::Extras;
 use gltf_nodes::scene::Node;
-use gltf_schema::{Blank, Error, Object, Reading, Writing};
+use gltf_schema::{Blank, Error, Object, Reading, Source, Writing};
 use serde_json::{Map, Value};
 use std::alloc::Global;
 
@@ -64,8 +64,8 @@ impl Object for Animation {
 
     ghost low = { (animation_height.1, lit≤ tt) };
 
-    fn decode_members(alloc: Global, found: Map<String, Value>) -> Result<Animation, Error> {
-        let mut reading = Reading::from_members(alloc, found);
+    fn decode_members<S: Source>(alloc: Global, found: S::Fields) -> Result<Animation, Error> {
+        let mut reading = Reading::<S>::from_members(alloc, found);
         let samplers = reading.list("samplers");
         let channels = reading.list("channels");
         let name = reading.optional("name");
@@ -117,8 +117,8 @@ impl Object for Channel {
 
     ghost low = { (animation_channel_height.1, lit≤ tt) };
 
-    fn decode_members(alloc: Global, found: Map<String, Value>) -> Result<Channel, Error> {
-        let mut reading = Reading::from_members(alloc, found);
+    fn decode_members<S: Source>(alloc: Global, found: S::Fields) -> Result<Channel, Error> {
+        let mut reading = Reading::<S>::from_members(alloc, found);
         let sampler: u32 = reading.required("sampler");
         let target = reading.required("target");
         let extensions = reading.optional("extensions");
@@ -166,8 +166,8 @@ impl Object for Target {
 
     ghost low = { (animation_target_height.1, lit≤ tt) };
 
-    fn decode_members(alloc: Global, found: Map<String, Value>) -> Result<Target, Error> {
-        let mut reading = Reading::from_members(alloc, found);
+    fn decode_members<S: Source>(alloc: Global, found: S::Fields) -> Result<Target, Error> {
+        let mut reading = Reading::<S>::from_members(alloc, found);
         let node = reading.required("node");
         let path = reading.required("path");
         let extensions = reading.optional("extensions");
@@ -229,8 +229,8 @@ impl Object for Sampler {
 
     ghost low = { (animation_sampler_height.1, lit≤ tt) };
 
-    fn decode_members(alloc: Global, found: Map<String, Value>) -> Result<Sampler, Error> {
-        let mut reading = Reading::from_members(alloc, found);
+    fn decode_members<S: Source>(alloc: Global, found: S::Fields) -> Result<Sampler, Error> {
+        let mut reading = Reading::<S>::from_members(alloc, found);
         let input = reading.required("input");
         let interpolation = reading.or_default(
             "interpolation",

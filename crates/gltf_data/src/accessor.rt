@@ -13,7 +13,7 @@ use crate::extras::Extras;
 use gltf_base::accessor::{AccessorType, GenericComponentType};
 use gltf_base::validation::{Checked, USize64};
 use gltf_base::{Index, Listed};
-use gltf_schema::{Error, Object, Reading, Writing};
+use gltf_schema::{Error, Object, Reading, Source, Writing};
 use serde_json::{Map, Value};
 use std::alloc::Global;
 
@@ -87,8 +87,8 @@ impl Object for Accessor {
 
     ghost low = { (accessor_height.1, lit≤ tt) };
 
-    fn decode_members(alloc: Global, found: Map<String, Value>) -> Result<Accessor, Error> {
-        let mut reading = Reading::from_members(alloc, found);
+    fn decode_members<S: Source>(alloc: Global, found: S::Fields) -> Result<Accessor, Error> {
+        let mut reading = Reading::<S>::from_members(alloc, found);
         let buffer_view = reading.optional("bufferView");
         let byte_offset = reading.optional("byteOffset");
         let count = reading.required("count");

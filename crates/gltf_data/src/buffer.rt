@@ -12,7 +12,7 @@ use crate::extras::Extras;
 use gltf_base::buffer::Target;
 use gltf_base::validation::{Checked, USize64};
 use gltf_base::{Index, Listed};
-use gltf_schema::{Error, Object, Reading, Schema, Tabled, Writing};
+use gltf_schema::{Error, Object, Reading, Schema, Source, Tabled, Writing};
 use serde_json::{Map, Value};
 use std::alloc::Global;
 
@@ -29,8 +29,8 @@ impl Tabled for Stride {
 impl Schema for Stride {
     ghost present = { λ _. refl };
 
-    fn decode(_alloc: Global, value: Value) -> Result<Stride, Error> {
-        Ok(Stride(value.as_u64().ok_or(Error::Schema)? as usize))
+    fn decode_from<S: Source>(_alloc: Global, source: S) -> Result<Stride, Error> {
+        Ok(Stride(source.whole().ok_or(Error::Schema)? as usize))
     }
 
     fn encode(&self, _alloc: Global) -> Result<Value, Error> {
@@ -82,8 +82,8 @@ impl Object for Buffer {
 
     ghost low = { (buffer_height.1, lit≤ tt) };
 
-    fn decode_members(alloc: Global, found: Map<String, Value>) -> Result<Buffer, Error> {
-        let mut reading = Reading::from_members(alloc, found);
+    fn decode_members<S: Source>(alloc: Global, found: S::Fields) -> Result<Buffer, Error> {
+        let mut reading = Reading::<S>::from_members(alloc, found);
         let byte_length = reading.or_default("byteLength", USize64(0));
         let name = reading.optional("name");
         let uri = reading.optional("uri");
@@ -165,8 +165,8 @@ impl Object for View {
 
     ghost low = { (view_height.1, lit≤ tt) };
 
-    fn decode_members(alloc: Global, found: Map<String, Value>) -> Result<View, Error> {
-        let mut reading = Reading::from_members(alloc, found);
+    fn decode_members<S: Source>(alloc: Global, found: S::Fields) -> Result<View, Error> {
+        let mut reading = Reading::<S>::from_members(alloc, found);
         let buffer = reading.required("buffer");
         let byte_length = reading.required("byteLength");
         let byte_offset = reading.optional("byteOffset");

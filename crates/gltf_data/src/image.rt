@@ -11,7 +11,7 @@ use crate::buffer::View;
 use crate::extensions;
 use crate::extras::Extras;
 use gltf_base::{Index, Listed};
-use gltf_schema::{Error, Object, Reading, Schema, Tabled, Writing};
+use gltf_schema::{Error, Object, Reading, Schema, Source, Tabled, Writing};
 use serde_json::{Map, Value};
 use std::alloc::Global;
 
@@ -28,8 +28,8 @@ impl Tabled for MimeType {
 impl Schema for MimeType {
     ghost present = { λ _. refl };
 
-    fn decode(alloc: Global, value: Value) -> Result<MimeType, Error> {
-        Ok(MimeType(String::decode(alloc, value)?))
+    fn decode_from<S: Source>(alloc: Global, source: S) -> Result<MimeType, Error> {
+        Ok(MimeType(String::decode_from(alloc, source)?))
     }
 
     fn encode(&self, alloc: Global) -> Result<Value, Error> {
@@ -84,8 +84,8 @@ impl Object for Image {
 
     ghost low = { (image_height.1, lit≤ tt) };
 
-    fn decode_members(alloc: Global, found: Map<String, Value>) -> Result<Image, Error> {
-        let mut reading = Reading::from_members(alloc, found);
+    fn decode_members<S: Source>(alloc: Global, found: S::Fields) -> Result<Image, Error> {
+        let mut reading = Reading::<S>::from_members(alloc, found);
         let buffer_view = reading.optional("bufferView");
         let mime_type = reading.optional("mimeType");
         let name = reading.optional("name");

@@ -14,7 +14,7 @@ use gltf_base::material::AlphaMode;
 use gltf_base::validation::Checked;
 use gltf_base::{Index, Listed, Real};
 use gltf_data::extras::Extras;
-use gltf_schema::{Blank, Error, Object, Reading, Schema, Tabled, Writing};
+use gltf_schema::{Blank, Error, Object, Reading, Schema, Source, Tabled, Writing};
 use gltf_shading::extensions;
 use gltf_shading::material::StrengthFactor;
 use gltf_textures::texture::{Info, Texture};
@@ -105,8 +105,8 @@ impl Object for Material {
 
     ghost low = { (material_height.1, lit≤ tt) };
 
-    fn decode_members(alloc: Global, found: Map<String, Value>) -> Result<Material, Error> {
-        let mut reading = Reading::from_members(alloc, found);
+    fn decode_members<S: Source>(alloc: Global, found: S::Fields) -> Result<Material, Error> {
+        let mut reading = Reading::<S>::from_members(alloc, found);
         let alpha_cutoff = reading.optional("alphaCutoff");
         let alpha_mode = reading.or_default("alphaMode", Checked::Valid(AlphaMode::Opaque));
         let double_sided = reading.or_default("doubleSided", false);
@@ -218,11 +218,11 @@ impl Object for PbrMetallicRoughness {
 
     ghost low = { (pbr_metallic_roughness_height.1, lit≤ tt) };
 
-    fn decode_members(
+    fn decode_members<S: Source>(
         alloc: Global,
-        found: Map<String, Value>,
+        found: S::Fields,
     ) -> Result<PbrMetallicRoughness, Error> {
-        let mut reading = Reading::from_members(alloc, found);
+        let mut reading = Reading::<S>::from_members(alloc, found);
         let base_color_factor = reading.sometimes("baseColorFactor");
         let base_color_texture = reading.optional("baseColorTexture");
         let metallic_factor = reading.sometimes("metallicFactor");
@@ -301,8 +301,8 @@ impl Object for NormalTexture {
 
     ghost low = { (normal_texture_height.1, lit≤ tt) };
 
-    fn decode_members(alloc: Global, found: Map<String, Value>) -> Result<NormalTexture, Error> {
-        let mut reading = Reading::from_members(alloc, found);
+    fn decode_members<S: Source>(alloc: Global, found: S::Fields) -> Result<NormalTexture, Error> {
+        let mut reading = Reading::<S>::from_members(alloc, found);
         let index = reading.required("index");
         let scale = reading.sometimes("scale");
         let tex_coord = reading.or_default("texCoord", 0);
@@ -369,8 +369,11 @@ impl Object for OcclusionTexture {
 
     ghost low = { (occlusion_texture_height.1, lit≤ tt) };
 
-    fn decode_members(alloc: Global, found: Map<String, Value>) -> Result<OcclusionTexture, Error> {
-        let mut reading = Reading::from_members(alloc, found);
+    fn decode_members<S: Source>(
+        alloc: Global,
+        found: S::Fields,
+    ) -> Result<OcclusionTexture, Error> {
+        let mut reading = Reading::<S>::from_members(alloc, found);
         let index = reading.required("index");
         let strength = reading.sometimes("strength");
         let tex_coord = reading.or_default("texCoord", 0);
@@ -409,8 +412,8 @@ impl Tabled for AlphaCutoff {
 impl Schema for AlphaCutoff {
     ghost present = { λ _. refl };
 
-    fn decode(alloc: Global, value: Value) -> Result<AlphaCutoff, Error> {
-        Ok(AlphaCutoff(Real::decode(alloc, value)?))
+    fn decode_from<S: Source>(alloc: Global, source: S) -> Result<AlphaCutoff, Error> {
+        Ok(AlphaCutoff(Real::decode_from(alloc, source)?))
     }
 
     fn encode(&self, alloc: Global) -> Result<Value, Error> {

@@ -14,7 +14,7 @@ use gltf_base::{Index, Listed, Real};
 use gltf_data::accessor::Accessor;
 use gltf_data::extras::Extras;
 use gltf_materials::material::Material;
-use gltf_schema::{Error, Object, Reading, Writing};
+use gltf_schema::{Error, Object, Reading, Source, Writing};
 use serde_json::{Map, Value};
 use std::alloc::Global;
 use std::collections::BTreeMap;
@@ -64,8 +64,8 @@ impl Object for Mesh {
 
     ghost low = { (mesh_height.1, lit≤ tt) };
 
-    fn decode_members(alloc: Global, found: Map<String, Value>) -> Result<Mesh, Error> {
-        let mut reading = Reading::from_members(alloc, found);
+    fn decode_members<S: Source>(alloc: Global, found: S::Fields) -> Result<Mesh, Error> {
+        let mut reading = Reading::<S>::from_members(alloc, found);
         let extensions = reading.optional("extensions");
         let extras = reading.optional("extras");
         let name = reading.optional("name");
@@ -126,8 +126,8 @@ impl Object for Primitive {
 
     ghost low = { (primitive_height.1, lit≤ tt) };
 
-    fn decode_members(alloc: Global, found: Map<String, Value>) -> Result<Primitive, Error> {
-        let mut reading = Reading::from_members(alloc, found);
+    fn decode_members<S: Source>(alloc: Global, found: S::Fields) -> Result<Primitive, Error> {
+        let mut reading = Reading::<S>::from_members(alloc, found);
         let attributes = reading.required("attributes");
         let extensions = reading.optional("extensions");
         let extras = reading.optional("extras");
@@ -185,8 +185,8 @@ impl Object for MorphTarget {
 
     ghost low = { (morph_target_height.1, lit≤ tt) };
 
-    fn decode_members(alloc: Global, found: Map<String, Value>) -> Result<MorphTarget, Error> {
-        let mut reading = Reading::from_members(alloc, found);
+    fn decode_members<S: Source>(alloc: Global, found: S::Fields) -> Result<MorphTarget, Error> {
+        let mut reading = Reading::<S>::from_members(alloc, found);
         let positions = reading.optional("POSITION");
         let normals = reading.optional("NORMAL");
         let tangents = reading.optional("TANGENT");

@@ -12,7 +12,7 @@ use gltf_base::camera::CameraType;
 use gltf_base::validation::Checked;
 use gltf_base::{Listed, Real};
 use gltf_data::extras::Extras;
-use gltf_schema::{Error, Object, Reading, Writing};
+use gltf_schema::{Error, Object, Reading, Source, Writing};
 use serde_json::{Map, Value};
 use std::alloc::Global;
 
@@ -66,8 +66,8 @@ impl Object for Camera {
 
     ghost low = { (camera_height.1, lit≤ tt) };
 
-    fn decode_members(alloc: Global, found: Map<String, Value>) -> Result<Camera, Error> {
-        let mut reading = Reading::from_members(alloc, found);
+    fn decode_members<S: Source>(alloc: Global, found: S::Fields) -> Result<Camera, Error> {
+        let mut reading = Reading::<S>::from_members(alloc, found);
         let name = reading.optional("name");
         let orthographic = reading.optional("orthographic");
         let perspective = reading.optional("perspective");
@@ -126,8 +126,8 @@ impl Object for Orthographic {
 
     ghost low = { (orthographic_height.1, lit≤ tt) };
 
-    fn decode_members(alloc: Global, found: Map<String, Value>) -> Result<Orthographic, Error> {
-        let mut reading = Reading::from_members(alloc, found);
+    fn decode_members<S: Source>(alloc: Global, found: S::Fields) -> Result<Orthographic, Error> {
+        let mut reading = Reading::<S>::from_members(alloc, found);
         let xmag = reading.required("xmag");
         let ymag = reading.required("ymag");
         let zfar = reading.required("zfar");
@@ -186,8 +186,8 @@ impl Object for Perspective {
 
     ghost low = { (perspective_height.1, lit≤ tt) };
 
-    fn decode_members(alloc: Global, found: Map<String, Value>) -> Result<Perspective, Error> {
-        let mut reading = Reading::from_members(alloc, found);
+    fn decode_members<S: Source>(alloc: Global, found: S::Fields) -> Result<Perspective, Error> {
+        let mut reading = Reading::<S>::from_members(alloc, found);
         let aspect_ratio = reading.optional("aspectRatio");
         let yfov = reading.required("yfov");
         let zfar = reading.optional("zfar");

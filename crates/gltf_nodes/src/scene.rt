@@ -14,7 +14,7 @@ use crate::skin::Skin;
 use gltf_base::{Index, Listed, Real};
 use gltf_data::extras::Extras;
 use gltf_meshes::mesh::Mesh;
-use gltf_schema::{Error, Object, Reading, Schema, Tabled, Writing};
+use gltf_schema::{Error, Object, Reading, Schema, Source, Tabled, Writing};
 use serde_json::{Map, Value};
 use std::alloc::Global;
 
@@ -105,8 +105,8 @@ impl Object for Node {
 
     ghost low = { (node_height.1, lit≤ tt) };
 
-    fn decode_members(alloc: Global, found: Map<String, Value>) -> Result<Node, Error> {
-        let mut reading = Reading::from_members(alloc, found);
+    fn decode_members<S: Source>(alloc: Global, found: S::Fields) -> Result<Node, Error> {
+        let mut reading = Reading::<S>::from_members(alloc, found);
         let camera = reading.optional("camera");
         let children = reading.optional("children");
         let extensions = reading.optional("extensions");
@@ -195,8 +195,8 @@ impl Object for Scene {
 
     ghost low = { (scene_height.1, lit≤ tt) };
 
-    fn decode_members(alloc: Global, found: Map<String, Value>) -> Result<Scene, Error> {
-        let mut reading = Reading::from_members(alloc, found);
+    fn decode_members<S: Source>(alloc: Global, found: S::Fields) -> Result<Scene, Error> {
+        let mut reading = Reading::<S>::from_members(alloc, found);
         let extensions = reading.optional("extensions");
         let extras = reading.optional("extras");
         let name = reading.optional("name");
@@ -246,8 +246,8 @@ impl Tabled for UnitQuaternion {
 impl Schema for UnitQuaternion {
     ghost present = { λ _. refl };
 
-    fn decode(alloc: Global, value: Value) -> Result<UnitQuaternion, Error> {
-        Ok(UnitQuaternion(Schema::decode(alloc, value)?))
+    fn decode_from<S: Source>(alloc: Global, source: S) -> Result<UnitQuaternion, Error> {
+        Ok(UnitQuaternion(Schema::decode_from(alloc, source)?))
     }
 
     fn encode(&self, alloc: Global) -> Result<Value, Error> {

@@ -11,7 +11,7 @@ use crate::scene::Node;
 use gltf_base::{Index, Listed};
 use gltf_data::accessor::Accessor;
 use gltf_data::extras::Extras;
-use gltf_schema::{Error, Object, Reading, Writing};
+use gltf_schema::{Error, Object, Reading, Source, Writing};
 use serde_json::{Map, Value};
 use std::alloc::Global;
 
@@ -64,8 +64,8 @@ impl Object for Skin {
 
     ghost low = { (skin_height.1, lit≤ tt) };
 
-    fn decode_members(alloc: Global, found: Map<String, Value>) -> Result<Skin, Error> {
-        let mut reading = Reading::from_members(alloc, found);
+    fn decode_members<S: Source>(alloc: Global, found: S::Fields) -> Result<Skin, Error> {
+        let mut reading = Reading::<S>::from_members(alloc, found);
         let extensions = reading.optional("extensions");
         let extras = reading.optional("extras");
         let inverse_bind_matrices = reading.optional("inverseBindMatrices");

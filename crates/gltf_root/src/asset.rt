@@ -7,7 +7,7 @@ ghost use Rattle.gltf_root.specs.Asset.{asset_rows, asset_sound, asset_height, a
 
 use crate::extensions;
 use gltf_data::extras::Extras;
-use gltf_schema::{Blank, Error, Object, Reading, Writing};
+use gltf_schema::{Blank, Error, Object, Reading, Source, Writing};
 use serde_json::{Map, Value};
 use std::alloc::{AllocError, Global};
 
@@ -80,8 +80,8 @@ impl Object for Asset {
 
     ghost low = { (asset_height.1, lit≤ tt) };
 
-    fn decode_members(alloc: Global, found: Map<String, Value>) -> Result<Asset, Error> {
-        let mut reading = Reading::from_members(alloc, found);
+    fn decode_members<S: Source>(alloc: Global, found: S::Fields) -> Result<Asset, Error> {
+        let mut reading = Reading::<S>::from_members(alloc, found);
         let copyright = reading.optional("copyright");
         let generator = reading.optional("generator");
         let min_version = reading.optional("minVersion");

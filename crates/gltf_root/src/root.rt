@@ -20,7 +20,7 @@ use gltf_meshes::mesh::Mesh;
 use gltf_nodes::camera::Camera;
 use gltf_nodes::scene::{Node, Scene};
 use gltf_nodes::skin::Skin;
-use gltf_schema::{Error, Object, Reading, Writing};
+use gltf_schema::{Error, Object, Reading, Source, Writing};
 use gltf_textures::texture::{self, Texture};
 use serde_json::{Map, Value};
 use std::alloc::{AllocError, Global};
@@ -144,8 +144,8 @@ impl Object for Root {
 
     ghost low = { (root_height.1, lit≤ tt) };
 
-    fn decode_members(alloc: Global, found: Map<String, Value>) -> Result<Root, Error> {
-        let mut reading = Reading::from_members(alloc, found);
+    fn decode_members<S: Source>(alloc: Global, found: S::Fields) -> Result<Root, Error> {
+        let mut reading = Reading::<S>::from_members(alloc, found);
         let accessors = reading.list("accessors");
         let animations = reading.list("animations");
         let asset = reading.required("asset");

@@ -1,6 +1,6 @@
 -- Items read in turn.
-use Rattle.std.proofs.Common.{◌≡◌, List, [], ◌∷◌, ◌++◌, Option, Some, None, option_map, refl, ap, ◌∙◌}
-use Rattle.serde_json.specs.Data.{Data, Items, item}
+use Rattle.std.proofs.Common.{◌≡◌, ℕ, suc, List, [], ◌∷◌, ◌++◌, Option, Some, None, option_map, refl, ap, ◌∙◌}
+use Rattle.serde_json.specs.Data.{Data, Items, no_items, item}
 use Rattle.gltf_paths.specs.declared.error.Error.{Error}
 use Rattle.gltf_schema.specs.Tree.{Tree, end, with_tree, trees}
 use Rattle.gltf_schema.specs.Read.{read_items}
@@ -26,6 +26,11 @@ onto_none cons (x ∷ xs) = ap (option_map (cons x)) (onto_none cons xs)
 pub onto_end : (ts : List Tree) → onto with_tree ts (Some end) ≡ Some (trees ts)
 onto_end [] = refl
 onto_end (x ∷ ts) = ap (option_map (with_tree x)) (onto_end ts)
+
+-- how many items there are
+abbrev pub count : Items → ℕ
+count no_items = 0
+count (item d ds) = suc (count ds)
 
 pub read_next : (f : Data → Option Tree) (ts : List Tree) (t : Tree) (d : Data) (ds : Items) → f d ≡ Some t → onto with_tree (ts ++ t ∷ []) (read_items f ds) ≡ onto with_tree ts (read_items f (item d ds))
 read_next f ts t d ds h = onto_push with_tree ts t (read_items f ds) ∙ ap (onto with_tree ts) (rw h refl)

@@ -3,6 +3,7 @@ use Rattle.std.proofs.Common.{◌≡◌, ℕ, List, Option, Some, None, option_m
 use Rattle.serde_json.specs.Data.{Data, Members, no_members}
 use Rattle.serde_json.specs.Find.{get_member}
 use Rattle.gltf_paths.specs.declared.error.Error.{Error}
+use Rattle.gltf_paths.specs.declared.error.Error.TheVariants as errors
 use Rattle.gltf_schema.specs.Outcome.{Reads, Refuses}
 use Rattle.gltf_schema.specs.Maybe.{◌>>=◌}
 use Rattle.gltf_schema.specs.Tree.{Tree, whole, index, Trees, end, with_tree}
@@ -82,6 +83,20 @@ all_refused e rows keeps ms h = refused e _ (take_rows rows ms) h
 rows_read : (s s' : Result Members Error) (rows : Rows) (ts : Trees) (ms : Members) → s ≡ Ok ms → RowsFrom s rows ts s' → Reads (λ left. (ts, left)) s' (take_rows rows ms)
 rows_read s s' rows ts ms is h = subst (λ (r : Result Members Error). RowsFrom r rows ts s') is h
 
+abbrev first_of : Option (Members × Members) → Members
+first_of None = no_members
+first_of (Some p) = p.0
+
+-- what there is is refused for memory alone
+memory_only : {A B : Type 0} (e : Error) (a : A) (read : Option B) → Refuses e (Some a) → Refuses e read
+memory_only (errors.Memory e) a read h = h
+memory_only errors.Schema a read h = absurd cc
+memory_only errors.Json a read h = absurd h
+memory_only errors.InvalidItem a read h = absurd h
+memory_only errors.Read a read h = absurd h
+memory_only errors.Write a read h = absurd h
+memory_only errors.TooLong a read h = absurd h
+
 closed : {X : Type 0} (members : X → Trees) (x : X) (r : Result X Error) (rows : Rows) (ms : Members) (s : Result Members Error)
     → Reads (λ left. (members x, left)) s (take_rows rows ms) → FinishFrom s x r → Reads (λ y. (members y, no_members)) r (take_all rows false ms)
 closed {X} members x r rows ms (Ok rest) h is = rw is (all_taken rows false ms rest (members x) h)
@@ -89,8 +104,10 @@ closed {X} members x r rows ms (Err e) h is = rw is (all_refused e rows false ms
 
 kept : {X : Type 0} (members : X → Trees) (unknown : X → Members) (x : X) (r : Result X Error) (rows : Rows) (ms : Members) (s s' : Result Members Error)
     → Reads (λ left. (members x, left)) s (take_rows rows ms) → OthersFrom s (unknown x) s' → FinishFrom s' x r → Reads (λ y. (members y, unknown y)) r (take_all rows true ms)
-kept {X} members unknown x r rows ms (Ok rest) s' h taken is =
-    rw (subst (λ (o : Result Members Error). FinishFrom o x r) taken.1 is, taken.0) (all_taken rows true ms rest (members x) h)
+kept {X} members unknown x r rows ms (Ok rest) (Ok after) h taken is =
+    let same : unknown x ≡ rest = sym (ap first_of taken) in
+    rw (is, same) (all_taken rows true ms rest (members x) h)
+kept {X} members unknown x r rows ms (Ok rest) (Err e) h taken is = rw is (memory_only e _ _ taken)
 kept {X} members unknown x r rows ms (Err e) s' h taken is =
     rw (subst (λ (o : Result Members Error). FinishFrom o x r) taken is) (all_refused e rows true ms h)
 

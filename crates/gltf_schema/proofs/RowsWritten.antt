@@ -17,8 +17,7 @@ use Rattle.gltf_schema.specs.Kind.{Mark, required, unless, Kind, IndexInto, Sour
 use Rattle.gltf_schema.specs.Write.{write_rows}
 use Rattle.gltf_schema.specs.Invalid.{holds_invalid, any_holds_invalid}
 use Rattle.gltf_schema.specs.Put.{put_member, put_rows, some_invalid}
-use Rattle.gltf_schema.specs.Readings.{members_or_error}
-use Rattle.gltf_schema.specs.Writings.{BeginFrom, BeginsWith, MemberOnto, WritesMember}
+use Rattle.gltf_schema.specs.Writings.{BeginFrom, BeginsWith, MemberOnto, WritesMember, written_or_error}
 use Rattle.gltf_schema.proofs.Putting.{withheld_through, withheld_then, withheld_anyway}
 
 none_put : (ms : Members) → put_rows no_rows end ms ≡ Some ms
@@ -88,13 +87,13 @@ rows_written (Ok ms) s' rows ts others first h = let same : ms ≡ others = cc i
 rows_written (Err e) s' rows ts others first h = subst (λ (r : Result Members Error). Writes (λ x. x) r (put_rows rows ts others) (some_invalid ts)) (sym h) (withheld_anyway e (Some others) _ _ first)
 
 members_written : (r : Result (BTreeMap (String Global) Value) Error) (written : Option Members) (b : Bool)
-    → Writes (λ m. m) (members_or_error r) written b → Writes (λ (m : BTreeMap (String Global) Value). members_view m.entries) r written b
+    → Writes (λ m. m) (written_or_error r) written b → Writes (λ (m : BTreeMap (String Global) Value). members_view m.entries) r written b
 members_written (Ok m) written b h = h
 members_written (Err e) written b h = h
 
 -- each row was written onto the others
 pub all_written : (others : Members) (r : Result (BTreeMap (String Global) Value) Error) {s s' : Result Members Error} {rows : Rows} {ts : Trees} {copied : Bool}
-    → BeginsWith copied others s → WritesRows s rows ts s' → members_or_error r ≡ s' → Writes (λ (m : BTreeMap (String Global) Value). members_view m.entries) r (put_rows rows ts others) (some_invalid ts)
+    → BeginsWith copied others s → WritesRows s rows ts s' → written_or_error r ≡ s' → Writes (λ (m : BTreeMap (String Global) Value). members_view m.entries) r (put_rows rows ts others) (some_invalid ts)
 all_written others r {s} {s'} {rows} {ts} {copied} first h ended =
     members_written r _ _ (subst (λ (x : Result Members Error). Writes (λ m. m) x (put_rows rows ts others) (some_invalid ts)) (sym ended) (rows_written s s' rows ts others (begun copied others s first.is) h.is))
 

@@ -1,25 +1,17 @@
 -- What each method of Reading gives: the members that are left, or the error that was met.
 -- Each definition stays folded in a record, so that an object's chain of rows isn't computed.
-use Rattle.std.specs.Prelude.{◌≡◌, ℕ, List, String, Result, Ok, Err}
+use Rattle.std.specs.Prelude.{◌≡◌, ℕ, List, Some, Result, Ok, Err}
 use Rattle.serde_json.specs.Data.{Members, no_members}
-use Rattle.serde_json.specs.View.{members_view}
-use Rattle.std.specs.declared.alloc.Global.{Global}
-use Rattle.std.specs.BTreeMap.{BTreeMap}
-use Rattle.serde_json.specs.declared.value.Value.{Value}
 use Rattle.gltf_paths.specs.declared.error.Error.{Error}
-use Rattle.gltf_schema.specs.declared.reading.Reading.{Reading}
 use Rattle.gltf_schema.specs.Outcome.{Reads}
 use Rattle.gltf_schema.specs.Tree.{Tree}
 use Rattle.gltf_schema.specs.Kind.{Mark, Kind}
 use Rattle.gltf_schema.specs.Taken.{take_member}
 
 -- the members that are left, or why reading failed
-abbrev pub members_or_error : Result (BTreeMap (String Global) Value) Error → Result Members Error
-members_or_error (Ok m) = Ok (members_view m.entries)
-members_or_error (Err e) = Err e
-
-abbrev pub reading_state : Reading → Result Members Error
-reading_state r = members_or_error r.state
+abbrev pub members_or_error : {F : Type 0} → (F → Members) → Result F Error → Result Members Error
+members_or_error view (Ok left) = Ok (view left)
+members_or_error view (Err e) = Err e
 
 -- a row's tree and the members left after it; what failed before stays
 abbrev pub MemberFrom : Result Members Error → List ℕ → Mark → Kind → Tree → Result Members Error → Type 0
@@ -31,7 +23,7 @@ pub record ReadsMember (before : Result Members Error) (n : List ℕ) (mark : Ma
   pub is : MemberFrom before n mark kind t after
 
 abbrev pub OthersFrom : Result Members Error → Members → Result Members Error → Type 0
-OthersFrom (Ok ms) others after = (others ≡ ms) × (after ≡ Ok no_members)
+OthersFrom (Ok ms) others after = Reads {Y = Members × Members} (λ left. (others, left)) after (Some (ms, no_members))
 OthersFrom (Err e) others after = after ≡ Err e
 
 -- the members that are left were taken out

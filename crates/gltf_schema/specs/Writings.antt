@@ -1,7 +1,11 @@
 -- What each method of Writing gives: the members that are written so far, or the error that was
 -- met. Each definition stays folded in a record, so that an object's chain of rows isn't computed.
-use Rattle.std.specs.Prelude.{◌≡◌, ℕ, List, Bool, true, false, Some, Result, Ok, Err}
+use Rattle.std.specs.Prelude.{◌≡◌, ℕ, List, Bool, true, false, Some, String, Result, Ok, Err}
+use Rattle.std.specs.declared.alloc.Global.{Global}
+use Rattle.std.specs.BTreeMap.{BTreeMap}
 use Rattle.serde_json.specs.Data.{Members}
+use Rattle.serde_json.specs.View.{members_view}
+use Rattle.serde_json.specs.declared.value.Value.{Value}
 use Rattle.gltf_paths.specs.declared.error.Error.{Error}
 use Rattle.gltf_schema.specs.declared.writing.Writing.{Writing}
 use Rattle.gltf_schema.specs.Outcome.{Writes}
@@ -12,8 +16,11 @@ use Rattle.gltf_schema.specs.Tree.{Tree}
 use Rattle.gltf_schema.specs.Kind.{Mark, Kind}
 
 -- the members that are written so far, or why they are not
+abbrev pub written_or_error : Result (BTreeMap (String Global) Value) Error → Result Members Error
+written_or_error = members_or_error (λ m. members_view m.entries)
+
 abbrev pub writing_state : Writing → Result Members Error
-writing_state w = members_or_error w.state
+writing_state w = written_or_error w.state
 
 -- the members that were there at first; to copy them may take memory
 abbrev pub BeginFrom : Bool → Members → Result Members Error → Type 0

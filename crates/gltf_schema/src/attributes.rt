@@ -12,6 +12,7 @@ ghost use Rattle.gltf_schema.specs.Write.{key_name, are_in_order, write_entries}
 ghost use Rattle.gltf_schema.specs.Outcome.{Reads, Writes};
 
 use crate::schema::Schema;
+use crate::source::Source;
 use crate::tabled::Tabled;
 use gltf_base::mesh::Semantic;
 use gltf_base::validation::Checked;
@@ -29,14 +30,14 @@ impl<P: Names> Tabled for BTreeMap<Checked<Semantic>, IndexTo<P>> {
 impl<P: Names> Schema for BTreeMap<Checked<Semantic>, IndexTo<P>> {
     ghost present = { λ _. refl };
 
-    fn decode(
+    fn decode_from<S: Source>(
         alloc: Global,
-        value: Value,
+        source: S,
     ) -> Result<BTreeMap<Checked<Semantic>, IndexTo<P>>, Error> {
-        let Value::Object(members) = value else {
+        let Some(members) = source.into_fields() else {
             return Err(Error::Schema);
         };
-        decode_entries(alloc, members)
+        decode_entries(alloc, S::into_others(members, alloc)?)
     }
 
     fn encode(&self, alloc: Global) -> Result<Value, Error> {

@@ -12,6 +12,7 @@ ghost use Rattle.gltf_schema.specs.Outcome.{Reads, Writes};
 ghost use Rattle.gltf_schema.specs.Leaves.{checked_tree, choice_of, checked_tree-present};
 
 use crate::schema::Schema;
+use crate::source::Source;
 use crate::tabled::Tabled;
 use gltf_base::choice::{Choice, Form, Spelling, item_of};
 use gltf_base::validation::{Checked, USize64};
@@ -28,8 +29,8 @@ impl Tabled for u32 {
 impl Schema for u32 {
     ghost present = { λ _. refl };
 
-    fn decode(_alloc: Global, value: Value) -> Result<u32, Error> {
-        small_number(&value).ok_or(Error::Schema)
+    fn decode_from<S: Source>(_alloc: Global, source: S) -> Result<u32, Error> {
+        small_number(&source).ok_or(Error::Schema)
     }
 
     fn encode(&self, _alloc: Global) -> Result<Value, Error> {
@@ -46,8 +47,8 @@ impl Tabled for USize64 {
 impl Schema for USize64 {
     ghost present = { λ _. refl };
 
-    fn decode(_alloc: Global, value: Value) -> Result<USize64, Error> {
-        Ok(USize64(value.as_u64().ok_or(Error::Schema)?))
+    fn decode_from<S: Source>(_alloc: Global, source: S) -> Result<USize64, Error> {
+        Ok(USize64(source.whole().ok_or(Error::Schema)?))
     }
 
     fn encode(&self, _alloc: Global) -> Result<Value, Error> {
@@ -64,8 +65,8 @@ impl<P: Names> Tabled for IndexTo<P> {
 impl<P: Names> Schema for IndexTo<P> {
     ghost present = { λ _. refl };
 
-    fn decode(_alloc: Global, value: Value) -> Result<IndexTo<P>, Error> {
-        Ok(IndexTo::from_number(small_number(&value).ok_or(Error::Schema)?))
+    fn decode_from<S: Source>(_alloc: Global, source: S) -> Result<IndexTo<P>, Error> {
+        Ok(IndexTo::from_number(small_number(&source).ok_or(Error::Schema)?))
     }
 
     fn encode(&self, _alloc: Global) -> Result<Value, Error> {
@@ -82,8 +83,8 @@ impl Tabled for Real {
 impl Schema for Real {
     ghost present = { λ _. refl };
 
-    fn decode(_alloc: Global, value: Value) -> Result<Real, Error> {
-        Real::from_value(value).map_err(|_| Error::Schema)
+    fn decode_from<S: Source>(alloc: Global, source: S) -> Result<Real, Error> {
+        Real::from_value(source.into_value(alloc)?).map_err(|_| Error::Schema)
     }
 
     fn encode(&self, _alloc: Global) -> Result<Value, Error> {
@@ -100,11 +101,11 @@ impl<const N: usize> Tabled for [Real; N] {
 impl<const N: usize> Schema for [Real; N] {
     ghost present = { λ _. refl };
 
-    fn decode(alloc: Global, value: Value) -> Result<[Real; N], Error> {
-        let Value::Array(items) = value else {
+    fn decode_from<S: Source>(alloc: Global, source: S) -> Result<[Real; N], Error> {
+        let Some(items) = source.into_items() else {
             return Err(Error::Schema);
         };
-        let found: Vec<Real> = decode_items(alloc, items)?;
+        let found: Vec<Real> = decode_items::<S, Real>(alloc, items)?;
         <[Real; N]>::try_from(found).map_err(|_| Error::Schema)
     }
 
@@ -123,11 +124,8 @@ impl Tabled for bool {
 impl Schema for bool {
     ghost present = { λ _. refl };
 
-    fn decode(_alloc: Global, value: Value) -> Result<bool, Error> {
-        match value {
-            Value::Bool(b) => Ok(b),
-            _ => Err(Error::Schema),
-        }
+    fn decode_from<S: Source>(_alloc: Global, source: S) -> Result<bool, Error> {
+        source.truth().ok_or(Error::Schema)
     }
 
     fn encode(&self, _alloc: Global) -> Result<Value, Error> {
@@ -144,11 +142,8 @@ impl Tabled for String {
 impl Schema for String {
     ghost present = { λ _. refl };
 
-    fn decode(_alloc: Global, value: Value) -> Result<String, Error> {
-        match value {
-            Value::String(s) => Ok(s),
-            _ => Err(Error::Schema),
-        }
+    fn decode_from<S: Source>(alloc: Global, source: S) -> Result<String, Error> {
+        source.into_text(alloc)?.ok_or(Error::Schema)
     }
 
     fn encode(&self, _alloc: Global) -> Result<Value, Error> {
@@ -165,8 +160,8 @@ impl Tabled for Value {
 impl Schema for Value {
     ghost present = { λ _. refl };
 
-    fn decode(_alloc: Global, value: Value) -> Result<Value, Error> {
-        Ok(value)
+    fn decode_from<S: Source>(alloc: Global, source: S) -> Result<Value, Error> {
+        Ok(source.into_value(alloc)?)
     }
 
     fn encode(&self, _alloc: Global) -> Result<Value, Error> {
@@ -183,17 +178,21 @@ impl<T: Choice> Tabled for Checked<T> {
 impl<T: Choice> Schema for Checked<T> {
     ghost present = { checked_tree-present T.spelling };
 
-    fn decode(_alloc: Global, value: Value) -> Result<Checked<T>, Error> {
+    fn decode_from<S: Source>(_alloc: Global, source: S) -> Result<Checked<T>, Error> {
         match T::form() {
             Form::Number => {
-                let n = value.as_u64().ok_or(Error::Schema)?;
+                let n = source.whole().ok_or(Error::Schema)?;
                 Ok(item_of(Spelling::Number(n)))
             }
             Form::Name => {
-                let name = value.as_str().ok_or(Error::Schema)?;
+                let name = source.text().ok_or(Error::Schema)?;
                 Ok(item_of(Spelling::Name(name)))
             }
         }
+    }
+
+    fn decode(alloc: Global, value: Value) -> Result<Checked<T>, Error> {
+        Self::decode_from(alloc, value)
     }
 
     fn encode(&self, alloc: Global) -> Result<Value, Error> {
@@ -210,11 +209,11 @@ impl<T: Choice> Schema for Checked<T> {
 impl<T: Schema> Schema for Vec<T> {
     ghost present = { λ _. refl };
 
-    fn decode(alloc: Global, value: Value) -> Result<Vec<T>, Error> {
-        let Value::Array(items) = value else {
+    fn decode_from<S: Source>(alloc: Global, source: S) -> Result<Vec<T>, Error> {
+        let Some(items) = source.into_items() else {
             return Err(Error::Schema);
         };
-        decode_items(alloc, items)
+        decode_items::<S, T>(alloc, items)
     }
 
     fn encode(&self, alloc: Global) -> Result<Value, Error> {
@@ -223,20 +222,21 @@ impl<T: Schema> Schema for Vec<T> {
 }
 
 /// A whole number of 32 bits.
-fn small_number(value: &Value) -> Option<u32>
-    ensures { result ≡ number_of_32_bits (view value.now) }
+fn small_number<S: Source>(source: &S) -> Option<u32>
+    ensures { result ≡ number_of_32_bits (S.given source.now) }
 {
-    u32::try_from(value.as_u64()?).ok()
+    u32::try_from(source.whole()?).ok()
 }
 
 /// Each item, in order.
-fn decode_items<T: Schema>(alloc: Global, items: Vec<Value>) -> Result<Vec<T>, Error>
+fn decode_items<S: Source, T: Schema>(alloc: Global, items: S::Items) -> Result<Vec<T>, Error>
     ensures { Reads (λ v. trees (map T.tree v.items)) result
-        (read_items (read T.kind) (items_view items.items)) }
+        (read_items (read T.kind) (S.items items)) }
 {
-    let mut found = Vec::with_capacity(alloc, items.len())?;
-    for item in items {
-        found.push(T::decode(alloc, item)?)?;
+    let mut found = Vec::with_capacity(alloc, S::room(&items))?;
+    let mut rest = items;
+    'items: while let Some(item) = S::next(&mut rest) {
+        found.push(T::decode_from(alloc, item)?)?;
     }
     Ok(found)
 }

@@ -16,6 +16,7 @@ ghost use Rattle.gltf_schema.specs.Taken.{take_all};
 ghost use Rattle.gltf_schema.specs.Leaves.{wants_object};
 ghost use Rattle.gltf_schema.specs.Outcome.{Reads, Writes};
 
+use crate::source::Source;
 use crate::tabled::Tabled;
 use gltf_base::Error;
 use serde_json::{Map, Value};
@@ -23,6 +24,15 @@ use std::alloc::Global;
 
 /// A type whose values are read and written as those of a kind of the table.
 pub trait Schema: Tabled + Drop {
+    /// Returns the value that a JSON value is, as the table reads it, from any source of JSON.
+    /// Fails with `Schema` if and only if the table does not read it; `Memory` may come in place of
+    /// either if a growth was refused.
+    fn decode_from<S: Source>(alloc: Global, source: S) -> Result<Self, Error>
+        ensures by_table { Reads Self.tree result (read Self.kind (S.given source)) }
+        // What is no object needs no memory to be refused.
+        ensures no_object { IsTrue (wants_object Self.kind (S.given source))
+            → result ≡ Err Error.Schema };
+
     /// Returns the value that a JSON value is, as the table reads it. Fails with `Schema` if and
     /// only if the table does not read it; `Memory` may come in place of either if a growth was
     /// refused.
@@ -30,7 +40,10 @@ pub trait Schema: Tabled + Drop {
         ensures by_table { Reads Self.tree result (read Self.kind (view value)) }
         // What is no object needs no memory to be refused.
         ensures no_object { IsTrue (wants_object Self.kind (view value))
-            → result ≡ Err Error.Schema };
+            → result ≡ Err Error.Schema }
+    {
+        Self::decode_from(alloc, value)
+    }
 
     /// Returns the JSON value that the value is written as. Fails with `InvalidItem` if and only if
     /// an item of a choice or the key of an attribute is invalid, here or below; `Memory` may come
@@ -61,9 +74,9 @@ pub trait Object: Drop {
 
     /// Returns the object of these members. Fails with `Schema` if a row refuses its member or
     /// lacks it, and with `Memory` if a growth was refused.
-    fn decode_members(alloc: Global, found: Map<String, Value>) -> Result<Self, Error>
+    fn decode_members<S: Source>(alloc: Global, found: S::Fields) -> Result<Self, Error>
         ensures { Reads (λ x. (members x, unknown x)) result
-            (take_all rows keeps (members_view found.entries)) };
+            (take_all rows keeps (S.members found)) };
 
     /// Returns the members of this object: each row's onto those that no row names. Fails with
     /// `InvalidItem` if a row's member holds an invalid item or key, and with `Memory` if a growth
@@ -84,19 +97,30 @@ pub trait Object: Drop {
 impl<T: Object> Schema for T {
     ghost present = { λ _. refl };
 
+    fn decode_from<S: Source>(alloc: Global, source: S) -> Result<T, Error>
+        ensures by_table { Reads (λ x. object (T.members x) (T.unknown x)) result
+            (read (object_kind T.rule T.rows T.keeps) (S.given source)) }
+        ensures no_object { IsTrue (wants_object (object_kind T.rule T.rows T.keeps)
+            (S.given source)) → result ≡ Err Error.Schema }
+        // What was read could be written and read back as it is.
+        ensures plain { IfOk result (λ x. is_plain (object_kind T.rule T.rows T.keeps)
+            (object (T.members x) (T.unknown x)) ≡ true) }
+    {
+        match source.into_fields() {
+            Some(found) => T::decode_members::<S>(alloc, found),
+            None => Err(Error::Schema),
+        }
+    }
+
     fn decode(alloc: Global, value: Value) -> Result<T, Error>
         ensures by_table { Reads (λ x. object (T.members x) (T.unknown x)) result
             (read (object_kind T.rule T.rows T.keeps) (view value)) }
         ensures no_object { IsTrue (wants_object (object_kind T.rule T.rows T.keeps) (view value))
             → result ≡ Err Error.Schema }
-        // What was read could be written and read back as it is.
         ensures plain { IfOk result (λ x. is_plain (object_kind T.rule T.rows T.keeps)
             (object (T.members x) (T.unknown x)) ≡ true) }
     {
-        match value {
-            Value::Object(found) => T::decode_members(alloc, found),
-            _ => Err(Error::Schema),
-        }
+        T::decode_from(alloc, value)
     }
 
     fn encode(&self, alloc: Global) -> Result<Value, Error>

@@ -10,6 +10,7 @@ ghost use Rattle.gltf_schema.specs.Kind.{no_rows};
 ghost use Rattle.gltf_schema.specs.Read.{left};
 
 use crate::schema::Object;
+use crate::source::Source;
 use crate::writing::copied;
 use gltf_base::Error;
 use serde_json::{Map, Value};
@@ -47,8 +48,8 @@ impl<T: Unlisted> Object for T {
 
     ghost low = { (refl, lit≤ tt) };
 
-    fn decode_members(_alloc: Global, found: Map<String, Value>) -> Result<T, Error> {
-        Ok(T::from_others(found))
+    fn decode_members<S: Source>(alloc: Global, found: S::Fields) -> Result<T, Error> {
+        Ok(T::from_others(S::into_others(found, alloc)?))
     }
 
     fn encode_members(&self, alloc: Global) -> Result<Map<String, Value>, Error> {

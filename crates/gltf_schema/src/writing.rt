@@ -5,9 +5,8 @@ ghost use Rattle.serde_json.specs.Data.{no_members};
 ghost use Rattle.serde_json.specs.View.{members_view};
 ghost use Rattle.gltf_schema.specs.Tree.{Tree, tree_or_absent, trees, list as list_tree, end};
 ghost use Rattle.gltf_schema.specs.Kind.{required as is_required, optional as is_optional, always as is_always, unless as is_unless, sometimes as is_sometimes, or_null as is_or_null, ListOf};
-ghost use Rattle.gltf_schema.specs.Readings.{members_or_error};
 ghost use Rattle.gltf_schema.specs.Outcome.{Writes};
-ghost use Rattle.gltf_schema.specs.Writings.{writing_state, BeginsWith, WritesMember};
+ghost use Rattle.gltf_schema.specs.Writings.{writing_state, written_or_error, BeginsWith, WritesMember};
 
 use crate::omittable::Omittable;
 use crate::put::{put_always, put_list, put_optional, put_or_null, put_unless};
@@ -62,7 +61,7 @@ impl Writing {
 
     /// The members that were written, or why they could not be.
     pub fn finish(self) -> Result<Map<String, Value>, Error>
-        ensures { members_or_error result ≡ writing_state self }
+        ensures { written_or_error result ≡ writing_state self }
     {
         let Writing { alloc: _, state } = self;
         state

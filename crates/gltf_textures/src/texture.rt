@@ -14,7 +14,7 @@ use gltf_base::validation::Checked;
 use gltf_base::{Index, Listed};
 use gltf_data::extras::Extras;
 use gltf_data::image::Image;
-use gltf_schema::{Error, Object, Reading, Writing};
+use gltf_schema::{Error, Object, Reading, Source, Writing};
 use serde_json::{Map, Value};
 use std::alloc::Global;
 
@@ -87,8 +87,8 @@ impl Object for Sampler {
 
     ghost low = { (sampler_height.1, lit≤ tt) };
 
-    fn decode_members(alloc: Global, found: Map<String, Value>) -> Result<Sampler, Error> {
-        let mut reading = Reading::from_members(alloc, found);
+    fn decode_members<S: Source>(alloc: Global, found: S::Fields) -> Result<Sampler, Error> {
+        let mut reading = Reading::<S>::from_members(alloc, found);
         let mag_filter = reading.optional("magFilter");
         let min_filter = reading.optional("minFilter");
         let name = reading.optional("name");
@@ -169,8 +169,8 @@ impl Object for Texture {
 
     ghost low = { (texture_height.1, lit≤ tt) };
 
-    fn decode_members(alloc: Global, found: Map<String, Value>) -> Result<Texture, Error> {
-        let mut reading = Reading::from_members(alloc, found);
+    fn decode_members<S: Source>(alloc: Global, found: S::Fields) -> Result<Texture, Error> {
+        let mut reading = Reading::<S>::from_members(alloc, found);
         let name = reading.optional("name");
         let sampler = reading.optional("sampler");
         let extensions = reading.optional("extensions");
@@ -234,8 +234,8 @@ impl Object for Info {
 
     ghost low = { (info_height.1, lit≤ tt) };
 
-    fn decode_members(alloc: Global, found: Map<String, Value>) -> Result<Info, Error> {
-        let mut reading = Reading::from_members(alloc, found);
+    fn decode_members<S: Source>(alloc: Global, found: S::Fields) -> Result<Info, Error> {
+        let mut reading = Reading::<S>::from_members(alloc, found);
         let index = reading.required("index");
         let tex_coord = reading.or_default("texCoord", 0);
         let extensions = reading.optional("extensions");

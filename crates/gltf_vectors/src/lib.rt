@@ -9,6 +9,8 @@
 #[cfg(test)]
 mod base;
 #[cfg(test)]
+mod borrowed;
+#[cfg(test)]
 mod documents;
 #[cfg(test)]
 mod lines;

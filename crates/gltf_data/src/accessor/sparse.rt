@@ -12,7 +12,7 @@ use crate::extras::Extras;
 use gltf_base::Index;
 use gltf_base::accessor::IndexComponentType;
 use gltf_base::validation::{Checked, USize64};
-use gltf_schema::{Blank, Error, Object, Reading, Writing};
+use gltf_schema::{Blank, Error, Object, Reading, Source, Writing};
 use serde_json::{Map, Value};
 use std::alloc::Global;
 
@@ -45,8 +45,8 @@ impl Object for Sparse {
 
     ghost low = { (sparse_height.1, lit≤ tt) };
 
-    fn decode_members(alloc: Global, found: Map<String, Value>) -> Result<Sparse, Error> {
-        let mut reading = Reading::from_members(alloc, found);
+    fn decode_members<S: Source>(alloc: Global, found: S::Fields) -> Result<Sparse, Error> {
+        let mut reading = Reading::<S>::from_members(alloc, found);
         let count = reading.required("count");
         let indices = reading.required("indices");
         let values = reading.required("values");
@@ -100,8 +100,8 @@ impl Object for Indices {
 
     ghost low = { (sparse_indices_height.1, lit≤ tt) };
 
-    fn decode_members(alloc: Global, found: Map<String, Value>) -> Result<Indices, Error> {
-        let mut reading = Reading::from_members(alloc, found);
+    fn decode_members<S: Source>(alloc: Global, found: S::Fields) -> Result<Indices, Error> {
+        let mut reading = Reading::<S>::from_members(alloc, found);
         let buffer_view = reading.required("bufferView");
         let byte_offset = reading.or_default("byteOffset", USize64(0));
         let component_type = reading.required("componentType");
@@ -165,8 +165,8 @@ impl Object for Values {
 
     ghost low = { (sparse_values_height.1, lit≤ tt) };
 
-    fn decode_members(alloc: Global, found: Map<String, Value>) -> Result<Values, Error> {
-        let mut reading = Reading::from_members(alloc, found);
+    fn decode_members<S: Source>(alloc: Global, found: S::Fields) -> Result<Values, Error> {
+        let mut reading = Reading::<S>::from_members(alloc, found);
         let buffer_view = reading.required("bufferView");
         let byte_offset = reading.or_default("byteOffset", USize64(0));
         let extensions = reading.optional("extensions");

@@ -8,7 +8,7 @@ ghost use Rattle.gltf_schema.specs.Tree.{end, list, whole, with_tree};
 ghost use Rattle.gltf_schema.specs.Defaults.{defaults};
 ghost use Rattle.gltf_meshes.specs.Mesh.{primitive_extension_rows, primitive_extension_sound, primitive_extension_height, variant_mappings_rows, variant_mappings_sound, variant_mappings_height, variant_mapping_rows, variant_mapping_sound, variant_mapping_height, primitive_extension_members, variant_mappings_members, variant_mapping_members};
 
-use gltf_schema::{Error, KeptExtensions, Object, Reading, Writing};
+use gltf_schema::{Error, KeptExtensions, Object, Reading, Source, Writing};
 use serde_json::{Map, Value};
 use std::alloc::Global;
 
@@ -39,8 +39,8 @@ impl Object for Primitive {
 
     ghost low = { (primitive_extension_height.1, lit≤ tt) };
 
-    fn decode_members(alloc: Global, found: Map<String, Value>) -> Result<Primitive, Error> {
-        let mut reading = Reading::from_members(alloc, found);
+    fn decode_members<S: Source>(alloc: Global, found: S::Fields) -> Result<Primitive, Error> {
+        let mut reading = Reading::<S>::from_members(alloc, found);
         let khr_materials_variants = reading.optional("KHR_materials_variants");
         let others = reading.others();
         reading.finish(Primitive {
@@ -91,11 +91,11 @@ impl Object for KhrMaterialsVariants {
 
     ghost low = { (variant_mappings_height.1, lit≤ tt) };
 
-    fn decode_members(
+    fn decode_members<S: Source>(
         alloc: Global,
-        found: Map<String, Value>,
+        found: S::Fields,
     ) -> Result<KhrMaterialsVariants, Error> {
-        let mut reading = Reading::from_members(alloc, found);
+        let mut reading = Reading::<S>::from_members(alloc, found);
         let mappings = reading.required("mappings");
         reading.finish(KhrMaterialsVariants { mappings })
     }
@@ -143,8 +143,8 @@ impl Object for Mapping {
 
     ghost low = { (variant_mapping_height.1, lit≤ tt) };
 
-    fn decode_members(alloc: Global, found: Map<String, Value>) -> Result<Mapping, Error> {
-        let mut reading = Reading::from_members(alloc, found);
+    fn decode_members<S: Source>(alloc: Global, found: S::Fields) -> Result<Mapping, Error> {
+        let mut reading = Reading::<S>::from_members(alloc, found);
         let material = reading.required("material");
         let variants = reading.required("variants");
         reading.finish(Mapping { material, variants })

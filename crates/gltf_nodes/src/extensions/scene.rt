@@ -7,7 +7,7 @@ ghost use Rattle.serde_json.specs.View.{members_view};
 ghost use Rattle.gltf_schema.specs.Defaults.{defaults};
 ghost use Rattle.gltf_nodes.specs.Scene.{node_extension_rows, node_extension_sound, node_extension_height, node_extension_members};
 
-use gltf_schema::{Error, KeptExtensions, Object, Reading, Writing};
+use gltf_schema::{Error, KeptExtensions, Object, Reading, Source, Writing};
 use serde_json::{Map, Value};
 use std::alloc::Global;
 
@@ -38,8 +38,8 @@ impl Object for Node {
 
     ghost low = { (node_extension_height.1, lit≤ tt) };
 
-    fn decode_members(alloc: Global, found: Map<String, Value>) -> Result<Node, Error> {
-        let mut reading = Reading::from_members(alloc, found);
+    fn decode_members<S: Source>(alloc: Global, found: S::Fields) -> Result<Node, Error> {
+        let mut reading = Reading::<S>::from_members(alloc, found);
         let khr_lights_punctual = reading.optional("KHR_lights_punctual");
         let others = reading.others();
         reading.finish(Node {

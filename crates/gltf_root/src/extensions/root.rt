@@ -10,7 +10,7 @@ ghost use Rattle.gltf_root.specs.RootExtension.{root_extension_rows, root_extens
 
 use gltf_nodes::extensions::scene::khr_lights_punctual::Light;
 use gltf_nodes::extensions::scene::khr_materials_variants::Variant;
-use gltf_schema::{Error, Object, Reading, Writing};
+use gltf_schema::{Error, Object, Reading, Source, Writing};
 use serde_json::{Map, Value};
 use std::alloc::Global;
 
@@ -40,8 +40,8 @@ impl Object for Root {
 
     ghost low = { (root_extension_height.1, lit≤ tt) };
 
-    fn decode_members(alloc: Global, found: Map<String, Value>) -> Result<Root, Error> {
-        let mut reading = Reading::from_members(alloc, found);
+    fn decode_members<S: Source>(alloc: Global, found: S::Fields) -> Result<Root, Error> {
+        let mut reading = Reading::<S>::from_members(alloc, found);
         let khr_lights_punctual = reading.optional("KHR_lights_punctual");
         let khr_materials_variants = reading.optional("KHR_materials_variants");
         let others = reading.others();
@@ -96,11 +96,11 @@ impl Object for KhrLightsPunctual {
 
     ghost low = { (lights_height.1, lit≤ tt) };
 
-    fn decode_members(
+    fn decode_members<S: Source>(
         alloc: Global,
-        found: Map<String, Value>,
+        found: S::Fields,
     ) -> Result<KhrLightsPunctual, Error> {
-        let mut reading = Reading::from_members(alloc, found);
+        let mut reading = Reading::<S>::from_members(alloc, found);
         let lights = reading.required("lights");
         reading.finish(KhrLightsPunctual { lights })
     }
@@ -143,11 +143,11 @@ impl Object for KhrMaterialsVariants {
 
     ghost low = { (variants_height.1, lit≤ tt) };
 
-    fn decode_members(
+    fn decode_members<S: Source>(
         alloc: Global,
-        found: Map<String, Value>,
+        found: S::Fields,
     ) -> Result<KhrMaterialsVariants, Error> {
-        let mut reading = Reading::from_members(alloc, found);
+        let mut reading = Reading::<S>::from_members(alloc, found);
         let variants = reading.required("variants");
         reading.finish(KhrMaterialsVariants { variants })
     }

@@ -1,6 +1,6 @@
 //! Documents from values, texts, bytes and readers.
 
-ghost use Rattle.std.specs.Prelude.{◌≡◌, ◌≤◌, ◌+◌, true, None, Err, IfErr, IfOk, IfSome};
+ghost use Rattle.std.specs.Prelude.{◌≡◌, ◌≤◌, ◌+◌, true, None, Err, IfErr, IfOk, IfSome, IsUtf8};
 ghost use Rattle.serde_json.specs.Find.{as_object};
 ghost use Rattle.serde_json.specs.View.{view};
 ghost use Rattle.gltf_schema.specs.Outcome.{Reads};
@@ -11,9 +11,12 @@ ghost use Rattle.gltf_devices.specs.Device.{IsFresh};
 ghost use Rattle.gltf_root.specs.Root.{root_kind, root_tree};
 
 use super::Root;
+use gltf_borrowed::{NoValue, read_text};
 use gltf_devices::{ByteIn, read_to_end};
 use gltf_schema::{Error, Schema};
+use json::Scratch;
 use serde_json::Value;
+use simdutf8::compat::from_utf8;
 use std::alloc::{AllocError, Global};
 
 const MOST_BYTES: u64 = 1073741824;
@@ -40,9 +43,8 @@ impl Root {
         ensures by_bytes { IsAnswer (answer bytes.now) result }
         ensures plain { IfOk result (λ root. is_plain root_kind (root_tree root) ≡ true) }
     {
-        match Value::from_slice(alloc, bytes) {
-            Ok(value) => Root::from_value(alloc, value),
-            Err(e) if e.is_memory() => Err(Error::Memory(AllocError)),
+        match from_utf8(bytes) {
+            Ok(text) => from_text(alloc, text),
             Err(_) => Err(Error::Json),
         }
     }
@@ -90,5 +92,20 @@ impl Root {
     {
         let text = read_to_end(alloc, reader, most_bytes, most_calls)?;
         Root::from_slice(alloc, &text)
+    }
+}
+
+/// Returns the document that a text of JSON is, by a value that borrows the text: it costs a third
+/// of what a `Value` costs.
+#[tactic(auto, using(crate::proofs::AnswerLemmas::answers))]
+fn from_text(alloc: Global, text: &str) -> Result<Root, Error>
+    ensures by_text { IsUtf8 text.now → IsAnswer (answer text.now) result }
+    ensures plain { IfOk result (λ root. is_plain root_kind (root_tree root) ≡ true) }
+{
+    let mut scratch = Scratch::new(alloc);
+    match read_text(alloc, text, &mut scratch) {
+        Ok(value) => Root::decode_from(alloc, value),
+        Err(NoValue::Refused) => Err(Error::Json),
+        Err(NoValue::Memory) => Err(Error::Memory(AllocError)),
     }
 }

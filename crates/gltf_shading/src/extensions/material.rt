@@ -13,7 +13,7 @@ ghost use Rattle.gltf_schema.specs.Fields.{real_tree, reals_tree};
 use crate::material::StrengthFactor;
 use gltf_base::Real;
 use gltf_data::extras::Extras;
-use gltf_schema::{Error, KeptExtensions, Object, Reading, Tabled, Writing};
+use gltf_schema::{Error, KeptExtensions, Object, Reading, Source, Tabled, Writing};
 use gltf_textures::texture::Info;
 use serde_json::{Map, Value};
 use std::alloc::Global;
@@ -71,8 +71,8 @@ impl Object for Material {
 
     ghost low = { (material_extension_height.1, lit≤ tt) };
 
-    fn decode_members(alloc: Global, found: Map<String, Value>) -> Result<Material, Error> {
-        let mut reading = Reading::from_members(alloc, found);
+    fn decode_members<S: Source>(alloc: Global, found: S::Fields) -> Result<Material, Error> {
+        let mut reading = Reading::<S>::from_members(alloc, found);
         let pbr_specular_glossiness = reading.optional("KHR_materials_pbrSpecularGlossiness");
         let unlit = reading.optional("KHR_materials_unlit");
         let transmission = reading.optional("KHR_materials_transmission");
@@ -186,11 +186,11 @@ impl Object for PbrSpecularGlossiness {
 
     ghost low = { (pbr_specular_glossiness_height.1, lit≤ tt) };
 
-    fn decode_members(
+    fn decode_members<S: Source>(
         alloc: Global,
-        found: Map<String, Value>,
+        found: S::Fields,
     ) -> Result<PbrSpecularGlossiness, Error> {
-        let mut reading = Reading::from_members(alloc, found);
+        let mut reading = Reading::<S>::from_members(alloc, found);
         let diffuse_factor = reading.sometimes("diffuseFactor");
         let diffuse_texture = reading.optional("diffuseTexture");
         let specular_factor = reading.sometimes("specularFactor");
@@ -284,7 +284,7 @@ impl Object for Unlit {
 
     ghost low = { (refl, lit≤ tt) };
 
-    fn decode_members(_alloc: Global, _found: Map<String, Value>) -> Result<Unlit, Error> {
+    fn decode_members<S: Source>(_alloc: Global, _found: S::Fields) -> Result<Unlit, Error> {
         Ok(Unlit {})
     }
 
@@ -336,8 +336,8 @@ impl Object for Transmission {
 
     ghost low = { (transmission_height.1, lit≤ tt) };
 
-    fn decode_members(alloc: Global, found: Map<String, Value>) -> Result<Transmission, Error> {
-        let mut reading = Reading::from_members(alloc, found);
+    fn decode_members<S: Source>(alloc: Global, found: S::Fields) -> Result<Transmission, Error> {
+        let mut reading = Reading::<S>::from_members(alloc, found);
         let transmission_factor = reading.sometimes("transmissionFactor");
         let transmission_texture = reading.optional("transmissionTexture");
         let extras = reading.optional("extras");
@@ -423,8 +423,8 @@ impl Object for Volume {
 
     ghost low = { (volume_height.1, lit≤ tt) };
 
-    fn decode_members(alloc: Global, found: Map<String, Value>) -> Result<Volume, Error> {
-        let mut reading = Reading::from_members(alloc, found);
+    fn decode_members<S: Source>(alloc: Global, found: S::Fields) -> Result<Volume, Error> {
+        let mut reading = Reading::<S>::from_members(alloc, found);
         let thickness_factor = reading.sometimes("thicknessFactor");
         let thickness_texture = reading.optional("thicknessTexture");
         let attenuation_distance = reading.sometimes("attenuationDistance");
@@ -538,8 +538,8 @@ impl Object for Specular {
 
     ghost low = { (specular_height.1, lit≤ tt) };
 
-    fn decode_members(alloc: Global, found: Map<String, Value>) -> Result<Specular, Error> {
-        let mut reading = Reading::from_members(alloc, found);
+    fn decode_members<S: Source>(alloc: Global, found: S::Fields) -> Result<Specular, Error> {
+        let mut reading = Reading::<S>::from_members(alloc, found);
         let specular_factor = reading.sometimes("specularFactor");
         let specular_texture = reading.optional("specularTexture");
         let specular_color_factor = reading.sometimes("specularColorFactor");
@@ -624,8 +624,8 @@ impl Object for Ior {
 
     ghost low = { (ior_height.1, lit≤ tt) };
 
-    fn decode_members(alloc: Global, found: Map<String, Value>) -> Result<Ior, Error> {
-        let mut reading = Reading::from_members(alloc, found);
+    fn decode_members<S: Source>(alloc: Global, found: S::Fields) -> Result<Ior, Error> {
+        let mut reading = Reading::<S>::from_members(alloc, found);
         let ior = reading.sometimes("ior");
         let extras = reading.optional("extras");
         reading.finish(Ior {
@@ -687,8 +687,11 @@ impl Object for EmissiveStrength {
 
     ghost low = { (emissive_strength_height.1, lit≤ tt) };
 
-    fn decode_members(alloc: Global, found: Map<String, Value>) -> Result<EmissiveStrength, Error> {
-        let mut reading = Reading::from_members(alloc, found);
+    fn decode_members<S: Source>(
+        alloc: Global,
+        found: S::Fields,
+    ) -> Result<EmissiveStrength, Error> {
+        let mut reading = Reading::<S>::from_members(alloc, found);
         let emissive_strength = reading.sometimes("emissiveStrength");
         reading.finish(EmissiveStrength {
             emissive_strength: EmissiveStrengthFactor(emissive_strength),

@@ -12,7 +12,7 @@ ghost use Rattle.gltf_schema.specs.Tree.{tree_or_absent};
 
 use gltf_base::Real;
 use gltf_data::extras::Extras;
-use gltf_schema::{Error, KeptExtensions, Object, Reading, Tabled, Writing};
+use gltf_schema::{Error, KeptExtensions, Object, Reading, Source, Tabled, Writing};
 use serde_json::{Map, Value};
 use std::alloc::Global;
 
@@ -46,8 +46,8 @@ impl Object for Info {
 
     ghost low = { (info_extension_height.1, lit≤ tt) };
 
-    fn decode_members(alloc: Global, found: Map<String, Value>) -> Result<Info, Error> {
-        let mut reading = Reading::from_members(alloc, found);
+    fn decode_members<S: Source>(alloc: Global, found: S::Fields) -> Result<Info, Error> {
+        let mut reading = Reading::<S>::from_members(alloc, found);
         let texture_transform = reading.optional("KHR_texture_transform");
         let others = reading.others();
         reading.finish(Info {
@@ -104,8 +104,11 @@ impl Object for TextureTransform {
 
     ghost low = { (texture_transform_height.1, lit≤ tt) };
 
-    fn decode_members(alloc: Global, found: Map<String, Value>) -> Result<TextureTransform, Error> {
-        let mut reading = Reading::from_members(alloc, found);
+    fn decode_members<S: Source>(
+        alloc: Global,
+        found: S::Fields,
+    ) -> Result<TextureTransform, Error> {
+        let mut reading = Reading::<S>::from_members(alloc, found);
         let offset = reading.sometimes("offset");
         let rotation = reading.sometimes("rotation");
         let scale = reading.sometimes("scale");

@@ -12,7 +12,7 @@ use gltf_base::extensions::scene::khr_lights_punctual::LightType;
 use gltf_base::validation::Checked;
 use gltf_base::{Index, Listed, Real};
 use gltf_data::extras::Extras;
-use gltf_schema::{Error, Object, Reading, Writing};
+use gltf_schema::{Error, Object, Reading, Source, Writing};
 use serde_json::{Map, Value};
 use std::alloc::Global;
 
@@ -38,11 +38,11 @@ impl Object for KhrLightsPunctual {
 
     ghost low = { (light_of_node_height.1, lit≤ tt) };
 
-    fn decode_members(
+    fn decode_members<S: Source>(
         alloc: Global,
-        found: Map<String, Value>,
+        found: S::Fields,
     ) -> Result<KhrLightsPunctual, Error> {
-        let mut reading = Reading::from_members(alloc, found);
+        let mut reading = Reading::<S>::from_members(alloc, found);
         let light = reading.required("light");
         reading.finish(KhrLightsPunctual { light })
     }
@@ -109,8 +109,8 @@ impl Object for Light {
 
     ghost low = { (light_height.1, lit≤ tt) };
 
-    fn decode_members(alloc: Global, found: Map<String, Value>) -> Result<Light, Error> {
-        let mut reading = Reading::from_members(alloc, found);
+    fn decode_members<S: Source>(alloc: Global, found: S::Fields) -> Result<Light, Error> {
+        let mut reading = Reading::<S>::from_members(alloc, found);
         let color = reading.sometimes("color");
         let extensions = reading.optional("extensions");
         let extras = reading.optional("extras");
@@ -171,8 +171,8 @@ impl Object for Spot {
 
     ghost low = { (spot_height.1, lit≤ tt) };
 
-    fn decode_members(alloc: Global, found: Map<String, Value>) -> Result<Spot, Error> {
-        let mut reading = Reading::from_members(alloc, found);
+    fn decode_members<S: Source>(alloc: Global, found: S::Fields) -> Result<Spot, Error> {
+        let mut reading = Reading::<S>::from_members(alloc, found);
         let inner_cone_angle = reading.sometimes("innerConeAngle");
         let outer_cone_angle = reading.sometimes("outerConeAngle");
         reading.finish(Spot {

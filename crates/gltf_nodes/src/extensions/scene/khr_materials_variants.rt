@@ -7,7 +7,7 @@ ghost use Rattle.gltf_paths.specs.Lists.{variants};
 ghost use Rattle.gltf_nodes.specs.Light.{variant_rows, variant_sound, variant_height, variant_members};
 
 use gltf_base::Listed;
-use gltf_schema::{Error, Object, Reading, Writing};
+use gltf_schema::{Error, Object, Reading, Source, Writing};
 use serde_json::{Map, Value};
 use std::alloc::Global;
 
@@ -43,8 +43,8 @@ impl Object for Variant {
 
     ghost low = { (variant_height.1, lit≤ tt) };
 
-    fn decode_members(alloc: Global, found: Map<String, Value>) -> Result<Variant, Error> {
-        let mut reading = Reading::from_members(alloc, found);
+    fn decode_members<S: Source>(alloc: Global, found: S::Fields) -> Result<Variant, Error> {
+        let mut reading = Reading::<S>::from_members(alloc, found);
         let name = reading.required("name");
         reading.finish(Variant { name })
     }

@@ -5,7 +5,7 @@ use Rattle.gltf_animations.proofs.animation.AnimationObject.decode_members.Goals
 
 pub returns : goal.returns
 unfolding animation_rows animation_members
-returns c =
+returns g c =
     all_read animation_members c.from_members-reading.ensures
     (read_row c.list-samplers.ensures
     (read_row c.list-channels.ensures

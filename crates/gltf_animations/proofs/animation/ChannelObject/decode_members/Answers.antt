@@ -5,7 +5,7 @@ use Rattle.gltf_animations.proofs.animation.ChannelObject.decode_members.Goals a
 
 pub returns : goal.returns
 unfolding animation_channel_rows animation_channel_members
-returns c =
+returns g c =
     all_read animation_channel_members c.from_members-reading.ensures
     (read_row (sampler_read c.new.ensures c.required-sampler.ensures)
     (read_row c.required-target.ensures

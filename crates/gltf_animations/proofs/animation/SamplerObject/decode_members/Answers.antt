@@ -5,7 +5,7 @@ use Rattle.gltf_animations.proofs.animation.SamplerObject.decode_members.Goals a
 
 pub returns : goal.returns
 unfolding animation_sampler_rows animation_sampler_members
-returns c =
+returns g c =
     all_read animation_sampler_members c.from_members-reading.ensures
     (read_row c.required-input.ensures
     (read_row c.or_default-interpolation.ensures.always

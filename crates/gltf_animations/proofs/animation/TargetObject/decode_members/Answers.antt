@@ -5,7 +5,7 @@ use Rattle.gltf_animations.proofs.animation.TargetObject.decode_members.Goals as
 
 pub returns : goal.returns
 unfolding animation_target_rows animation_target_members
-returns c =
+returns g c =
     all_read animation_target_members c.from_members-reading.ensures
     (read_row c.required-node.ensures
     (read_row c.required-path.ensures

@@ -5,7 +5,7 @@ use Rattle.gltf_data.proofs.accessor.AccessorObject.decode_members.Goals as goal
 
 pub returns : goal.returns
 unfolding accessor_rows accessor_members
-returns c =
+returns g c =
     all_read accessor_members c.from_members-reading.ensures
     (read_row c.optional-buffer_view.ensures.left_out
     (read_row c.optional-byte_offset.ensures.left_out

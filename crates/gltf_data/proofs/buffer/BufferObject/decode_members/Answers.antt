@@ -5,7 +5,7 @@ use Rattle.gltf_data.proofs.buffer.BufferObject.decode_members.Goals as goal
 
 pub returns : goal.returns
 unfolding buffer_rows buffer_members
-returns c =
+returns g c =
     all_read buffer_members c.from_members-reading.ensures
     (read_row c.or_default-byte_length.ensures.always
     (read_row c.optional-name.ensures.left_out

@@ -5,7 +5,7 @@ use Rattle.gltf_data.proofs.buffer.ViewObject.decode_members.Goals as goal
 
 pub returns : goal.returns
 unfolding view_rows view_members
-returns c =
+returns g c =
     all_read view_members c.from_members-reading.ensures
     (read_row c.required-buffer.ensures
     (read_row c.required-byte_length.ensures

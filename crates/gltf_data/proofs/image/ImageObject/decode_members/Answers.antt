@@ -5,7 +5,7 @@ use Rattle.gltf_data.proofs.image.ImageObject.decode_members.Goals as goal
 
 pub returns : goal.returns
 unfolding image_rows image_members
-returns c =
+returns g c =
     all_read image_members c.from_members-reading.ensures
     (read_row c.optional-buffer_view.ensures.left_out
     (read_row c.optional-mime_type.ensures.left_out

@@ -8,7 +8,7 @@ use Rattle.gltf_materials.proofs.material.MaterialObject.decode_members.Goals as
 
 pub returns : goal.returns
 unfolding material_rows material_members
-returns c =
+returns g c =
     all_read material_members c.from_members-reading.ensures
     (read_row c.optional-alpha_cutoff.ensures.left_out
     (read_row c.or_default-alpha_mode.ensures.always

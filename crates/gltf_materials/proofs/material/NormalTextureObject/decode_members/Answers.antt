@@ -5,7 +5,7 @@ use Rattle.gltf_materials.proofs.material.NormalTextureObject.decode_members.Goa
 
 pub returns : goal.returns
 unfolding normal_texture_rows normal_texture_members
-returns c =
+returns g c =
     all_read normal_texture_members c.from_members-reading.ensures
     (read_row c.required-index.ensures
     (read_row c.sometimes-scale.ensures

@@ -5,7 +5,7 @@ use Rattle.gltf_materials.proofs.material.OcclusionTextureObject.decode_members.
 
 pub returns : goal.returns
 unfolding occlusion_texture_rows occlusion_texture_members
-returns c =
+returns g c =
     all_read occlusion_texture_members c.from_members-reading.ensures
     (read_row c.required-index.ensures
     (read_row c.sometimes-strength.ensures

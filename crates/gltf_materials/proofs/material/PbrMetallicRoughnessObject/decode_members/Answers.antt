@@ -5,7 +5,7 @@ use Rattle.gltf_materials.proofs.material.PbrMetallicRoughnessObject.decode_memb
 
 pub returns : goal.returns
 unfolding pbr_metallic_roughness_rows pbr_metallic_roughness_members
-returns c =
+returns g c =
     all_read pbr_metallic_roughness_members c.from_members-reading.ensures
     (read_row c.sometimes-base_color_factor.ensures
     (read_row c.optional-base_color_texture.ensures.left_out

@@ -5,7 +5,7 @@ use Rattle.gltf_meshes.proofs.mesh.MeshObject.decode_members.Goals as goal
 
 pub returns : goal.returns
 unfolding mesh_rows mesh_members
-returns c =
+returns g c =
     all_read mesh_members c.from_members-reading.ensures
     (read_row c.optional-extensions.ensures.left_out
     (read_row c.optional-extras.ensures.left_out

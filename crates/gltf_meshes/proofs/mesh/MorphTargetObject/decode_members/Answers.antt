@@ -5,7 +5,7 @@ use Rattle.gltf_meshes.proofs.mesh.MorphTargetObject.decode_members.Goals as goa
 
 pub returns : goal.returns
 unfolding morph_target_rows morph_target_members
-returns c =
+returns g c =
     all_read morph_target_members c.from_members-reading.ensures
     (read_row c.optional-positions.ensures.left_out
     (read_row c.optional-normals.ensures.left_out

@@ -5,7 +5,7 @@ use Rattle.gltf_meshes.proofs.mesh.PrimitiveObject.decode_members.Goals as goal
 
 pub returns : goal.returns
 unfolding primitive_rows primitive_members
-returns c =
+returns g c =
     all_read primitive_members c.from_members-reading.ensures
     (read_row c.required-attributes.ensures
     (read_row c.optional-extensions.ensures.left_out

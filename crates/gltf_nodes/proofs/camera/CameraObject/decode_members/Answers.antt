@@ -5,7 +5,7 @@ use Rattle.gltf_nodes.proofs.camera.CameraObject.decode_members.Goals as goal
 
 pub returns : goal.returns
 unfolding camera_rows camera_members
-returns c =
+returns g c =
     all_read camera_members c.from_members-reading.ensures
     (read_row c.optional-name.ensures.left_out
     (read_row c.optional-orthographic.ensures.left_out

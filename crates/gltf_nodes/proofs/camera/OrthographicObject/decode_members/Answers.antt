@@ -5,7 +5,7 @@ use Rattle.gltf_nodes.proofs.camera.OrthographicObject.decode_members.Goals as g
 
 pub returns : goal.returns
 unfolding orthographic_rows orthographic_members
-returns c =
+returns g c =
     all_read orthographic_members c.from_members-reading.ensures
     (read_row c.required-xmag.ensures
     (read_row c.required-ymag.ensures

@@ -5,7 +5,7 @@ use Rattle.gltf_nodes.proofs.camera.PerspectiveObject.decode_members.Goals as go
 
 pub returns : goal.returns
 unfolding perspective_rows perspective_members
-returns c =
+returns g c =
     all_read perspective_members c.from_members-reading.ensures
     (read_row c.optional-aspect_ratio.ensures.left_out
     (read_row c.required-yfov.ensures

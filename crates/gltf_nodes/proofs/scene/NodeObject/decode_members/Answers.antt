@@ -5,7 +5,7 @@ use Rattle.gltf_nodes.proofs.scene.NodeObject.decode_members.Goals as goal
 
 pub returns : goal.returns
 unfolding node_rows node_members
-returns c =
+returns g c =
     all_read node_members c.from_members-reading.ensures
     (read_row c.optional-camera.ensures.left_out
     (read_row c.optional-children.ensures.left_out

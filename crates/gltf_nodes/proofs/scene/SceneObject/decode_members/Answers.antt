@@ -5,7 +5,7 @@ use Rattle.gltf_nodes.proofs.scene.SceneObject.decode_members.Goals as goal
 
 pub returns : goal.returns
 unfolding scene_rows scene_members
-returns c =
+returns g c =
     all_read scene_members c.from_members-reading.ensures
     (read_row c.optional-extensions.ensures.left_out
     (read_row c.optional-extras.ensures.left_out

@@ -5,7 +5,7 @@ use Rattle.gltf_nodes.proofs.skin.SkinObject.decode_members.Goals as goal
 
 pub returns : goal.returns
 unfolding skin_rows skin_members
-returns c =
+returns g c =
     all_read skin_members c.from_members-reading.ensures
     (read_row c.optional-extensions.ensures.left_out
     (read_row c.optional-extras.ensures.left_out

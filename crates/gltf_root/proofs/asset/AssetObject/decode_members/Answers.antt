@@ -5,7 +5,7 @@ use Rattle.gltf_root.proofs.asset.AssetObject.decode_members.Goals as goal
 
 pub returns : goal.returns
 unfolding asset_rows asset_members
-returns c =
+returns g c =
     all_read asset_members c.from_members-reading.ensures
     (read_row c.optional-copyright.ensures.left_out
     (read_row c.optional-generator.ensures.left_out

@@ -5,7 +5,7 @@ use Rattle.gltf_root.proofs.root.RootObject.decode_members.Goals as goal
 
 pub returns : goal.returns
 unfolding root_rows root_members
-returns c =
+returns g c =
     all_read root_members c.from_members-reading.ensures
     (read_row c.list-accessors.ensures
     (read_row c.list-animations.ensures

@@ -5,7 +5,7 @@ use Rattle.gltf_textures.proofs.texture.InfoObject.decode_members.Goals as goal
 
 pub returns : goal.returns
 unfolding info_rows info_members
-returns c =
+returns g c =
     all_read info_members c.from_members-reading.ensures
     (read_row c.required-index.ensures
     (read_row c.or_default-tex_coord.ensures.always

@@ -5,7 +5,7 @@ use Rattle.gltf_textures.proofs.texture.SamplerObject.decode_members.Goals as go
 
 pub returns : goal.returns
 unfolding sampler_rows sampler_members
-returns c =
+returns g c =
     all_read sampler_members c.from_members-reading.ensures
     (read_row c.optional-mag_filter.ensures.left_out
     (read_row c.optional-min_filter.ensures.left_out

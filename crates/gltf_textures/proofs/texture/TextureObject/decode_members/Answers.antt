@@ -8,7 +8,7 @@ use Rattle.gltf_textures.proofs.texture.TextureObject.decode_members.Goals as go
 
 pub returns : goal.returns
 unfolding texture_rows texture_members
-returns c =
+returns g c =
     all_read texture_members c.from_members-reading.ensures
     (read_row c.optional-name.ensures.left_out
     (read_row c.optional-sampler.ensures.left_out

@@ -5,7 +5,7 @@ use Rattle.gltf_data.proofs.accessor.sparse.IndicesObject.decode_members.Goals a
 
 pub returns : goal.returns
 unfolding sparse_indices_rows sparse_indices_members
-returns c =
+returns g c =
     all_read sparse_indices_members c.from_members-reading.ensures
     (read_row c.required-buffer_view.ensures
     (read_row c.or_default-byte_offset.ensures.always

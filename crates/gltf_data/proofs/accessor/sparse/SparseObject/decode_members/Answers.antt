@@ -5,7 +5,7 @@ use Rattle.gltf_data.proofs.accessor.sparse.SparseObject.decode_members.Goals as
 
 pub returns : goal.returns
 unfolding sparse_rows sparse_members
-returns c =
+returns g c =
     all_read sparse_members c.from_members-reading.ensures
     (read_row c.required-count.ensures
     (read_row c.required-indices.ensures

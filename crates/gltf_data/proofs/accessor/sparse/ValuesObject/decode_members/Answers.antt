@@ -5,7 +5,7 @@ use Rattle.gltf_data.proofs.accessor.sparse.ValuesObject.decode_members.Goals as
 
 pub returns : goal.returns
 unfolding sparse_values_rows sparse_values_members
-returns c =
+returns g c =
     all_read sparse_values_members c.from_members-reading.ensures
     (read_row c.required-buffer_view.ensures
     (read_row c.or_default-byte_offset.ensures.always

@@ -5,6 +5,6 @@ use Rattle.gltf_meshes.proofs.extensions.mesh.KhrMaterialsVariantsObject.decode_
 
 pub returns : goal.returns
 unfolding variant_mappings_rows variant_mappings_members
-returns c =
+returns g c =
     all_read variant_mappings_members c.from_members-reading.ensures
     (read_row c.required-mappings.ensures read_none) c.finish.ensures

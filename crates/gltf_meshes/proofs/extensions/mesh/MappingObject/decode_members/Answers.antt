@@ -5,7 +5,7 @@ use Rattle.gltf_meshes.proofs.extensions.mesh.MappingObject.decode_members.Goals
 
 pub returns : goal.returns
 unfolding variant_mapping_rows variant_mapping_members
-returns c =
+returns g c =
     all_read variant_mapping_members c.from_members-reading.ensures
     (read_row c.required-material.ensures
     (read_row c.required-variants.ensures read_none)) c.finish.ensures

@@ -6,6 +6,6 @@ use Rattle.gltf_meshes.proofs.extensions.mesh.PrimitiveObject.decode_members.Goa
 
 pub returns : goal.returns
 unfolding primitive_extension_rows primitive_extension_members
-returns c =
+returns g c =
     all_kept primitive_extension_members (λ e. members_view e.others.entries) c.from_members-reading.ensures
     (read_row c.optional-khr_materials_variants.ensures.left_out read_none) c.others-others.ensures c.finish.ensures

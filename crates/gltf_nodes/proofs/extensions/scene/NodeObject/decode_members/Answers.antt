@@ -6,6 +6,6 @@ use Rattle.gltf_nodes.proofs.extensions.scene.NodeObject.decode_members.Goals as
 
 pub returns : goal.returns
 unfolding node_extension_rows node_extension_members
-returns c =
+returns g c =
     all_kept node_extension_members (λ e. members_view e.others.entries) c.from_members-reading.ensures
     (read_row c.optional-khr_lights_punctual.ensures.left_out read_none) c.others-others.ensures c.finish.ensures

@@ -5,6 +5,6 @@ use Rattle.gltf_root.proofs.extensions.root.KhrLightsPunctualObject.decode_membe
 
 pub returns : goal.returns
 unfolding lights_rows lights_members
-returns c =
+returns g c =
     all_read lights_members c.from_members-reading.ensures
     (read_row c.required-lights.ensures read_none) c.finish.ensures

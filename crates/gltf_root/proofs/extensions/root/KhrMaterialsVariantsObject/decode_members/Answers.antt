@@ -5,6 +5,6 @@ use Rattle.gltf_root.proofs.extensions.root.KhrMaterialsVariantsObject.decode_me
 
 pub returns : goal.returns
 unfolding variants_rows variants_members
-returns c =
+returns g c =
     all_read variants_members c.from_members-reading.ensures
     (read_row c.required-variants.ensures read_none) c.finish.ensures

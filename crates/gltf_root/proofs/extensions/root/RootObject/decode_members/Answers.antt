@@ -6,7 +6,7 @@ use Rattle.gltf_root.proofs.extensions.root.RootObject.decode_members.Goals as g
 
 pub returns : goal.returns
 unfolding root_extension_rows root_extension_members
-returns c =
+returns g c =
     all_kept root_extension_members (λ e. members_view e.others.entries) c.from_members-reading.ensures
     (read_row c.optional-khr_lights_punctual.ensures.left_out
     (read_row c.optional-khr_materials_variants.ensures.left_out read_none)) c.others-others.ensures c.finish.ensures

@@ -5,6 +5,6 @@ use Rattle.gltf_shading.proofs.extensions.material.EmissiveStrengthObject.decode
 
 pub returns : goal.returns
 unfolding emissive_strength_rows emissive_strength_members
-returns c =
+returns g c =
     all_read emissive_strength_members c.from_members-reading.ensures
     (read_row c.sometimes-emissive_strength.ensures read_none) c.finish.ensures

@@ -5,7 +5,7 @@ use Rattle.gltf_shading.proofs.extensions.material.IorObject.decode_members.Goal
 
 pub returns : goal.returns
 unfolding ior_rows ior_members
-returns c =
+returns g c =
     all_read ior_members c.from_members-reading.ensures
     (read_row c.sometimes-ior.ensures
     (read_row c.optional-extras.ensures.left_out read_none)) c.finish.ensures

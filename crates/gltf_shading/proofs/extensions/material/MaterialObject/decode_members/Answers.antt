@@ -6,7 +6,7 @@ use Rattle.gltf_shading.proofs.extensions.material.MaterialObject.decode_members
 
 pub returns : goal.returns
 unfolding material_extension_rows material_extension_members
-returns c =
+returns g c =
     all_kept material_extension_members (λ e. members_view e.others.entries) c.from_members-reading.ensures
     (read_row c.optional-pbr_specular_glossiness.ensures.left_out
     (read_row c.optional-unlit.ensures.left_out

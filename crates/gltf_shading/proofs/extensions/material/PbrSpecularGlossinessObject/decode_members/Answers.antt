@@ -6,7 +6,7 @@ use Rattle.gltf_shading.proofs.extensions.material.PbrSpecularGlossinessObject.d
 
 pub returns : goal.returns
 unfolding pbr_specular_glossiness_rows pbr_specular_glossiness_members
-returns c =
+returns g c =
     all_kept pbr_specular_glossiness_members (λ e. members_view e.others.entries) c.from_members-reading.ensures
     (read_row c.sometimes-diffuse_factor.ensures
     (read_row c.optional-diffuse_texture.ensures.left_out

@@ -5,7 +5,7 @@ use Rattle.gltf_shading.proofs.extensions.material.SpecularObject.decode_members
 
 pub returns : goal.returns
 unfolding specular_rows specular_members
-returns c =
+returns g c =
     all_read specular_members c.from_members-reading.ensures
     (read_row c.sometimes-specular_factor.ensures
     (read_row c.optional-specular_texture.ensures.left_out

@@ -5,7 +5,7 @@ use Rattle.gltf_shading.proofs.extensions.material.TransmissionObject.decode_mem
 
 pub returns : goal.returns
 unfolding transmission_rows transmission_members
-returns c =
+returns g c =
     all_read transmission_members c.from_members-reading.ensures
     (read_row c.sometimes-transmission_factor.ensures
     (read_row c.optional-transmission_texture.ensures.left_out

@@ -5,7 +5,7 @@ use Rattle.gltf_shading.proofs.extensions.material.VolumeObject.decode_members.G
 
 pub returns : goal.returns
 unfolding volume_rows volume_members
-returns c =
+returns g c =
     all_read volume_members c.from_members-reading.ensures
     (read_row c.sometimes-thickness_factor.ensures
     (read_row c.optional-thickness_texture.ensures.left_out

@@ -6,6 +6,6 @@ use Rattle.gltf_textures.proofs.extensions.texture.InfoObject.decode_members.Goa
 
 pub returns : goal.returns
 unfolding info_extension_rows info_extension_members
-returns c =
+returns g c =
     all_kept info_extension_members (λ e. members_view e.others.entries) c.from_members-reading.ensures
     (read_row c.optional-texture_transform.ensures.left_out read_none) c.others-others.ensures c.finish.ensures

@@ -5,7 +5,7 @@ use Rattle.gltf_textures.proofs.extensions.texture.TextureTransformObject.decode
 
 pub returns : goal.returns
 unfolding texture_transform_rows texture_transform_members
-returns c =
+returns g c =
     all_read texture_transform_members c.from_members-reading.ensures
     (read_row c.sometimes-offset.ensures
     (read_row c.sometimes-rotation.ensures

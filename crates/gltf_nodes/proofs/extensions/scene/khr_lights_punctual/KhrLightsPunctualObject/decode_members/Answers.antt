@@ -5,6 +5,6 @@ use Rattle.gltf_nodes.proofs.extensions.scene.khr_lights_punctual.KhrLightsPunct
 
 pub returns : goal.returns
 unfolding light_of_node_rows light_of_node_members
-returns c =
+returns g c =
     all_read light_of_node_members c.from_members-reading.ensures
     (read_row c.required-light.ensures read_none) c.finish.ensures

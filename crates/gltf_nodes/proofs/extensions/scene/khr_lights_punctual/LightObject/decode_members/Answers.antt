@@ -5,7 +5,7 @@ use Rattle.gltf_nodes.proofs.extensions.scene.khr_lights_punctual.LightObject.de
 
 pub returns : goal.returns
 unfolding light_rows light_members
-returns c =
+returns g c =
     all_read light_members c.from_members-reading.ensures
     (read_row c.sometimes-color.ensures
     (read_row c.optional-extensions.ensures.left_out

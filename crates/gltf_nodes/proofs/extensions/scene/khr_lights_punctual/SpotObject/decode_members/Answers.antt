@@ -5,7 +5,7 @@ use Rattle.gltf_nodes.proofs.extensions.scene.khr_lights_punctual.SpotObject.dec
 
 pub returns : goal.returns
 unfolding spot_rows spot_members
-returns c =
+returns g c =
     all_read spot_members c.from_members-reading.ensures
     (read_row c.sometimes-inner_cone_angle.ensures
     (read_row c.sometimes-outer_cone_angle.ensures read_none)) c.finish.ensures

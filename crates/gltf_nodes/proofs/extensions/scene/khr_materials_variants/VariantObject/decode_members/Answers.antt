@@ -5,6 +5,6 @@ use Rattle.gltf_nodes.proofs.extensions.scene.khr_materials_variants.VariantObje
 
 pub returns : goal.returns
 unfolding variant_rows variant_members
-returns c =
+returns g c =
     all_read variant_members c.from_members-reading.ensures
     (read_row c.required-name.ensures read_none) c.finish.ensures

@@ -1,0 +1,4 @@
+mod Levels
+mod Turns
+mod Ordered
+mod Listed

@@ -1,0 +1,14 @@
+//! Values of JSON whose texts are borrowed from the text that they were read from: a second source
+//! to read the table's kinds from, beside `serde_json::Value`.
+#![tactic(auto)]
+
+mod numeral;
+mod owned;
+mod reading;
+mod source;
+mod value;
+mod whole;
+
+pub use reading::{NoValue, read_value};
+pub use value::Borrowed;
+pub use whole::{MAX_DEPTH, decode_text, read_text};

@@ -1,10 +1,14 @@
 //! Animations (glTF 2.0, sections 5.5 to 5.8).
 
-ghost use Rattle.std.specs.Prelude.{false};
+ghost use Rattle.std.specs.Prelude.{◌≡◌, [], ◌∷◌, false, codes};
 ghost use Rattle.std.proofs.Common.{lit≤};
 ghost use Rattle.serde_json.specs.Data.{no_members};
 ghost use Rattle.gltf_paths.specs.Lists.{animations};
 ghost use Rattle.gltf_schema.specs.Kind.{holds_samplers};
+ghost use Rattle.gltf_choices.specs.SceneChoices.{property_spelling};
+ghost use Rattle.gltf_schema.specs.Tree.{chosen};
+ghost use Rattle.gltf_schema.specs.Given.{made};
+ghost use Rattle.gltf_schema.specs.Fields.{index_tree, list_tree, closed_object};
 ghost use Rattle.gltf_animations.specs.Animation.{animation_rows, animation_sound, animation_height, animation_channel_rows, animation_channel_sound, animation_channel_height, animation_target_rows, animation_target_sound, animation_target_height, animation_sampler_rows, animation_sampler_sound, animation_sampler_height, animation_members, animation_channel_members, animation_target_members, animation_sampler_members};
 
 use crate::extensions;
@@ -40,6 +44,25 @@ impl Drop for Animation {
             extensions: _,
             extras: _,
         } = self;
+    }
+}
+
+impl Animation {
+    /// An animation of these channels, which name the samplers by their numbers.
+    #[tactic(auto, unfolding(crate::specs::Animation::animation_rows, crate::specs::Animation::animation_members))]
+    pub fn new(samplers: Vec<Sampler>, channels: Vec<Channel>) -> Animation
+        ensures { animation_members result ≡ made animation_rows (
+            (codes "samplers", list_tree (λ s. closed_object (animation_sampler_members s)) samplers.items)
+            ∷ (codes "channels", list_tree (λ c. closed_object (animation_channel_members c)) channels.items)
+            ∷ []) }
+    {
+        Animation {
+            samplers,
+            channels,
+            name: None,
+            extensions: None,
+            extras: None,
+        }
     }
 }
 
@@ -102,6 +125,24 @@ pub struct Channel {
     pub target: Target,
 }
 
+impl Channel {
+    /// A property that follows a sampler of the same animation.
+    #[tactic(auto, unfolding(crate::specs::Animation::animation_channel_rows, crate::specs::Animation::animation_channel_members))]
+    pub fn new(sampler: Index<Sampler>, target: Target) -> Channel
+        ensures { animation_channel_members result ≡ made animation_channel_rows (
+            (codes "sampler", index_tree sampler)
+            ∷ (codes "target", closed_object (animation_target_members target))
+            ∷ []) }
+    {
+        Channel {
+            sampler,
+            target,
+            extensions: None,
+            extras: None,
+        }
+    }
+}
+
 impl Object for Channel {
     ghost rows = { animation_channel_rows };
 
@@ -149,6 +190,24 @@ pub struct Target {
     pub path: Checked<Property>,
     pub extensions: Option<extensions::animation::Target>,
     pub extras: Extras,
+}
+
+impl Target {
+    /// A property of a node.
+    #[tactic(auto, unfolding(crate::specs::Animation::animation_target_rows, crate::specs::Animation::animation_target_members))]
+    pub fn new(node: Index<Node>, path: Property) -> Target
+        ensures { animation_target_members result ≡ made animation_target_rows (
+            (codes "node", index_tree node)
+            ∷ (codes "path", chosen (property_spelling path))
+            ∷ []) }
+    {
+        Target {
+            node,
+            path: Checked::Valid(path),
+            extensions: None,
+            extras: None,
+        }
+    }
 }
 
 impl Object for Target {
@@ -212,6 +271,25 @@ pub struct Sampler {
     pub output: Index<Accessor>,
     pub extensions: Option<extensions::animation::Sampler>,
     pub extras: Extras,
+}
+
+impl Sampler {
+    /// Times, and the values at them; between two of them lies a straight line.
+    #[tactic(auto, unfolding(crate::specs::Animation::animation_sampler_rows, crate::specs::Animation::animation_sampler_members))]
+    pub fn new(input: Index<Accessor>, output: Index<Accessor>) -> Sampler
+        ensures { animation_sampler_members result ≡ made animation_sampler_rows (
+            (codes "input", index_tree input)
+            ∷ (codes "output", index_tree output)
+            ∷ []) }
+    {
+        Sampler {
+            input,
+            interpolation: Checked::Valid(Interpolation::default()),
+            output,
+            extensions: None,
+            extras: None,
+        }
+    }
 }
 
 impl Object for Sampler {

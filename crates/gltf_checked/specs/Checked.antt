@@ -1,5 +1,5 @@
 -- Items of a choice that may be none of its values.
-use Rattle.std.specs.Prelude.{⊤}
+use Rattle.std.specs.Prelude.{⊤, ℕ, List, codes, Option, Some}
 use Rattle.std.specs.Borrow.{Bor}
 use Rattle.gltf_checked.specs.declared.validation.Checked.{Checked}
 use Rattle.gltf_checked.specs.declared.validation.Checked.TheVariants.{Valid, Invalid}
@@ -16,3 +16,8 @@ IsValid c = IsValidAnd c (λ _. ⊤)
 abbrev pub checked_copied : {X : Type 0} → Checked (Bor X) → Checked X
 checked_copied (Valid x) = Valid x.now
 checked_copied Invalid = Invalid
+
+-- what is printed: the item's own text, where that is known
+abbrev pub checked_text : {X : Type 0} → (X → Option (List ℕ)) → Checked X → Option (List ℕ)
+checked_text item_text (Valid x) = item_text x
+checked_text item_text Invalid = Some (codes "<invalid>")

@@ -1,5 +1,6 @@
 -- How a document spells the items of a choice: each by a number, or each by a name.
 use Rattle.std.specs.Prelude.{ℕ, ◌==◌, List, [], ◌∷◌, Bool, false, if◌then◌else◌}
+use Rattle.std.specs.Fmt.{decimal}
 use Rattle.std.specs.Str.{bytes_eq}
 use Rattle.gltf_checked.specs.declared.choice.Spelling.{Spelling as Borrowed}
 use Rattle.gltf_checked.specs.declared.choice.Spelling.TheVariants as borrowed
@@ -13,6 +14,11 @@ pub data Spelling : Type 0 where
 abbrev pub spelling_of : Borrowed → Spelling
 spelling_of (borrowed.Number n) = by_number n
 spelling_of (borrowed.Name s) = by_name s.now
+
+-- a number is printed in decimal, and a name as it is
+abbrev pub spelling_text : Spelling → List ℕ
+spelling_text (by_number n) = decimal n
+spelling_text (by_name s) = s
 
 abbrev pub is_spelled : Spelling → Spelling → Bool
 is_spelled (by_number m) (by_number n) = m == n

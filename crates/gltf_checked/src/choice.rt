@@ -6,6 +6,7 @@ ghost use Rattle.gltf_checked.specs.Spelling.{Spelling as Spelled, spelling_of, 
 ghost use Rattle.gltf_checked.specs.declared.validation.Checked.TheVariants.{Valid};
 
 use crate::validation::Checked;
+use std::fmt::{self, Display, Formatter, Write};
 
 /// Whether a choice is spelled by numbers or by names.
 #[derive(Clone, Copy, Debug, PartialEq, Eq)]
@@ -50,6 +51,20 @@ pub trait Choice: Copy + 'static {
     // Each item that is read is the one that its own spelling means.
     ghost reads_back: { AllByRecursion (λ x. item_spelled spelling listed (spelling x) ≡ Valid x)
         listed };
+}
+
+impl Display for Spelling<'_> {
+    ghost use Rattle.std.specs.Prelude.{Some};
+    ghost use Rattle.gltf_checked.specs.Spelling.{spelling_text};
+
+    ghost output = { λ spelling. Some (spelling_text (spelling_of spelling)) };
+
+    fn fmt<W: Write>(&self, f: &mut Formatter<W>) -> fmt::Result {
+        match self {
+            Spelling::Number(number) => Display::fmt(number, f),
+            Spelling::Name(name) => f.pad(name),
+        }
+    }
 }
 
 /// Whether two spellings are the same: two numbers, or two names, that are equal.

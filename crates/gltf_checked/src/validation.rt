@@ -2,6 +2,8 @@
 
 ghost use Rattle.std.specs.Prelude.{◌≡◌};
 
+use std::fmt::{self, Display, Formatter, Write};
+
 /// An item of a choice, or a value that is none of the choice's.
 #[derive(Clone, Copy, Debug, Drop, PartialEq, Eq, PartialOrd, Ord, Hash)]
 pub enum Checked<T> {
@@ -43,5 +45,18 @@ impl<T: Default> Default for Checked<T> {
 
     fn default() -> Checked<T> {
         Checked::Valid(T::default())
+    }
+}
+
+impl<T: Display> Display for Checked<T> {
+    ghost use Rattle.gltf_checked.specs.Checked.{checked_text};
+
+    ghost output = { checked_text T.output };
+
+    fn fmt<W: Write>(&self, f: &mut Formatter<W>) -> fmt::Result {
+        match self {
+            Checked::Valid(item) => Display::fmt(item, f),
+            Checked::Invalid => f.pad("<invalid>"),
+        }
     }
 }

@@ -8,6 +8,7 @@ ghost use Rattle.gltf_choices.specs.Elements.{component_size, component_count};
 pub use AccessorType as Type;
 use gltf_checked::choice::{Choice, Form, Spelling, item_of};
 use gltf_checked::validation::Checked;
+use std::fmt::{self, Display, Formatter, Write};
 
 /// `GL_BYTE`.
 pub const BYTE: u32 = 5120;
@@ -89,6 +90,17 @@ impl ComponentType {
     }
 }
 
+impl Display for ComponentType {
+    ghost use Rattle.std.specs.Prelude.{Some};
+    ghost use Rattle.gltf_checked.specs.Spelling.{spelling_text};
+
+    ghost output = { λ item. Some (spelling_text (component_type_spelling item)) };
+
+    fn fmt<W: Write>(&self, f: &mut Formatter<W>) -> fmt::Result {
+        Display::fmt(&self.as_gl_enum(), f)
+    }
+}
+
 /// A component type of an accessor.
 #[derive(Clone, Copy, Debug)]
 pub struct GenericComponentType(pub ComponentType);
@@ -122,6 +134,17 @@ impl Choice for GenericComponentType {
 
     fn spelling(self) -> Spelling<'static> {
         Spelling::Number(u64::from(self.as_gl_enum()))
+    }
+}
+
+impl Display for GenericComponentType {
+    ghost use Rattle.std.specs.Prelude.{Some};
+    ghost use Rattle.gltf_checked.specs.Spelling.{spelling_text};
+
+    ghost output = { λ item. Some (spelling_text (generic_component_type_spelling item)) };
+
+    fn fmt<W: Write>(&self, f: &mut Formatter<W>) -> fmt::Result {
+        Display::fmt(&self.spelling(), f)
     }
 }
 
@@ -172,6 +195,17 @@ impl Choice for IndexComponentType {
 
     fn spelling(self) -> Spelling<'static> {
         Spelling::Number(u64::from(self.as_gl_enum()))
+    }
+}
+
+impl Display for IndexComponentType {
+    ghost use Rattle.std.specs.Prelude.{Some};
+    ghost use Rattle.gltf_checked.specs.Spelling.{spelling_text};
+
+    ghost output = { λ item. Some (spelling_text (index_component_type_spelling item)) };
+
+    fn fmt<W: Write>(&self, f: &mut Formatter<W>) -> fmt::Result {
+        Display::fmt(&self.spelling(), f)
     }
 }
 
@@ -241,6 +275,17 @@ impl Choice for AccessorType {
 
     fn spelling(self) -> Spelling<'static> {
         Spelling::Name(self.name())
+    }
+}
+
+impl Display for AccessorType {
+    ghost use Rattle.std.specs.Prelude.{Some};
+    ghost use Rattle.gltf_checked.specs.Spelling.{spelling_text};
+
+    ghost output = { λ item. Some (spelling_text (accessor_type_spelling item)) };
+
+    fn fmt<W: Write>(&self, f: &mut Formatter<W>) -> fmt::Result {
+        Display::fmt(&self.spelling(), f)
     }
 }
 

@@ -6,6 +6,7 @@ ghost use Rattle.gltf_choices.specs.SceneChoices.{interpolation_spelling, interp
 
 use gltf_checked::choice::{Choice, Form, Spelling, item_of};
 use gltf_checked::validation::Checked;
+use std::fmt::{self, Display, Formatter, Write};
 
 /// The names of the interpolations.
 pub const VALID_INTERPOLATIONS: &[&str] = &["LINEAR", "STEP", "CUBICSPLINE"];
@@ -60,6 +61,17 @@ impl Choice for Interpolation {
 
     fn spelling(self) -> Spelling<'static> {
         Spelling::Name(self.name())
+    }
+}
+
+impl Display for Interpolation {
+    ghost use Rattle.std.specs.Prelude.{Some};
+    ghost use Rattle.gltf_checked.specs.Spelling.{spelling_text};
+
+    ghost output = { λ item. Some (spelling_text (interpolation_spelling item)) };
+
+    fn fmt<W: Write>(&self, f: &mut Formatter<W>) -> fmt::Result {
+        Display::fmt(&self.spelling(), f)
     }
 }
 
@@ -123,6 +135,17 @@ impl Choice for Property {
 
     fn spelling(self) -> Spelling<'static> {
         Spelling::Name(self.name())
+    }
+}
+
+impl Display for Property {
+    ghost use Rattle.std.specs.Prelude.{Some};
+    ghost use Rattle.gltf_checked.specs.Spelling.{spelling_text};
+
+    ghost output = { λ item. Some (spelling_text (property_spelling item)) };
+
+    fn fmt<W: Write>(&self, f: &mut Formatter<W>) -> fmt::Result {
+        Display::fmt(&self.spelling(), f)
     }
 }
 

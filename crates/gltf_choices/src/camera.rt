@@ -7,6 +7,7 @@ ghost use Rattle.gltf_choices.specs.SceneChoices.{camera_type_spelling, camera_t
 pub use CameraType as Type;
 use gltf_checked::choice::{Choice, Form, Spelling, item_of};
 use gltf_checked::validation::Checked;
+use std::fmt::{self, Display, Formatter, Write};
 
 /// The names of the types.
 pub const VALID_CAMERA_TYPES: &[&str] = &["perspective", "orthographic"];
@@ -42,6 +43,17 @@ impl Choice for CameraType {
 
     fn spelling(self) -> Spelling<'static> {
         Spelling::Name(self.name())
+    }
+}
+
+impl Display for CameraType {
+    ghost use Rattle.std.specs.Prelude.{Some};
+    ghost use Rattle.gltf_checked.specs.Spelling.{spelling_text};
+
+    ghost output = { λ item. Some (spelling_text (camera_type_spelling item)) };
+
+    fn fmt<W: Write>(&self, f: &mut Formatter<W>) -> fmt::Result {
+        Display::fmt(&self.spelling(), f)
     }
 }
 

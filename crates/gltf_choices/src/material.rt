@@ -6,6 +6,7 @@ ghost use Rattle.gltf_choices.specs.SceneChoices.{alpha_mode_spelling, alpha_mod
 
 use gltf_checked::choice::{Choice, Form, Spelling, item_of};
 use gltf_checked::validation::Checked;
+use std::fmt::{self, Display, Formatter, Write};
 
 /// The names of the modes.
 pub const VALID_ALPHA_MODES: &[&str] = &["OPAQUE", "MASK", "BLEND"];
@@ -53,6 +54,17 @@ impl Choice for AlphaMode {
 
     fn spelling(self) -> Spelling<'static> {
         Spelling::Name(self.name())
+    }
+}
+
+impl Display for AlphaMode {
+    ghost use Rattle.std.specs.Prelude.{Some};
+    ghost use Rattle.gltf_checked.specs.Spelling.{spelling_text};
+
+    ghost output = { λ item. Some (spelling_text (alpha_mode_spelling item)) };
+
+    fn fmt<W: Write>(&self, f: &mut Formatter<W>) -> fmt::Result {
+        Display::fmt(&self.spelling(), f)
     }
 }
 

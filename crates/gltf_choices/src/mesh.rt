@@ -6,6 +6,7 @@ ghost use Rattle.gltf_choices.specs.Choices.{mode_spelling, modes};
 
 use gltf_checked::choice::{Choice, Form, Spelling, item_of};
 use gltf_checked::validation::Checked;
+use std::fmt::{self, Display, Formatter, Write};
 
 /// `GL_POINTS`.
 pub const POINTS: u32 = 0;
@@ -101,6 +102,17 @@ impl Choice for Mode {
 
     fn spelling(self) -> Spelling<'static> {
         Spelling::Number(u64::from(self.as_gl_enum()))
+    }
+}
+
+impl Display for Mode {
+    ghost use Rattle.std.specs.Prelude.{Some};
+    ghost use Rattle.gltf_checked.specs.Spelling.{spelling_text};
+
+    ghost output = { λ item. Some (spelling_text (mode_spelling item)) };
+
+    fn fmt<W: Write>(&self, f: &mut Formatter<W>) -> fmt::Result {
+        Display::fmt(&self.spelling(), f)
     }
 }
 

@@ -6,6 +6,7 @@ ghost use Rattle.gltf_choices.specs.TextureChoices.{mag_filter_spelling, mag_fil
 
 use gltf_checked::choice::{Choice, Form, Spelling, item_of};
 use gltf_checked::validation::Checked;
+use std::fmt::{self, Display, Formatter, Write};
 
 /// `GL_NEAREST`.
 pub const NEAREST: u32 = 9728;
@@ -84,6 +85,17 @@ impl Choice for MagFilter {
     }
 }
 
+impl Display for MagFilter {
+    ghost use Rattle.std.specs.Prelude.{Some};
+    ghost use Rattle.gltf_checked.specs.Spelling.{spelling_text};
+
+    ghost output = { λ item. Some (spelling_text (mag_filter_spelling item)) };
+
+    fn fmt<W: Write>(&self, f: &mut Formatter<W>) -> fmt::Result {
+        Display::fmt(&self.spelling(), f)
+    }
+}
+
 impl MagFilter {
     /// The filter that a number spells; `Invalid` where it spells none.
     pub fn from_gl_enum(number: u64) -> Checked<MagFilter>
@@ -149,6 +161,17 @@ impl Choice for MinFilter {
 
     fn spelling(self) -> Spelling<'static> {
         Spelling::Number(u64::from(self.as_gl_enum()))
+    }
+}
+
+impl Display for MinFilter {
+    ghost use Rattle.std.specs.Prelude.{Some};
+    ghost use Rattle.gltf_checked.specs.Spelling.{spelling_text};
+
+    ghost output = { λ item. Some (spelling_text (min_filter_spelling item)) };
+
+    fn fmt<W: Write>(&self, f: &mut Formatter<W>) -> fmt::Result {
+        Display::fmt(&self.spelling(), f)
     }
 }
 
@@ -222,6 +245,17 @@ impl Choice for WrappingMode {
 
     fn spelling(self) -> Spelling<'static> {
         Spelling::Number(u64::from(self.as_gl_enum()))
+    }
+}
+
+impl Display for WrappingMode {
+    ghost use Rattle.std.specs.Prelude.{Some};
+    ghost use Rattle.gltf_checked.specs.Spelling.{spelling_text};
+
+    ghost output = { λ item. Some (spelling_text (wrapping_mode_spelling item)) };
+
+    fn fmt<W: Write>(&self, f: &mut Formatter<W>) -> fmt::Result {
+        Display::fmt(&self.spelling(), f)
     }
 }
 

@@ -1,16 +1,19 @@
 //! Accessors: how the data of a view is read as elements (glTF 2.0, section 5.1).
 
-ghost use Rattle.std.specs.Prelude.{false};
+ghost use Rattle.std.specs.Prelude.{◌≡◌, [], ◌∷◌, false, codes};
 ghost use Rattle.std.proofs.Common.{lit≤};
 ghost use Rattle.serde_json.specs.Data.{no_members};
 ghost use Rattle.gltf_paths.specs.Lists.{accessors};
+ghost use Rattle.gltf_choices.specs.Choices.{component_type_spelling, accessor_type_spelling};
 ghost use Rattle.gltf_schema.specs.Kind.{needs_data};
+ghost use Rattle.gltf_schema.specs.Tree.{whole, chosen};
+ghost use Rattle.gltf_schema.specs.Given.{made};
 ghost use Rattle.gltf_data.specs.Accessor.{accessor_rows, accessor_sound, accessor_height, accessor_members};
 
 use crate::buffer::View;
 use crate::extensions;
 use crate::extras::Extras;
-use gltf_base::accessor::{AccessorType, GenericComponentType};
+use gltf_base::accessor::{AccessorType, ComponentType, GenericComponentType};
 use gltf_base::validation::{Checked, USize64};
 use gltf_base::{Index, Listed};
 use gltf_schema::{Error, Object, Reading, Source, Writing};
@@ -63,6 +66,34 @@ impl Drop for Accessor {
             max: _,
             sparse: _,
         } = self;
+    }
+}
+
+impl Accessor {
+    /// So many elements of a type. They are zeros until `buffer_view` or `sparse` is set, without
+    /// which the accessor is reported.
+    #[tactic(auto, unfolding(crate::specs::Accessor::accessor_rows, crate::specs::Accessor::accessor_members))]
+    pub fn new(count: u64, component_type: ComponentType, type_: AccessorType) -> Accessor
+        ensures { accessor_members result ≡ made accessor_rows (
+            (codes "count", whole count)
+            ∷ (codes "componentType", chosen (component_type_spelling component_type))
+            ∷ (codes "type", chosen (accessor_type_spelling type_))
+            ∷ []) }
+    {
+        Accessor {
+            count: USize64(count),
+            component_type: Checked::Valid(GenericComponentType(component_type)),
+            type_: Checked::Valid(type_),
+            normalized: false,
+            buffer_view: None,
+            byte_offset: None,
+            min: None,
+            max: None,
+            name: None,
+            sparse: None,
+            extensions: None,
+            extras: None,
+        }
     }
 }
 

@@ -1,10 +1,13 @@
 //! Buffers and their views: the bytes behind a document (glTF 2.0, sections 5.10 and 5.11).
 
-ghost use Rattle.std.specs.Prelude.{false, refl};
+ghost use Rattle.std.specs.Prelude.{◌≡◌, [], ◌∷◌, false, refl, codes};
 ghost use Rattle.std.proofs.Common.{lit≤};
 ghost use Rattle.serde_json.specs.Data.{no_members};
 ghost use Rattle.gltf_paths.specs.Lists.{buffers, buffer_views};
 ghost use Rattle.gltf_schema.specs.Kind.{Stride as stride_kind};
+ghost use Rattle.gltf_schema.specs.Tree.{whole};
+ghost use Rattle.gltf_schema.specs.Given.{made};
+ghost use Rattle.gltf_schema.specs.Fields.{index_tree};
 ghost use Rattle.gltf_data.specs.Buffer.{buffer_rows, buffer_sound, buffer_height, view_rows, view_sound, view_height, buffer_members, view_members, stride_tree};
 
 use crate::extensions;
@@ -60,6 +63,23 @@ impl Drop for Buffer {
             extensions: _,
             extras: _,
         } = self;
+    }
+}
+
+impl Buffer {
+    /// A buffer of so many bytes, every other member at its default.
+    #[tactic(auto, unfolding(crate::specs::Buffer::buffer_rows, crate::specs::Buffer::buffer_members))]
+    pub fn new(byte_length: u64) -> Buffer
+        ensures { buffer_members result
+            ≡ made buffer_rows ((codes "byteLength", whole byte_length) ∷ []) }
+    {
+        Buffer {
+            byte_length: USize64(byte_length),
+            name: None,
+            uri: None,
+            extensions: None,
+            extras: None,
+        }
     }
 }
 
@@ -143,6 +163,28 @@ impl Drop for View {
             extensions: _,
             extras: _,
         } = self;
+    }
+}
+
+impl View {
+    /// So many bytes from the start of a buffer, every other member at its default.
+    #[tactic(auto, unfolding(crate::specs::Buffer::view_rows, crate::specs::Buffer::view_members))]
+    pub fn new(buffer: Index<Buffer>, byte_length: u64) -> View
+        ensures { view_members result ≡ made view_rows (
+            (codes "buffer", index_tree buffer)
+            ∷ (codes "byteLength", whole byte_length)
+            ∷ []) }
+    {
+        View {
+            buffer,
+            byte_length: USize64(byte_length),
+            byte_offset: None,
+            byte_stride: None,
+            target: None,
+            name: None,
+            extensions: None,
+            extras: None,
+        }
     }
 }
 

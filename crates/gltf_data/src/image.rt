@@ -1,10 +1,13 @@
 //! Images (glTF 2.0, section 5.18).
 
-ghost use Rattle.std.specs.Prelude.{false, refl};
+ghost use Rattle.std.specs.Prelude.{◌≡◌, [], ◌∷◌, false, refl, codes};
 ghost use Rattle.std.proofs.Common.{lit≤};
 ghost use Rattle.serde_json.specs.Data.{no_members};
 ghost use Rattle.gltf_paths.specs.Lists.{images};
 ghost use Rattle.gltf_schema.specs.Kind.{Text};
+ghost use Rattle.gltf_schema.specs.Defaults.{defaults};
+ghost use Rattle.gltf_schema.specs.Given.{made};
+ghost use Rattle.gltf_schema.specs.Fields.{index_tree, text_tree};
 ghost use Rattle.gltf_data.specs.Image.{image_rows, image_sound, image_height, image_members, mime_type_tree};
 
 use crate::buffer::View;
@@ -62,6 +65,58 @@ impl Drop for Image {
             extensions: _,
             extras: _,
         } = self;
+    }
+}
+
+impl Image {
+    /// An image with every member at its default: no data yet.
+    #[tactic(auto, unfolding(crate::specs::Image::image_rows, crate::specs::Image::image_members))]
+    pub fn new() -> Image
+        ensures { image_members result ≡ defaults image_rows }
+    {
+        Image {
+            buffer_view: None,
+            mime_type: None,
+            name: None,
+            uri: None,
+            extensions: None,
+            extras: None,
+        }
+    }
+
+    /// An image whose data lies behind a URI.
+    #[tactic(auto, unfolding(crate::specs::Image::image_rows, crate::specs::Image::image_members))]
+    pub fn from_uri(uri: String) -> Image
+        ensures { image_members result ≡ made image_rows (
+            (codes "uri", text_tree uri)
+            ∷ []) }
+    {
+        Image {
+            uri: Some(uri),
+            buffer_view: None,
+            mime_type: None,
+            name: None,
+            extensions: None,
+            extras: None,
+        }
+    }
+
+    /// An image whose data lies in a view, as `image/png` or of another media type.
+    #[tactic(auto, unfolding(crate::specs::Image::image_rows, crate::specs::Image::image_members))]
+    pub fn from_view(buffer_view: Index<View>, mime_type: MimeType) -> Image
+        ensures { image_members result ≡ made image_rows (
+            (codes "bufferView", index_tree buffer_view)
+            ∷ (codes "mimeType", mime_type_tree mime_type)
+            ∷ []) }
+    {
+        Image {
+            buffer_view: Some(buffer_view),
+            mime_type: Some(mime_type),
+            name: None,
+            uri: None,
+            extensions: None,
+            extras: None,
+        }
     }
 }
 

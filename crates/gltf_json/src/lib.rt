@@ -9,7 +9,7 @@ pub use gltf_parts::extras::Extras;
 pub use gltf_parts::image::Image;
 pub use gltf_parts::material::Material;
 pub use gltf_parts::texture::Texture;
-pub use gltf_parts::{Error, Schema, accessor, buffer, extras, image, material, texture};
+pub use gltf_parts::{Error, Schema, Source, accessor, buffer, extras, image, material, texture};
 pub use gltf_root::root::Root;
 pub use gltf_scene::animation::Animation;
 pub use gltf_scene::asset::Asset;
@@ -66,7 +66,7 @@ pub mod validation {
     pub use gltf_base::validation::{Checked, Error, USize64};
     pub use gltf_clean::{Clean, CleanError, Item};
     pub use gltf_faults::Rules;
-    pub use gltf_sinks::{Collect, Count, Sink, Stop};
+    pub use gltf_sinks::{By, Collect, Count, Sink, Stop, Take};
     pub use gltf_validation::validation::Validate;
     pub use gltf_walk::Walk;
 }

@@ -1,13 +1,15 @@
 //! Materials, and their references to textures (glTF 2.0, sections 5.19 to 5.22).
 
-ghost use Rattle.std.specs.Prelude.{◌≡◌, false, refl};
+ghost use Rattle.std.specs.Prelude.{◌≡◌, [], ◌∷◌, false, refl, codes, option_map};
 ghost use Rattle.std.proofs.Common.{lit≤};
 ghost use Rattle.serde_json.specs.Data.{no_members};
 ghost use Rattle.gltf_paths.specs.Lists.{materials};
 ghost use Rattle.gltf_schema.specs.Kind.{Number, Numbers};
 ghost use Rattle.gltf_schema.specs.Defaults.{defaults};
+ghost use Rattle.gltf_schema.specs.Given.{made};
 ghost use Rattle.gltf_materials.specs.Material.{material_rows, material_sound, material_height, pbr_metallic_roughness_rows, pbr_metallic_roughness_sound, pbr_metallic_roughness_height, normal_texture_rows, normal_texture_sound, normal_texture_height, occlusion_texture_rows, occlusion_texture_sound, occlusion_texture_height, alpha_cutoff_tree, material_members, pbr_metallic_roughness_members, normal_texture_members, occlusion_texture_members};
-ghost use Rattle.gltf_schema.specs.Fields.{reals_tree};
+ghost use Rattle.gltf_schema.specs.Floats.{real_float, float_or, floats_or};
+ghost use Rattle.gltf_schema.specs.Fields.{index_tree, reals_tree};
 ghost use Rattle.gltf_schema.specs.Tree.{tree_or_absent};
 
 use gltf_base::material::AlphaMode;
@@ -82,6 +84,17 @@ impl Material {
             emissive_factor: EmissiveFactor(None),
             extensions: None,
             extras: None,
+        }
+    }
+
+    /// The alpha below which nothing is shown, as a float, or [`AlphaCutoff::DEFAULT`].
+    pub fn alpha_cutoff_value(&self) -> f64
+        ensures { result
+            ≡ float_or AlphaCutoff.DEFAULT (option_map (λ c. c.0) self.now.alpha_cutoff) }
+    {
+        match &self.alpha_cutoff {
+            Some(cutoff) => cutoff.value(),
+            None => AlphaCutoff::DEFAULT,
         }
     }
 }
@@ -286,6 +299,37 @@ impl Drop for NormalTexture {
     }
 }
 
+impl NormalTexture {
+    /// A reference to a texture, by the first set of texture coordinates.
+    #[tactic(auto, unfolding(crate::specs::Material::normal_texture_rows, crate::specs::Material::normal_texture_members))]
+    pub fn new(index: Index<Texture>) -> NormalTexture
+        ensures { normal_texture_members result ≡ made normal_texture_rows (
+            (codes "index", index_tree index)
+            ∷ []) }
+    {
+        NormalTexture {
+            index,
+            tex_coord: 0,
+            scale: None,
+            extensions: None,
+            extras: None,
+        }
+    }
+
+    /// The number that an absent `scale` means.
+    pub const DEFAULT_SCALE: f64 = 1.0;
+
+    /// The number as a float, or [`NormalTexture::DEFAULT_SCALE`] if it is absent.
+    pub fn scale_value(&self) -> f64
+        ensures { result ≡ float_or Self.DEFAULT_SCALE self.now.scale }
+    {
+        match &self.scale {
+            Some(number) => number.as_f64(),
+            None => NormalTexture::DEFAULT_SCALE,
+        }
+    }
+}
+
 impl Object for NormalTexture {
     ghost rows = { normal_texture_rows };
 
@@ -354,6 +398,24 @@ impl Drop for OcclusionTexture {
     }
 }
 
+impl OcclusionTexture {
+    /// A reference to a texture, by the first set of texture coordinates.
+    #[tactic(auto, unfolding(crate::specs::Material::occlusion_texture_rows, crate::specs::Material::occlusion_texture_members))]
+    pub fn new(index: Index<Texture>) -> OcclusionTexture
+        ensures { occlusion_texture_members result ≡ made occlusion_texture_rows (
+            (codes "index", index_tree index)
+            ∷ []) }
+    {
+        OcclusionTexture {
+            index,
+            strength: StrengthFactor(None),
+            tex_coord: 0,
+            extensions: None,
+            extras: None,
+        }
+    }
+}
+
 impl Object for OcclusionTexture {
     ghost rows = { occlusion_texture_rows };
 
@@ -403,6 +465,18 @@ impl Object for OcclusionTexture {
 #[derive(Clone, Debug, Drop)]
 pub struct AlphaCutoff(pub Real);
 
+impl AlphaCutoff {
+    /// The number that an absent `alpha_cutoff` means.
+    pub const DEFAULT: f64 = 0.5;
+
+    /// The number as a float.
+    pub fn value(&self) -> f64
+        ensures { result ≡ real_float self.now.0 }
+    {
+        self.0.as_f64()
+    }
+}
+
 impl Tabled for AlphaCutoff {
     ghost kind = { Number };
 
@@ -425,6 +499,21 @@ impl Schema for AlphaCutoff {
 #[derive(Clone, Debug, Default, Drop)]
 pub struct EmissiveFactor(pub Option<[Real; 3]>);
 
+impl EmissiveFactor {
+    /// The numbers that an absent factor means.
+    pub const DEFAULT: [f64; 3] = [0.0; 3];
+
+    /// The numbers as floats, or [`EmissiveFactor::DEFAULT`] if they are absent.
+    pub fn values(&self) -> [f64; 3]
+        ensures { result ≡ floats_or Self.DEFAULT self.now.0 }
+    {
+        match &self.0 {
+            Some([r, g, b]) => [r.as_f64(), g.as_f64(), b.as_f64()],
+            None => EmissiveFactor::DEFAULT,
+        }
+    }
+}
+
 impl Tabled for EmissiveFactor {
     ghost kind = { Numbers 3 };
 
@@ -434,6 +523,21 @@ impl Tabled for EmissiveFactor {
 /// The factors of a base color: red, green, blue, alpha; `None` means ones.
 #[derive(Clone, Debug, Default, Drop)]
 pub struct PbrBaseColorFactor(pub Option<[Real; 4]>);
+
+impl PbrBaseColorFactor {
+    /// The numbers that an absent factor means.
+    pub const DEFAULT: [f64; 4] = [1.0; 4];
+
+    /// The numbers as floats, or [`PbrBaseColorFactor::DEFAULT`] if they are absent.
+    pub fn values(&self) -> [f64; 4]
+        ensures { result ≡ floats_or Self.DEFAULT self.now.0 }
+    {
+        match &self.0 {
+            Some([r, g, b, a]) => [r.as_f64(), g.as_f64(), b.as_f64(), a.as_f64()],
+            None => PbrBaseColorFactor::DEFAULT,
+        }
+    }
+}
 
 impl Tabled for PbrBaseColorFactor {
     ghost kind = { Numbers 4 };

@@ -1,10 +1,13 @@
 //! Meshes, their primitives and morph targets (glTF 2.0, sections 5.23 and 5.24).
 
-ghost use Rattle.std.specs.Prelude.{◌≡◌, false};
+ghost use Rattle.std.specs.Prelude.{◌≡◌, [], ◌∷◌, false, codes};
 ghost use Rattle.std.proofs.Common.{lit≤};
 ghost use Rattle.serde_json.specs.Data.{no_members};
 ghost use Rattle.gltf_paths.specs.Lists.{meshes};
 ghost use Rattle.gltf_schema.specs.Kind.{needs_positions};
+ghost use Rattle.gltf_schema.specs.Defaults.{defaults};
+ghost use Rattle.gltf_schema.specs.Given.{made};
+ghost use Rattle.gltf_schema.specs.Fields.{list_tree, attributes_tree, closed_object};
 ghost use Rattle.gltf_meshes.specs.Mesh.{mesh_rows, mesh_sound, mesh_height, primitive_rows, primitive_sound, primitive_height, morph_target_rows, morph_target_sound, morph_target_height, mesh_members, primitive_members, morph_target_members};
 
 use crate::extensions;
@@ -42,6 +45,24 @@ impl Drop for Mesh {
             extensions: _,
             extras: _,
         } = self;
+    }
+}
+
+impl Mesh {
+    /// A mesh of these parts.
+    #[tactic(auto, unfolding(crate::specs::Mesh::mesh_rows, crate::specs::Mesh::mesh_members))]
+    pub fn new(primitives: Vec<Primitive>) -> Mesh
+        ensures { mesh_members result ≡ made mesh_rows (
+            (codes "primitives", list_tree (λ p. closed_object (primitive_members p)) primitives.items)
+            ∷ []) }
+    {
+        Mesh {
+            primitives,
+            name: None,
+            weights: None,
+            extensions: None,
+            extras: None,
+        }
     }
 }
 
@@ -109,6 +130,26 @@ pub struct Primitive {
     pub extras: Extras,
 }
 
+impl Primitive {
+    /// Triangles of vertices with this data.
+    #[tactic(auto, unfolding(crate::specs::Mesh::primitive_rows, crate::specs::Mesh::primitive_members))]
+    pub fn new(attributes: BTreeMap<Checked<Semantic>, Index<Accessor>>) -> Primitive
+        ensures { primitive_members result ≡ made primitive_rows (
+            (codes "attributes", attributes_tree attributes)
+            ∷ []) }
+    {
+        Primitive {
+            attributes,
+            mode: Checked::Valid(Mode::Triangles),
+            indices: None,
+            material: None,
+            targets: None,
+            extensions: None,
+            extras: None,
+        }
+    }
+}
+
 impl Object for Primitive {
     ghost rule = { needs_positions };
 
@@ -168,6 +209,20 @@ pub struct MorphTarget {
     pub normals: Option<Index<Accessor>>,
     /// What is added to `TANGENT`.
     pub tangents: Option<Index<Accessor>>,
+}
+
+impl MorphTarget {
+    /// A target that adds nothing.
+    #[tactic(auto, unfolding(crate::specs::Mesh::morph_target_rows, crate::specs::Mesh::morph_target_members))]
+    pub fn new() -> MorphTarget
+        ensures { morph_target_members result ≡ defaults morph_target_rows }
+    {
+        MorphTarget {
+            positions: None,
+            normals: None,
+            tangents: None,
+        }
+    }
 }
 
 impl Object for MorphTarget {

@@ -1,10 +1,14 @@
 //! Cameras (glTF 2.0, sections 5.12 to 5.14).
 
-ghost use Rattle.std.specs.Prelude.{false};
+ghost use Rattle.std.specs.Prelude.{◌≡◌, [], ◌∷◌, false, codes};
 ghost use Rattle.std.proofs.Common.{lit≤};
 ghost use Rattle.serde_json.specs.Data.{no_members};
 ghost use Rattle.gltf_paths.specs.Lists.{cameras};
 ghost use Rattle.gltf_schema.specs.Kind.{needs_projection};
+ghost use Rattle.gltf_checked.specs.Spelling.{by_name};
+ghost use Rattle.gltf_schema.specs.Tree.{chosen};
+ghost use Rattle.gltf_schema.specs.Given.{made};
+ghost use Rattle.gltf_schema.specs.Fields.{real_tree, closed_object};
 ghost use Rattle.gltf_nodes.specs.Camera.{camera_rows, camera_sound, camera_height, orthographic_rows, orthographic_sound, orthographic_height, perspective_rows, perspective_sound, perspective_height, camera_members, orthographic_members, perspective_members};
 
 use crate::extensions;
@@ -42,6 +46,44 @@ impl Drop for Camera {
             orthographic: _,
             perspective: _,
         } = self;
+    }
+}
+
+impl Camera {
+    /// A camera of type `Perspective`.
+    #[tactic(auto, unfolding(crate::specs::Camera::camera_rows, crate::specs::Camera::camera_members))]
+    pub fn perspective(projection: Perspective) -> Camera
+        ensures { camera_members result ≡ made camera_rows (
+            (codes "type", chosen (by_name (codes "perspective")))
+            ∷ (codes "perspective", closed_object (perspective_members projection))
+            ∷ []) }
+    {
+        Camera {
+            type_: Checked::Valid(CameraType::Perspective),
+            perspective: Some(projection),
+            name: None,
+            extensions: None,
+            extras: None,
+            orthographic: None,
+        }
+    }
+
+    /// A camera of type `Orthographic`.
+    #[tactic(auto, unfolding(crate::specs::Camera::camera_rows, crate::specs::Camera::camera_members))]
+    pub fn orthographic(projection: Orthographic) -> Camera
+        ensures { camera_members result ≡ made camera_rows (
+            (codes "type", chosen (by_name (codes "orthographic")))
+            ∷ (codes "orthographic", closed_object (orthographic_members projection))
+            ∷ []) }
+    {
+        Camera {
+            type_: Checked::Valid(CameraType::Orthographic),
+            orthographic: Some(projection),
+            name: None,
+            extensions: None,
+            extras: None,
+            perspective: None,
+        }
     }
 }
 
@@ -111,6 +153,28 @@ pub struct Orthographic {
     pub extras: Extras,
 }
 
+impl Orthographic {
+    /// Half of the width and half of the height that is seen, and its far and near ends.
+    #[tactic(auto, unfolding(crate::specs::Camera::orthographic_rows, crate::specs::Camera::orthographic_members))]
+    pub fn new(xmag: Real, ymag: Real, zfar: Real, znear: Real) -> Orthographic
+        ensures { orthographic_members result ≡ made orthographic_rows (
+            (codes "xmag", real_tree xmag)
+            ∷ (codes "ymag", real_tree ymag)
+            ∷ (codes "zfar", real_tree zfar)
+            ∷ (codes "znear", real_tree znear)
+            ∷ []) }
+    {
+        Orthographic {
+            xmag,
+            ymag,
+            zfar,
+            znear,
+            extensions: None,
+            extras: None,
+        }
+    }
+}
+
 impl Object for Orthographic {
     ghost rows = { orthographic_rows };
 
@@ -169,6 +233,26 @@ pub struct Perspective {
     pub znear: Real,
     pub extensions: Option<extensions::camera::Perspective>,
     pub extras: Extras,
+}
+
+impl Perspective {
+    /// The angle of the view from top to bottom, and where it begins; it has no end.
+    #[tactic(auto, unfolding(crate::specs::Camera::perspective_rows, crate::specs::Camera::perspective_members))]
+    pub fn new(yfov: Real, znear: Real) -> Perspective
+        ensures { perspective_members result ≡ made perspective_rows (
+            (codes "yfov", real_tree yfov)
+            ∷ (codes "znear", real_tree znear)
+            ∷ []) }
+    {
+        Perspective {
+            yfov,
+            znear,
+            aspect_ratio: None,
+            zfar: None,
+            extensions: None,
+            extras: None,
+        }
+    }
 }
 
 impl Object for Perspective {

@@ -1,11 +1,14 @@
 //! Scenes and their nodes (glTF 2.0, sections 5.25 and 5.27).
 
-ghost use Rattle.std.specs.Prelude.{◌≡◌, false, refl};
+ghost use Rattle.std.specs.Prelude.{◌≡◌, [], ◌∷◌, false, refl, codes, map, option_map};
 ghost use Rattle.std.proofs.Common.{lit≤};
 ghost use Rattle.serde_json.specs.Data.{no_members};
 ghost use Rattle.gltf_paths.specs.Lists.{nodes, scenes};
 ghost use Rattle.gltf_schema.specs.Kind.{Numbers};
 ghost use Rattle.gltf_schema.specs.Defaults.{defaults};
+ghost use Rattle.gltf_schema.specs.Given.{made};
+ghost use Rattle.gltf_schema.specs.Floats.{real_float, floats_or};
+ghost use Rattle.gltf_schema.specs.Fields.{index_tree, list_tree};
 ghost use Rattle.gltf_nodes.specs.Scene.{node_rows, node_sound, node_height, scene_rows, scene_sound, scene_height, node_members, scene_members, unit_quaternion_tree, no_rotation};
 
 use crate::camera::Camera;
@@ -82,6 +85,46 @@ impl Node {
             rotation: None,
             scale: None,
             translation: None,
+        }
+    }
+
+    /// The numbers that an absent `translation` means.
+    pub const DEFAULT_TRANSLATION: [f64; 3] = [0.0; 3];
+
+    /// The numbers as floats, or [`Node::DEFAULT_TRANSLATION`] if they are absent.
+    pub fn translation_values(&self) -> [f64; 3]
+        ensures { result ≡ floats_or Self.DEFAULT_TRANSLATION self.now.translation }
+    {
+        match &self.translation {
+            Some([x, y, z]) => [x.as_f64(), y.as_f64(), z.as_f64()],
+            None => Node::DEFAULT_TRANSLATION,
+        }
+    }
+
+    /// The numbers that an absent `rotation` means: x, y, z, w.
+    pub const DEFAULT_ROTATION: [f64; 4] = [0.0, 0.0, 0.0, 1.0];
+
+    /// The numbers as floats, or [`Node::DEFAULT_ROTATION`] if they are absent.
+    pub fn rotation_values(&self) -> [f64; 4]
+        ensures { result
+            ≡ floats_or Self.DEFAULT_ROTATION (option_map (λ q. q.0) self.now.rotation) }
+    {
+        match &self.rotation {
+            Some(rotation) => rotation.values(),
+            None => Node::DEFAULT_ROTATION,
+        }
+    }
+
+    /// The numbers that an absent `scale` means.
+    pub const DEFAULT_SCALE: [f64; 3] = [1.0; 3];
+
+    /// The numbers as floats, or [`Node::DEFAULT_SCALE`] if they are absent.
+    pub fn scale_values(&self) -> [f64; 3]
+        ensures { result ≡ floats_or Self.DEFAULT_SCALE self.now.scale }
+    {
+        match &self.scale {
+            Some([x, y, z]) => [x.as_f64(), y.as_f64(), z.as_f64()],
+            None => Node::DEFAULT_SCALE,
         }
     }
 }
@@ -176,6 +219,23 @@ impl Drop for Scene {
     }
 }
 
+impl Scene {
+    /// A scene of the hierarchies below these nodes.
+    #[tactic(auto, unfolding(crate::specs::Scene::scene_rows, crate::specs::Scene::scene_members))]
+    pub fn new(nodes: Vec<Index<Node>>) -> Scene
+        ensures { scene_members result ≡ made scene_rows (
+            (codes "nodes", list_tree index_tree nodes.items)
+            ∷ []) }
+    {
+        Scene {
+            nodes,
+            name: None,
+            extensions: None,
+            extras: None,
+        }
+    }
+}
+
 impl Listed for Scene {
     ghost list = { scenes };
 }
@@ -222,6 +282,16 @@ impl Object for Scene {
 /// A rotation as a quaternion of length 1: x, y, z, w.
 #[derive(Clone, Debug, Drop)]
 pub struct UnitQuaternion(pub [Real; 4]);
+
+impl UnitQuaternion {
+    /// The numbers as floats.
+    pub fn values(&self) -> [f64; 4]
+        ensures { result ≡ map real_float self.now.0 }
+    {
+        let [x, y, z, w] = &self.0;
+        [x.as_f64(), y.as_f64(), z.as_f64(), w.as_f64()]
+    }
+}
 
 impl Default for UnitQuaternion {
     ghost is_default = { λ q. unit_quaternion_tree q ≡ no_rotation };

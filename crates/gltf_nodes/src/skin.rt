@@ -1,9 +1,11 @@
 //! Skins: meshes that follow a skeleton (glTF 2.0, section 5.28).
 
-ghost use Rattle.std.specs.Prelude.{false};
+ghost use Rattle.std.specs.Prelude.{◌≡◌, [], ◌∷◌, false, codes};
 ghost use Rattle.std.proofs.Common.{lit≤};
 ghost use Rattle.serde_json.specs.Data.{no_members};
 ghost use Rattle.gltf_paths.specs.Lists.{skins};
+ghost use Rattle.gltf_schema.specs.Given.{made};
+ghost use Rattle.gltf_schema.specs.Fields.{index_tree, list_tree};
 ghost use Rattle.gltf_nodes.specs.Scene.{skin_rows, skin_sound, skin_height, skin_members};
 
 use crate::extensions;
@@ -42,6 +44,25 @@ impl Drop for Skin {
             extensions: _,
             extras: _,
         } = self;
+    }
+}
+
+impl Skin {
+    /// A skin of these joints.
+    #[tactic(auto, unfolding(crate::specs::Scene::skin_rows, crate::specs::Scene::skin_members))]
+    pub fn new(joints: Vec<Index<Node>>) -> Skin
+        ensures { skin_members result ≡ made skin_rows (
+            (codes "joints", list_tree index_tree joints.items)
+            ∷ []) }
+    {
+        Skin {
+            joints,
+            inverse_bind_matrices: None,
+            skeleton: None,
+            name: None,
+            extensions: None,
+            extras: None,
+        }
     }
 }
 

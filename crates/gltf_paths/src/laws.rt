@@ -1,12 +1,14 @@
 //! Laws of the crate's types. Each function does nothing; its contract is the law.
 
-ghost use Rattle.std.specs.Prelude.{◌≡◌, ◌==◌, [], ◌∷◌, codes, Some};
+ghost use Rattle.std.specs.Prelude.{◌≡◌, ◌==◌, ℕ, List, [], ◌∷◌, codes, Some};
 ghost use Rattle.std.specs.Ordering.{nat_cmp};
-ghost use Rattle.gltf_paths.specs.Errors.{error_rank};
+ghost use Rattle.gltf_paths.specs.Errors.{error_code, error_rank};
 ghost use Rattle.gltf_paths.specs.Indexes.{index_number};
 ghost use Rattle.gltf_checked.specs.Keys.{key_text, unknown};
+ghost use Rattle.gltf_paths.specs.Pointers.{escaped, pointer_text};
 ghost use Rattle.gltf_paths.specs.Steps.{field, item, key, value};
 ghost use Rattle.gltf_paths.specs.Text.{path_text};
+ghost use Rattle.serde_json.specs.Find.{unescape};
 ghost use Rattle.gltf_paths.specs.declared.index.IndexTo.{IndexTo as AnIndex};
 ghost use Rattle.gltf_paths.specs.declared.validation.Error.{Error as AnError};
 ghost use Rattle.gltf_paths.specs.declared.validation.USize64.{USize64 as ASize};
@@ -36,6 +38,11 @@ pub fn errors_are_ordered_by_rank()
         → ⟦<Error as PartialEq>⟧.eq a b ≡ (error_rank a == error_rank b) }
 {}
 
+/// Errors with the same code are the same.
+pub fn codes_tell_errors_apart()
+    ensures { (a b : AnError) → error_code a ≡ error_code b → a ≡ b }
+{}
+
 /// Sizes are equal where their numbers are.
 pub fn sizes_are_compared_as_numbers()
     ensures equality { (a b : ASize) → ⟦<USize64 as PartialEq>⟧.eq a b ≡ (a.0 == b.0) }
@@ -50,4 +57,16 @@ pub fn worked_paths()
         ≡ codes "foo.bar[123]")
         × (path_text (field (codes "a") ∷ key (key_text unknown) ∷ item 2 ∷ field (codes "b") ∷ [])
         ≡ codes "a[\"<invalid semantic name>\"][2].b") }
+{}
+
+/// A name is read back from its part of a pointer, as `Value::pointer` of `serde_json` reads it.
+pub fn names_are_read_back()
+    ensures { (name : List ℕ) → unescape (escaped name) ≡ name }
+{}
+
+/// What some steps are as pointers, computed from the definitions.
+pub fn worked_pointers()
+    ensures { (pointer_text [] ≡ [])
+        × (pointer_text (field (codes "a/b") ∷ item 10 ∷ key (codes "m~n") ∷ value (codes "x") ∷ [])
+        ≡ codes "/a~1b/10/m~0n") }
 {}

@@ -5,6 +5,7 @@ pub mod error;
 pub mod index;
 pub mod laws;
 pub mod path;
+mod pointer;
 pub mod real;
 pub mod validation;
 

@@ -4,7 +4,7 @@ ghost use Rattle.std.specs.Prelude.{◌≡◌, true, is_some};
 ghost use Rattle.serde_json.specs.Find.{as_number};
 ghost use Rattle.serde_json.specs.View.{view};
 
-use serde_json::Value;
+use serde_json::{Number, Value};
 use std::alloc::AllocError;
 
 /// A JSON number, carried untouched.
@@ -15,8 +15,8 @@ pub struct Real {
 }
 
 impl Real {
-    ghost use Rattle.std.specs.Prelude.{IfOk, IfErr, None, Some};
-    ghost use Rattle.serde_json.specs.Find.{of_integer};
+    ghost use Rattle.std.specs.Prelude.{IfOk, IfErr, None, Some, option_map};
+    ghost use Rattle.serde_json.specs.Find.{of_integer, of_float, to_float};
     ghost use Rattle.gltf_paths.specs.Reals.{real_value, real_number};
 
     /// The number that a value is; a value that is none is handed back.
@@ -38,6 +38,29 @@ impl Real {
     {
         Real {
             value: Value::from(number),
+        }
+    }
+
+    /// A number from a float; `None` if the float is infinite or NaN, which JSON can't write.
+    pub fn from_f64(number: f64) -> Option<Real>
+        ensures { option_map real_number result ≡ of_float number }
+    {
+        match Number::from_f64(number) {
+            Some(number) => Some(Real {
+                value: Value::Number(number),
+            }),
+            None => None,
+        }
+    }
+
+    /// The number held, as the nearest float.
+    pub fn as_f64(&self) -> f64
+        ensures { result ≡ to_float (real_number self.now) }
+    {
+        match self.value.as_f64() {
+            Some(number) => number,
+            // It holds a number.
+            None => unreachable!(),
         }
     }
 

@@ -20,6 +20,24 @@ pub enum Error {
     Unsupported,
 }
 
+impl Error {
+    ghost use Rattle.gltf_paths.specs.Errors.{error_code};
+
+    /// Returns a name of the error for machines, in lowercase letters and hyphens. Each error has a
+    /// name of its own.
+    pub fn code(&self) -> &'static str
+        ensures { result.now ≡ error_code self.now }
+    {
+        match self {
+            Error::IndexOutOfBounds => "index-out-of-bounds",
+            Error::Invalid => "invalid",
+            Error::Missing => "missing",
+            Error::Oversize => "oversize",
+            Error::Unsupported => "unsupported",
+        }
+    }
+}
+
 impl Display for Error {
     ghost use Rattle.std.specs.Prelude.{Some};
     ghost use Rattle.gltf_paths.specs.Errors.{error_text};

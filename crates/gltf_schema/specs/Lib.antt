@@ -18,4 +18,6 @@ pub mod Writings
 pub mod Leaves
 pub mod Fields
 pub mod Defaults
+pub mod Given
+pub mod Floats
 pub mod Extensions

@@ -1,11 +1,13 @@
 //! What takes the reports of a walk over a document.
 #![tactic(auto)]
 
+mod by;
 mod collect;
 mod found;
 pub mod laws;
 mod sink;
 
+pub use by::{By, Take};
 pub use collect::Collect;
 pub use found::tell;
 pub use sink::{Count, Sink, Stop};

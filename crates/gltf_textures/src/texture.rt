@@ -1,11 +1,13 @@
 //! Textures, their samplers, and the references of materials to them (glTF 2.0, sections 5.26, 5.29
 //! and 5.30).
 
-ghost use Rattle.std.specs.Prelude.{◌≡◌, false};
+ghost use Rattle.std.specs.Prelude.{◌≡◌, [], ◌∷◌, false, codes};
 ghost use Rattle.std.proofs.Common.{lit≤};
 ghost use Rattle.serde_json.specs.Data.{no_members};
 ghost use Rattle.gltf_paths.specs.Lists.{samplers, textures};
 ghost use Rattle.gltf_schema.specs.Defaults.{defaults};
+ghost use Rattle.gltf_schema.specs.Given.{made};
+ghost use Rattle.gltf_schema.specs.Fields.{index_tree};
 ghost use Rattle.gltf_textures.specs.Texture.{sampler_rows, sampler_sound, sampler_height, texture_rows, texture_sound, texture_height, info_rows, info_sound, info_height, sampler_members, texture_members, info_members};
 
 use crate::extensions;
@@ -150,6 +152,24 @@ impl Drop for Texture {
     }
 }
 
+impl Texture {
+    /// An image, sampled by default: `Index::new(NO_IMAGE)` for none.
+    #[tactic(auto, unfolding(crate::specs::Texture::texture_rows, crate::specs::Texture::texture_members))]
+    pub fn new(source: Index<Image>) -> Texture
+        ensures { texture_members result ≡ made texture_rows (
+            (codes "source", index_tree source)
+            ∷ []) }
+    {
+        Texture {
+            source,
+            sampler: None,
+            name: None,
+            extensions: None,
+            extras: None,
+        }
+    }
+}
+
 impl Listed for Texture {
     ghost list = { textures };
 }
@@ -216,6 +236,23 @@ impl Drop for Info {
             extensions: _,
             extras: _,
         } = self;
+    }
+}
+
+impl Info {
+    /// A reference to a texture, by the first set of texture coordinates.
+    #[tactic(auto, unfolding(crate::specs::Texture::info_rows, crate::specs::Texture::info_members))]
+    pub fn new(index: Index<Texture>) -> Info
+        ensures { info_members result ≡ made info_rows (
+            (codes "index", index_tree index)
+            ∷ []) }
+    {
+        Info {
+            index,
+            tex_coord: 0,
+            extensions: None,
+            extras: None,
+        }
     }
 }
 

@@ -1,16 +1,20 @@
 //! Sparse storage: elements that deviate from those of an accessor's view (glTF 2.0, sections 5.2
 //! to 5.4).
 
-ghost use Rattle.std.specs.Prelude.{false};
+ghost use Rattle.std.specs.Prelude.{◌≡◌, [], ◌∷◌, false, codes};
 ghost use Rattle.std.proofs.Common.{lit≤};
 ghost use Rattle.serde_json.specs.Data.{no_members};
+ghost use Rattle.gltf_choices.specs.Choices.{component_type_spelling};
+ghost use Rattle.gltf_schema.specs.Tree.{whole, chosen};
+ghost use Rattle.gltf_schema.specs.Given.{made};
+ghost use Rattle.gltf_schema.specs.Fields.{index_tree, closed_object};
 ghost use Rattle.gltf_data.specs.Accessor.{sparse_rows, sparse_sound, sparse_height, sparse_indices_rows, sparse_indices_sound, sparse_indices_height, sparse_values_rows, sparse_values_sound, sparse_values_height, sparse_members, sparse_indices_members, sparse_values_members};
 
 use crate::buffer::View;
 use crate::extensions;
 use crate::extras::Extras;
 use gltf_base::Index;
-use gltf_base::accessor::IndexComponentType;
+use gltf_base::accessor::{ComponentType, IndexComponentType};
 use gltf_base::validation::{Checked, USize64};
 use gltf_schema::{Blank, Error, Object, Reading, Source, Writing};
 use serde_json::{Map, Value};
@@ -28,6 +32,26 @@ pub struct Sparse {
     pub values: Values,
     /// Which elements they are.
     pub indices: Indices,
+}
+
+impl Sparse {
+    /// So many elements that deviate: which ones, and what stands in their place.
+    #[tactic(auto, unfolding(crate::specs::Accessor::sparse_rows, crate::specs::Accessor::sparse_members))]
+    pub fn new(count: u64, indices: Indices, values: Values) -> Sparse
+        ensures { sparse_members result ≡ made sparse_rows (
+            (codes "count", whole count)
+            ∷ (codes "indices", closed_object (sparse_indices_members indices))
+            ∷ (codes "values", closed_object (sparse_values_members values))
+            ∷ []) }
+    {
+        Sparse {
+            count: USize64(count),
+            indices,
+            values,
+            extensions: None,
+            extras: None,
+        }
+    }
 }
 
 impl Object for Sparse {
@@ -83,6 +107,26 @@ pub struct Indices {
     pub component_type: Checked<IndexComponentType>,
     pub extensions: Option<extensions::accessor::sparse::Indices>,
     pub extras: Extras,
+}
+
+impl Indices {
+    /// The numbers from the start of a view. Their type has to be `U8`, `U16` or `U32`: another is
+    /// written as it is, and read as an invalid one.
+    #[tactic(auto, unfolding(crate::specs::Accessor::sparse_indices_rows, crate::specs::Accessor::sparse_indices_members))]
+    pub fn new(buffer_view: Index<View>, component_type: ComponentType) -> Indices
+        ensures { sparse_indices_members result ≡ made sparse_indices_rows (
+            (codes "bufferView", index_tree buffer_view)
+            ∷ (codes "componentType", chosen (component_type_spelling component_type))
+            ∷ []) }
+    {
+        Indices {
+            buffer_view,
+            byte_offset: USize64(0),
+            component_type: Checked::Valid(IndexComponentType(component_type)),
+            extensions: None,
+            extras: None,
+        }
+    }
 }
 
 impl Object for Indices {
@@ -148,6 +192,23 @@ pub struct Values {
     pub byte_offset: USize64,
     pub extensions: Option<extensions::accessor::sparse::Values>,
     pub extras: Extras,
+}
+
+impl Values {
+    /// The elements from the start of a view.
+    #[tactic(auto, unfolding(crate::specs::Accessor::sparse_values_rows, crate::specs::Accessor::sparse_values_members))]
+    pub fn new(buffer_view: Index<View>) -> Values
+        ensures { sparse_values_members result ≡ made sparse_values_rows (
+            (codes "bufferView", index_tree buffer_view)
+            ∷ []) }
+    {
+        Values {
+            buffer_view,
+            byte_offset: USize64(0),
+            extensions: None,
+            extras: None,
+        }
+    }
 }
 
 impl Object for Values {

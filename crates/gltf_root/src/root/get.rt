@@ -194,6 +194,15 @@ impl Root {
         Get::<T>::get(self, index)
     }
 
+    /// Returns the list of the items of a type; it is empty if its extension object is missing.
+    pub fn list<T>(&self) -> &[T]
+    where
+        Root: Get<T>,
+        ensures { result.now ≡ ⟦<Root as Get<T>>⟧.listed self.now }
+    {
+        Get::<T>::list(self)
+    }
+
     /// Appends an item to its list, and returns its index, as [`Get::push`] does.
     pub fn push<T>(&mut self, item: T) -> Result<Index<T>, PushError<T>>
     where

@@ -1,6 +1,6 @@
 //! The extension objects of materials and of their references to textures.
 
-ghost use Rattle.std.specs.Prelude.{◌≡◌, true, false, refl};
+ghost use Rattle.std.specs.Prelude.{◌≡◌, true, false, refl, option_map};
 ghost use Rattle.std.proofs.Common.{lit≤};
 ghost use Rattle.serde_json.specs.Data.{no_members};
 ghost use Rattle.serde_json.specs.View.{members_view};
@@ -8,6 +8,7 @@ ghost use Rattle.gltf_schema.specs.Kind.{no_rows, Number, Numbers};
 ghost use Rattle.gltf_schema.specs.Tree.{end, tree_or_absent};
 ghost use Rattle.gltf_schema.specs.Defaults.{defaults};
 ghost use Rattle.gltf_shading.specs.MaterialExtension.{material_extension_rows, material_extension_sound, material_extension_height, pbr_specular_glossiness_rows, pbr_specular_glossiness_sound, pbr_specular_glossiness_height, transmission_rows, transmission_sound, transmission_height, volume_rows, volume_sound, volume_height, specular_rows, specular_sound, specular_height, ior_rows, ior_sound, ior_height, emissive_strength_rows, emissive_strength_sound, emissive_strength_height, material_extension_members, pbr_specular_glossiness_members, transmission_members, volume_members, specular_members, ior_members, emissive_strength_members};
+ghost use Rattle.gltf_schema.specs.Floats.{real_float, float_or, floats_or};
 ghost use Rattle.gltf_schema.specs.Fields.{real_tree, reals_tree};
 
 use crate::material::StrengthFactor;
@@ -248,6 +249,21 @@ impl PbrSpecularGlossiness {
 #[derive(Clone, Debug, Default, Drop)]
 pub struct PbrDiffuseFactor(pub Option<[Real; 4]>);
 
+impl PbrDiffuseFactor {
+    /// The numbers that an absent factor means.
+    pub const DEFAULT: [f64; 4] = [1.0; 4];
+
+    /// The numbers as floats, or [`PbrDiffuseFactor::DEFAULT`] if they are absent.
+    pub fn values(&self) -> [f64; 4]
+        ensures { result ≡ floats_or Self.DEFAULT self.now.0 }
+    {
+        match &self.0 {
+            Some([r, g, b, a]) => [r.as_f64(), g.as_f64(), b.as_f64(), a.as_f64()],
+            None => PbrDiffuseFactor::DEFAULT,
+        }
+    }
+}
+
 impl Tabled for PbrDiffuseFactor {
     ghost kind = { Numbers 4 };
 
@@ -257,6 +273,21 @@ impl Tabled for PbrDiffuseFactor {
 /// The factors of a specular color: red, green, blue; `None` means ones.
 #[derive(Clone, Debug, Default, Drop)]
 pub struct PbrSpecularFactor(pub Option<[Real; 3]>);
+
+impl PbrSpecularFactor {
+    /// The numbers that an absent factor means.
+    pub const DEFAULT: [f64; 3] = [1.0; 3];
+
+    /// The numbers as floats, or [`PbrSpecularFactor::DEFAULT`] if they are absent.
+    pub fn values(&self) -> [f64; 3]
+        ensures { result ≡ floats_or Self.DEFAULT self.now.0 }
+    {
+        match &self.0 {
+            Some([r, g, b]) => [r.as_f64(), g.as_f64(), b.as_f64()],
+            None => PbrSpecularFactor::DEFAULT,
+        }
+    }
+}
 
 impl Tabled for PbrSpecularFactor {
     ghost kind = { Numbers 3 };
@@ -375,6 +406,21 @@ impl Transmission {
 #[derive(Clone, Debug, Default, Drop)]
 pub struct TransmissionFactor(pub Option<Real>);
 
+impl TransmissionFactor {
+    /// The number that an absent factor means.
+    pub const DEFAULT: f64 = 0.0;
+
+    /// The number as a float, or [`TransmissionFactor::DEFAULT`] if it is absent.
+    pub fn value(&self) -> f64
+        ensures { result ≡ float_or Self.DEFAULT self.now.0 }
+    {
+        match &self.0 {
+            Some(number) => number.as_f64(),
+            None => TransmissionFactor::DEFAULT,
+        }
+    }
+}
+
 impl Tabled for TransmissionFactor {
     ghost kind = { Number };
 
@@ -470,6 +516,21 @@ impl Volume {
 #[derive(Clone, Debug, Default, Drop)]
 pub struct ThicknessFactor(pub Option<Real>);
 
+impl ThicknessFactor {
+    /// The number that an absent factor means.
+    pub const DEFAULT: f64 = 0.0;
+
+    /// The number as a float, or [`ThicknessFactor::DEFAULT`] if it is absent.
+    pub fn value(&self) -> f64
+        ensures { result ≡ float_or Self.DEFAULT self.now.0 }
+    {
+        match &self.0 {
+            Some(number) => number.as_f64(),
+            None => ThicknessFactor::DEFAULT,
+        }
+    }
+}
+
 impl Tabled for ThicknessFactor {
     ghost kind = { Number };
 
@@ -480,6 +541,18 @@ impl Tabled for ThicknessFactor {
 #[derive(Clone, Debug, Default, Drop)]
 pub struct AttenuationDistance(pub Option<Real>);
 
+impl AttenuationDistance {
+    /// The number as a float; `None` means that there is no end.
+    pub fn value(&self) -> Option<f64>
+        ensures { result ≡ option_map real_float self.now.0 }
+    {
+        match &self.0 {
+            Some(number) => Some(number.as_f64()),
+            None => None,
+        }
+    }
+}
+
 impl Tabled for AttenuationDistance {
     ghost kind = { Number };
 
@@ -489,6 +562,21 @@ impl Tabled for AttenuationDistance {
 /// A color: red, green, blue; `None` means ones.
 #[derive(Clone, Debug, Default, Drop)]
 pub struct AttenuationColor(pub Option<[Real; 3]>);
+
+impl AttenuationColor {
+    /// The numbers that an absent factor means.
+    pub const DEFAULT: [f64; 3] = [1.0; 3];
+
+    /// The numbers as floats, or [`AttenuationColor::DEFAULT`] if they are absent.
+    pub fn values(&self) -> [f64; 3]
+        ensures { result ≡ floats_or Self.DEFAULT self.now.0 }
+    {
+        match &self.0 {
+            Some([r, g, b]) => [r.as_f64(), g.as_f64(), b.as_f64()],
+            None => AttenuationColor::DEFAULT,
+        }
+    }
+}
 
 impl Tabled for AttenuationColor {
     ghost kind = { Numbers 3 };
@@ -585,6 +673,21 @@ impl Specular {
 #[derive(Clone, Debug, Default, Drop)]
 pub struct SpecularFactor(pub Option<Real>);
 
+impl SpecularFactor {
+    /// The number that an absent factor means.
+    pub const DEFAULT: f64 = 1.0;
+
+    /// The number as a float, or [`SpecularFactor::DEFAULT`] if it is absent.
+    pub fn value(&self) -> f64
+        ensures { result ≡ float_or Self.DEFAULT self.now.0 }
+    {
+        match &self.0 {
+            Some(number) => number.as_f64(),
+            None => SpecularFactor::DEFAULT,
+        }
+    }
+}
+
 impl Tabled for SpecularFactor {
     ghost kind = { Number };
 
@@ -594,6 +697,21 @@ impl Tabled for SpecularFactor {
 /// The factors of the color of a reflection: red, green, blue; `None` means ones.
 #[derive(Clone, Debug, Default, Drop)]
 pub struct SpecularColorFactor(pub Option<[Real; 3]>);
+
+impl SpecularColorFactor {
+    /// The numbers that an absent factor means.
+    pub const DEFAULT: [f64; 3] = [1.0; 3];
+
+    /// The numbers as floats, or [`SpecularColorFactor::DEFAULT`] if they are absent.
+    pub fn values(&self) -> [f64; 3]
+        ensures { result ≡ floats_or Self.DEFAULT self.now.0 }
+    {
+        match &self.0 {
+            Some([r, g, b]) => [r.as_f64(), g.as_f64(), b.as_f64()],
+            None => SpecularColorFactor::DEFAULT,
+        }
+    }
+}
 
 impl Tabled for SpecularColorFactor {
     ghost kind = { Numbers 3 };
@@ -659,6 +777,21 @@ impl Ior {
 #[derive(Clone, Debug, Default, Drop)]
 pub struct IndexOfRefraction(pub Option<Real>);
 
+impl IndexOfRefraction {
+    /// The number that an absent factor means.
+    pub const DEFAULT: f64 = 1.5;
+
+    /// The number as a float, or [`IndexOfRefraction::DEFAULT`] if it is absent.
+    pub fn value(&self) -> f64
+        ensures { result ≡ float_or Self.DEFAULT self.now.0 }
+    {
+        match &self.0 {
+            Some(number) => number.as_f64(),
+            None => IndexOfRefraction::DEFAULT,
+        }
+    }
+}
+
 impl Tabled for IndexOfRefraction {
     ghost kind = { Number };
 
@@ -720,6 +853,21 @@ impl EmissiveStrength {
 /// The factor of an emitted light; `None` means 1.
 #[derive(Clone, Debug, Default, Drop)]
 pub struct EmissiveStrengthFactor(pub Option<Real>);
+
+impl EmissiveStrengthFactor {
+    /// The number that an absent factor means.
+    pub const DEFAULT: f64 = 1.0;
+
+    /// The number as a float, or [`EmissiveStrengthFactor::DEFAULT`] if it is absent.
+    pub fn value(&self) -> f64
+        ensures { result ≡ float_or Self.DEFAULT self.now.0 }
+    {
+        match &self.0 {
+            Some(number) => number.as_f64(),
+            None => EmissiveStrengthFactor::DEFAULT,
+        }
+    }
+}
 
 impl Tabled for EmissiveStrengthFactor {
     ghost kind = { Number };

@@ -6,6 +6,7 @@ ghost use Rattle.serde_json.specs.Data.{no_members};
 ghost use Rattle.serde_json.specs.View.{members_view};
 ghost use Rattle.gltf_schema.specs.Defaults.{defaults};
 ghost use Rattle.gltf_textures.specs.Texture.{info_extension_rows, info_extension_sound, info_extension_height, texture_transform_rows, texture_transform_sound, texture_transform_height, info_extension_members, texture_transform_members};
+ghost use Rattle.gltf_schema.specs.Floats.{float_or, floats_or};
 ghost use Rattle.gltf_schema.specs.Fields.{real_tree, reals_tree};
 ghost use Rattle.gltf_schema.specs.Kind.{Number, Numbers};
 ghost use Rattle.gltf_schema.specs.Tree.{tree_or_absent};
@@ -154,6 +155,21 @@ impl TextureTransform {
 #[derive(Clone, Debug, Default, Drop)]
 pub struct TextureTransformOffset(pub Option<[Real; 2]>);
 
+impl TextureTransformOffset {
+    /// The numbers that an absent factor means.
+    pub const DEFAULT: [f64; 2] = [0.0; 2];
+
+    /// The numbers as floats, or [`TextureTransformOffset::DEFAULT`] if they are absent.
+    pub fn values(&self) -> [f64; 2]
+        ensures { result ≡ floats_or Self.DEFAULT self.now.0 }
+    {
+        match &self.0 {
+            Some([x, y]) => [x.as_f64(), y.as_f64()],
+            None => TextureTransformOffset::DEFAULT,
+        }
+    }
+}
+
 impl Tabled for TextureTransformOffset {
     ghost kind = { Numbers 2 };
 
@@ -165,6 +181,21 @@ impl Tabled for TextureTransformOffset {
 #[derive(Clone, Debug, Default, Drop)]
 pub struct TextureTransformRotation(pub Option<Real>);
 
+impl TextureTransformRotation {
+    /// The number that an absent factor means.
+    pub const DEFAULT: f64 = 0.0;
+
+    /// The number as a float, or [`TextureTransformRotation::DEFAULT`] if it is absent.
+    pub fn value(&self) -> f64
+        ensures { result ≡ float_or Self.DEFAULT self.now.0 }
+    {
+        match &self.0 {
+            Some(number) => number.as_f64(),
+            None => TextureTransformRotation::DEFAULT,
+        }
+    }
+}
+
 impl Tabled for TextureTransformRotation {
     ghost kind = { Number };
 
@@ -174,6 +205,21 @@ impl Tabled for TextureTransformRotation {
 /// The factors by which the coordinates are scaled; `None` means ones.
 #[derive(Clone, Debug, Default, Drop)]
 pub struct TextureTransformScale(pub Option<[Real; 2]>);
+
+impl TextureTransformScale {
+    /// The numbers that an absent factor means.
+    pub const DEFAULT: [f64; 2] = [1.0; 2];
+
+    /// The numbers as floats, or [`TextureTransformScale::DEFAULT`] if they are absent.
+    pub fn values(&self) -> [f64; 2]
+        ensures { result ≡ floats_or Self.DEFAULT self.now.0 }
+    {
+        match &self.0 {
+            Some([x, y]) => [x.as_f64(), y.as_f64()],
+            None => TextureTransformScale::DEFAULT,
+        }
+    }
+}
 
 impl Tabled for TextureTransformScale {
     ghost kind = { Numbers 2 };

@@ -7,6 +7,7 @@ ghost use Rattle.gltf_choices.specs.SceneChoices.{light_type_spelling, light_typ
 pub use LightType as Type;
 use gltf_checked::choice::{Choice, Form, Spelling, item_of};
 use gltf_checked::validation::Checked;
+use std::fmt::{self, Display, Formatter, Write};
 
 /// The names of the types.
 pub const VALID_TYPES: &[&str] = &["directional", "point", "spot"];
@@ -44,6 +45,17 @@ impl Choice for LightType {
 
     fn spelling(self) -> Spelling<'static> {
         Spelling::Name(self.name())
+    }
+}
+
+impl Display for LightType {
+    ghost use Rattle.std.specs.Prelude.{Some};
+    ghost use Rattle.gltf_checked.specs.Spelling.{spelling_text};
+
+    ghost output = { λ item. Some (spelling_text (light_type_spelling item)) };
+
+    fn fmt<W: Write>(&self, f: &mut Formatter<W>) -> fmt::Result {
+        Display::fmt(&self.spelling(), f)
     }
 }
 

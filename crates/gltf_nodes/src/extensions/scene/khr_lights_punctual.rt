@@ -1,11 +1,16 @@
 //! Punctual lights: directional lights, point lights and spot lights (`KHR_lights_punctual`).
 
-ghost use Rattle.std.specs.Prelude.{◌≡◌, false};
+ghost use Rattle.std.specs.Prelude.{◌≡◌, [], ◌∷◌, false, codes};
 ghost use Rattle.std.proofs.Common.{lit≤};
 ghost use Rattle.serde_json.specs.Data.{no_members};
 ghost use Rattle.gltf_paths.specs.Lists.{lights};
 ghost use Rattle.gltf_schema.specs.Kind.{needs_cone};
 ghost use Rattle.gltf_schema.specs.Defaults.{defaults};
+ghost use Rattle.gltf_choices.specs.SceneChoices.{light_type_spelling};
+ghost use Rattle.gltf_schema.specs.Tree.{chosen};
+ghost use Rattle.gltf_schema.specs.Given.{made};
+ghost use Rattle.gltf_schema.specs.Floats.{float_or, floats_or};
+ghost use Rattle.gltf_schema.specs.Fields.{index_tree};
 ghost use Rattle.gltf_nodes.specs.Light.{light_of_node_rows, light_of_node_sound, light_of_node_height, light_rows, light_sound, light_height, spot_rows, spot_sound, spot_height, light_of_node_members, light_members, spot_members};
 
 use gltf_base::extensions::scene::khr_lights_punctual::LightType;
@@ -15,12 +20,25 @@ use gltf_data::extras::Extras;
 use gltf_schema::{Error, Object, Reading, Source, Writing};
 use serde_json::{Map, Value};
 use std::alloc::Global;
+use std::f64::consts::FRAC_PI_4;
 
 /// The light that a node carries. It is at the node's origin; a directional or a spot light
 /// shines along the node's local -z axis.
 #[derive(Clone, Debug, Drop)]
 pub struct KhrLightsPunctual {
     pub light: Index<Light>,
+}
+
+impl KhrLightsPunctual {
+    /// A light of the document.
+    #[tactic(auto, unfolding(crate::specs::Light::light_of_node_rows, crate::specs::Light::light_of_node_members))]
+    pub fn new(light: Index<Light>) -> KhrLightsPunctual
+        ensures { light_of_node_members result ≡ made light_of_node_rows (
+            (codes "light", index_tree light)
+            ∷ []) }
+    {
+        KhrLightsPunctual { light }
+    }
 }
 
 impl Object for KhrLightsPunctual {
@@ -85,6 +103,53 @@ impl Drop for Light {
             extras: _,
             spot: _,
         } = self;
+    }
+}
+
+impl Light {
+    /// A white light. One of type `Spot` needs its `spot` too.
+    #[tactic(auto, unfolding(crate::specs::Light::light_rows, crate::specs::Light::light_members))]
+    pub fn new(type_: LightType) -> Light
+        ensures { light_members result ≡ made light_rows (
+            (codes "type", chosen (light_type_spelling type_))
+            ∷ []) }
+    {
+        Light {
+            type_: Checked::Valid(type_),
+            name: None,
+            intensity: None,
+            range: None,
+            color: None,
+            extensions: None,
+            extras: None,
+            spot: None,
+        }
+    }
+
+    /// The number that an absent `intensity` means.
+    pub const DEFAULT_INTENSITY: f64 = 1.0;
+
+    /// The number as a float, or [`Light::DEFAULT_INTENSITY`] if it is absent.
+    pub fn intensity_value(&self) -> f64
+        ensures { result ≡ float_or Self.DEFAULT_INTENSITY self.now.intensity }
+    {
+        match &self.intensity {
+            Some(number) => number.as_f64(),
+            None => Light::DEFAULT_INTENSITY,
+        }
+    }
+
+    /// The numbers that an absent `color` means.
+    pub const DEFAULT_COLOR: [f64; 3] = [1.0; 3];
+
+    /// The numbers as floats, or [`Light::DEFAULT_COLOR`] if they are absent.
+    pub fn color_values(&self) -> [f64; 3]
+        ensures { result ≡ floats_or Self.DEFAULT_COLOR self.now.color }
+    {
+        match &self.color {
+            Some([r, g, b]) => [r.as_f64(), g.as_f64(), b.as_f64()],
+            None => Light::DEFAULT_COLOR,
+        }
     }
 }
 
@@ -198,6 +263,32 @@ impl Spot {
         Spot {
             inner_cone_angle: None,
             outer_cone_angle: None,
+        }
+    }
+
+    /// The number that an absent `inner_cone_angle` means.
+    pub const DEFAULT_INNER_CONE_ANGLE: f64 = 0.0;
+
+    /// The number as a float, or [`Spot::DEFAULT_INNER_CONE_ANGLE`] if it is absent.
+    pub fn inner_cone_angle_value(&self) -> f64
+        ensures { result ≡ float_or Self.DEFAULT_INNER_CONE_ANGLE self.now.inner_cone_angle }
+    {
+        match &self.inner_cone_angle {
+            Some(number) => number.as_f64(),
+            None => Spot::DEFAULT_INNER_CONE_ANGLE,
+        }
+    }
+
+    /// The number that an absent `outer_cone_angle` means: a quarter of pi.
+    pub const DEFAULT_OUTER_CONE_ANGLE: f64 = FRAC_PI_4;
+
+    /// The number as a float, or [`Spot::DEFAULT_OUTER_CONE_ANGLE`] if it is absent.
+    pub fn outer_cone_angle_value(&self) -> f64
+        ensures { result ≡ float_or Self.DEFAULT_OUTER_CONE_ANGLE self.now.outer_cone_angle }
+    {
+        match &self.outer_cone_angle {
+            Some(number) => number.as_f64(),
+            None => Spot::DEFAULT_OUTER_CONE_ANGLE,
         }
     }
 }

@@ -1,9 +1,11 @@
 //! Variants of a document's materials (the extension `KHR_materials_variants`).
 
-ghost use Rattle.std.specs.Prelude.{false};
+ghost use Rattle.std.specs.Prelude.{◌≡◌, [], ◌∷◌, false, codes};
 ghost use Rattle.std.proofs.Common.{lit≤};
 ghost use Rattle.serde_json.specs.Data.{no_members};
 ghost use Rattle.gltf_paths.specs.Lists.{variants};
+ghost use Rattle.gltf_schema.specs.Given.{made};
+ghost use Rattle.gltf_schema.specs.Fields.{text_tree};
 ghost use Rattle.gltf_nodes.specs.Light.{variant_rows, variant_sound, variant_height, variant_members};
 
 use gltf_base::Listed;
@@ -21,6 +23,18 @@ pub struct Variant {
 impl Drop for Variant {
     fn drop(self) {
         let Variant { name: _ } = self;
+    }
+}
+
+impl Variant {
+    /// A variant of this name.
+    #[tactic(auto, unfolding(crate::specs::Light::variant_rows, crate::specs::Light::variant_members))]
+    pub fn new(name: String) -> Variant
+        ensures { variant_members result ≡ made variant_rows (
+            (codes "name", text_tree name)
+            ∷ []) }
+    {
+        Variant { name }
     }
 }
 

@@ -6,13 +6,12 @@ use Rattle.gltf_checked.specs.Keys.{Key, key_text}
 use Rattle.gltf_paths.specs.Steps.{Step, item, key}
 use Rattle.gltf_paths.specs.declared.validation.Error.{Error}
 use Rattle.gltf_schema.specs.Tree.{Tree, trees}
-use Rattle.gltf_sinks.specs.Report.{From, found_at, report}
+use Rattle.gltf_sinks.specs.Report.{report}
 use Rattle.gltf_faults.specs.Faults.{key_faults, number_faults}
 use Rattle.gltf_visits.specs.Moves.{IsSeen}
 use Rattle.gltf_visits.specs.Outline.{Outline, Outlines, place, nothing, below, errors, leaf, reports_of, reports_below, IsQuiet, rest_after, rest_after_below, first_move, move_at}
-use Rattle.gltf_visits.specs.OutlineOf.{leaf_of, error_of, entry_outline, entry_outlines, item_outlines, bounds_outline, at_positions}
+use Rattle.gltf_visits.specs.OutlineOf.{error_of, entry_outline, entry_outlines, item_outlines}
 use Rattle.gltf_visits.specs.declared.look.Look.TheVariants as look
-use Rattle.gltf_visits.proofs.Leaves.{found_error}
 
 -- ---- leaves
 
@@ -23,10 +22,6 @@ none_there (Some error) h = absurd cc
 pub quiet_leaf : (e : Option Error) → is_none e ≡ true → IsQuiet (leaf e)
 quiet_leaf e h base = rw (none_there e h) refl
 
--- where nothing was found
-pub found_quiet : (f : From) (e : Option Error) → ((base : List Step) → found_at e base ≡ f base) → is_none e ≡ true → IsQuiet (leaf_of f)
-found_quiet f e h n = quiet_leaf (error_of f) (ap is_none (sym (found_error f e h)) ∙ n)
-
 leaf_none : (e : Option Error) → IsQuiet (leaf e) → e ≡ None
 leaf_none None h = refl
 leaf_none (Some error) h =
@@ -35,9 +30,6 @@ leaf_none (Some error) h =
 
 pub entry_quiet : (k i : Option Error) → is_none k ≡ true → IsQuiet (leaf i) → IsQuiet (entry_outline k i)
 entry_quiet k i h l base = rw (none_there k h, leaf_none i l) refl
-
-pub bounds_quiet : (p n m : Option Error) → is_none p ≡ true → is_none n ≡ true → is_none m ≡ true → IsQuiet (at_positions (bounds_outline p n m))
-bounds_quiet p n m h i j base = rw (none_there p h, none_there n i, none_there m j) refl
 
 -- ---- lists
 
@@ -92,6 +84,3 @@ pub ended : (p : Outline) → IsSeen (first_move p) look.Over → IsQuiet p
 ended (place (below s p ps) es) h base = absurd h
 ended (place nothing (e ∷ es)) h base = absurd h
 ended (place nothing []) h base = refl
-
-pub nothing_passed : (p : Outline) (base : List Step) → reports_of p base ≡ reports_of (rest_after p 0) base
-nothing_passed (place ps es) base = refl

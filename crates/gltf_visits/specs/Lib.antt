@@ -1,4 +1,5 @@
 pub mod Outline
 pub mod OutlineOf
+pub mod References
 pub mod ValueRefs
 pub mod Moves

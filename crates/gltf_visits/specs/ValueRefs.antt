@@ -1,26 +1,26 @@
 -- The outline of each value of a document.
-use Rattle.std.specs.Prelude.{[], ⊤}
+use Rattle.std.specs.Prelude.{[], ⊤, Some, None}
 use Rattle.gltf_animations.specs.Animation.{animation_channel_kind, animation_target_kind, animation_sampler_kind, animation_kind, animation_channel_members, animation_target_members, animation_sampler_members, animation_members}
 use Rattle.gltf_data.specs.Accessor.{accessor_kind, sparse_kind, sparse_indices_kind, sparse_values_kind, accessor_members, sparse_members, sparse_indices_members, sparse_values_members}
 use Rattle.gltf_data.specs.Buffer.{view_kind, view_members}
 use Rattle.gltf_data.specs.Image.{image_kind, image_members}
-use Rattle.gltf_materials.specs.Material.{material_kind, pbr_metallic_roughness_kind, normal_texture_kind, occlusion_texture_kind, material_extensions, material_members, pbr_metallic_roughness_members, normal_texture_members, occlusion_texture_members}
+use Rattle.gltf_materials.specs.Material.{material_kind, material_extensions, material_members}
 use Rattle.gltf_meshes.specs.Mesh.{mesh_kind, primitive_kind, morph_target_kind, mesh_members, primitive_members, morph_target_members}
 use Rattle.gltf_nodes.specs.Camera.{camera_kind, camera_members}
 use Rattle.gltf_nodes.specs.Light.{light_kind, light_of_node_kind, light_members, light_of_node_members}
 use Rattle.gltf_nodes.specs.Scene.{node_kind, node_extensions_kind, scene_kind, skin_kind, node_members, node_extensions, scene_members, skin_members}
 use Rattle.gltf_root.specs.RootExtension.{root_extensions_kind, lights_kind, root_extensions, lights_members}
 use Rattle.gltf_root.specs.Root.{root_kind, root_tree}
-use Rattle.gltf_shading.specs.MaterialExtension.{material_extensions_kind, pbr_specular_glossiness_kind, transmission_kind, volume_kind, specular_kind, pbr_specular_glossiness_tree, transmission_members, volume_members, specular_members}
-use Rattle.gltf_textures.specs.Texture.{sampler_kind, texture_kind, info_kind, sampler_members, texture_members, info_members}
+use Rattle.gltf_textures.specs.Texture.{sampler_kind, texture_kind, sampler_members, texture_members}
 use Rattle.gltf_paths.specs.Lists.{ListName}
 use Rattle.gltf_schema.specs.Fields.{attributes_tree, closed_object, index_tree, list_tree, text_tree}
 use Rattle.gltf_schema.specs.Kind.{Attributes, IndexInto, ListOf}
-use Rattle.gltf_schema.specs.Tree.{absent, items_in}
+use Rattle.gltf_schema.specs.Tree.{absent, items_in, tree_or_absent}
 use Rattle.gltf_faults.specs.Context.{Context}
 use Rattle.gltf_faults.specs.declared.primitive.PositionFaults.{PositionFaults}
 use Rattle.gltf_visits.specs.Outline.{Outline, place, leaf}
 use Rattle.gltf_visits.specs.OutlineOf.{outline, entry_outline, bounds_outline, at_positions, item_outlines, name_outline}
+use Rattle.gltf_visits.specs.References.{reference_outline, one_texture, two_textures, material_outline, extensions_outline}
 use Rattle.gltf_visits.specs.declared.value_ref.ValueRef.{ValueRef}
 use Rattle.gltf_visits.specs.declared.value_ref.ValueRef.TheVariants as value_ref
 
@@ -43,17 +43,12 @@ outline_of context (value_ref.Sampler x) = outline sampler_kind (closed_object (
 outline_of context (value_ref.Samplers xs) = outline (ListOf sampler_kind) (list_tree (λ x. closed_object (sampler_members x)) xs.now.items) context absent
 outline_of context (value_ref.Texture x) = outline texture_kind (closed_object (texture_members x.now)) context absent
 outline_of context (value_ref.Textures xs) = outline (ListOf texture_kind) (list_tree (λ x. closed_object (texture_members x)) xs.now.items) context absent
-outline_of context (value_ref.Info x) = outline info_kind (closed_object (info_members x.now)) context absent
-outline_of context (value_ref.Material x) = outline material_kind (closed_object (material_members x.now)) context absent
+outline_of context (value_ref.TextureReference e) = reference_outline (Some e)
+outline_of context (value_ref.OneTexture m) = one_texture m
+outline_of context (value_ref.TwoTextures m n) = two_textures m n
+outline_of context (value_ref.Material (Some m) e) = material_outline context m (tree_or_absent (λ x. material_extensions x.now) e)
+outline_of context (value_ref.Material None e) = extensions_outline context (tree_or_absent (λ x. material_extensions x.now) e)
 outline_of context (value_ref.Materials xs) = outline (ListOf material_kind) (list_tree (λ x. closed_object (material_members x)) xs.now.items) context absent
-outline_of context (value_ref.PbrMetallicRoughness x) = outline pbr_metallic_roughness_kind (closed_object (pbr_metallic_roughness_members x.now)) context absent
-outline_of context (value_ref.NormalTexture x) = outline normal_texture_kind (closed_object (normal_texture_members x.now)) context absent
-outline_of context (value_ref.OcclusionTexture x) = outline occlusion_texture_kind (closed_object (occlusion_texture_members x.now)) context absent
-outline_of context (value_ref.MaterialExtensions x) = outline material_extensions_kind (material_extensions x.now) context absent
-outline_of context (value_ref.PbrSpecularGlossiness x) = outline pbr_specular_glossiness_kind (pbr_specular_glossiness_tree x.now) context absent
-outline_of context (value_ref.Transmission x) = outline transmission_kind (closed_object (transmission_members x.now)) context absent
-outline_of context (value_ref.Volume x) = outline volume_kind (closed_object (volume_members x.now)) context absent
-outline_of context (value_ref.Specular x) = outline specular_kind (closed_object (specular_members x.now)) context absent
 outline_of context (value_ref.Mesh x) = outline mesh_kind (closed_object (mesh_members x.now)) context absent
 outline_of context (value_ref.Meshes xs) = outline (ListOf mesh_kind) (list_tree (λ x. closed_object (mesh_members x)) xs.now.items) context absent
 outline_of context (value_ref.Primitive x) = outline primitive_kind (closed_object (primitive_members x.now)) context absent

@@ -16,6 +16,7 @@ mod look;
 mod material;
 mod mesh;
 mod quiet;
+mod references;
 mod scene;
 mod shading;
 mod texture;

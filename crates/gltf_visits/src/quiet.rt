@@ -90,6 +90,14 @@ pub(crate) fn are_quiet<T: Quiet, C: HasContext>(items: &Vec<T>, context: &C) ->
     true
 }
 
+/// Whether nothing is wrong in a value of which `value_ref` finds all errors.
+pub(crate) fn is_found_quiet<T: Visitable, C: HasContext>(value: &T, context: &C) -> bool
+    ensures { result ≡ true → IsQuiet (outline T.kind (T.tree value.now)
+        (C.context context.now) absent) }
+{
+    value.value_ref(&context.context()).has_no_fault()
+}
+
 /// Whether nothing is wrong in an object.
 pub(crate) fn is_object_quiet<'a, T: Events<'a, Look>, C: HasContext>(
     object: &'a T,

@@ -8,7 +8,8 @@ ghost use Rattle.std.specs.Prelude.{refl};
 use crate::always_valid::AlwaysValid;
 use crate::event::EventBuilder;
 use crate::events::Events;
-use crate::quiet::{Quiet, is_object_quiet};
+use crate::quiet::{Quiet, is_found_quiet, is_object_quiet};
+use crate::references::{TextureMember, reference_fault};
 use crate::value_ref::ValueRef;
 use crate::visitable::Visitable;
 use gltf_faults::{Context, HasContext};
@@ -26,7 +27,7 @@ impl Visitable for extensions::Material {
     ghost tree = { material_extensions };
 
     fn value_ref<'a>(&'a self, _context: &Context<'_>) -> ValueRef<'a> {
-        ValueRef::MaterialExtensions(self)
+        ValueRef::Material(None, Some(self))
     }
 }
 
@@ -58,29 +59,24 @@ impl Visitable for PbrSpecularGlossiness {
 
     ghost tree = { pbr_specular_glossiness_tree };
 
-    fn value_ref<'a>(&'a self, _context: &Context<'_>) -> ValueRef<'a> {
-        ValueRef::PbrSpecularGlossiness(self)
-    }
-}
-
-impl<'a, E: EventBuilder<'a>> Events<'a, E> for PbrSpecularGlossiness {
-    #[tactic(auto, using(crate::proofs::Past::past), unfolding(gltf_shading::specs::MaterialExtension::pbr_specular_glossiness_rows, gltf_textures::specs::Texture::info_rows, gltf_shading::specs::MaterialExtension::pbr_specular_glossiness_members))]
-    fn event<C: HasContext>(&'a self, number: usize, context: &C) -> E {
-        match number {
-            0 => E::member("diffuseTexture", &self.diffuse_texture, context),
-            1 => E::member(
-                "specularGlossinessTexture",
-                &self.specular_glossiness_texture,
-                context,
-            ),
-            _ => E::end(),
-        }
+    #[tactic(auto, unfolding(gltf_shading::specs::MaterialExtension::pbr_specular_glossiness_rows, gltf_textures::specs::Texture::info_rows, gltf_shading::specs::MaterialExtension::pbr_specular_glossiness_members))]
+    fn value_ref<'a>(&'a self, context: &Context<'_>) -> ValueRef<'a> {
+        ValueRef::TwoTextures(
+            TextureMember {
+                name: "diffuseTexture",
+                fault: reference_fault(&self.diffuse_texture, context),
+            },
+            TextureMember {
+                name: "specularGlossinessTexture",
+                fault: reference_fault(&self.specular_glossiness_texture, context),
+            },
+        )
     }
 }
 
 impl Quiet for PbrSpecularGlossiness {
     fn is_quiet<C: HasContext>(&self, context: &C) -> bool {
-        is_object_quiet(self, context)
+        is_found_quiet(self, context)
     }
 }
 
@@ -89,24 +85,18 @@ impl Visitable for Transmission {
 
     ghost tree = { λ v. closed_object (transmission_members v) };
 
-    fn value_ref<'a>(&'a self, _context: &Context<'_>) -> ValueRef<'a> {
-        ValueRef::Transmission(self)
-    }
-}
-
-impl<'a, E: EventBuilder<'a>> Events<'a, E> for Transmission {
-    #[tactic(auto, using(crate::proofs::Past::past), unfolding(gltf_shading::specs::MaterialExtension::transmission_rows, gltf_textures::specs::Texture::info_rows, gltf_shading::specs::MaterialExtension::transmission_members))]
-    fn event<C: HasContext>(&'a self, number: usize, context: &C) -> E {
-        match number {
-            0 => E::member("transmissionTexture", &self.transmission_texture, context),
-            _ => E::end(),
-        }
+    #[tactic(auto, unfolding(gltf_shading::specs::MaterialExtension::transmission_rows, gltf_textures::specs::Texture::info_rows, gltf_shading::specs::MaterialExtension::transmission_members))]
+    fn value_ref<'a>(&'a self, context: &Context<'_>) -> ValueRef<'a> {
+        ValueRef::OneTexture(TextureMember {
+            name: "transmissionTexture",
+            fault: reference_fault(&self.transmission_texture, context),
+        })
     }
 }
 
 impl Quiet for Transmission {
     fn is_quiet<C: HasContext>(&self, context: &C) -> bool {
-        is_object_quiet(self, context)
+        is_found_quiet(self, context)
     }
 }
 
@@ -115,24 +105,18 @@ impl Visitable for Volume {
 
     ghost tree = { λ v. closed_object (volume_members v) };
 
-    fn value_ref<'a>(&'a self, _context: &Context<'_>) -> ValueRef<'a> {
-        ValueRef::Volume(self)
-    }
-}
-
-impl<'a, E: EventBuilder<'a>> Events<'a, E> for Volume {
-    #[tactic(auto, using(crate::proofs::Past::past), unfolding(gltf_shading::specs::MaterialExtension::volume_rows, gltf_textures::specs::Texture::info_rows, gltf_shading::specs::MaterialExtension::volume_members))]
-    fn event<C: HasContext>(&'a self, number: usize, context: &C) -> E {
-        match number {
-            0 => E::member("thicknessTexture", &self.thickness_texture, context),
-            _ => E::end(),
-        }
+    #[tactic(auto, unfolding(gltf_shading::specs::MaterialExtension::volume_rows, gltf_textures::specs::Texture::info_rows, gltf_shading::specs::MaterialExtension::volume_members))]
+    fn value_ref<'a>(&'a self, context: &Context<'_>) -> ValueRef<'a> {
+        ValueRef::OneTexture(TextureMember {
+            name: "thicknessTexture",
+            fault: reference_fault(&self.thickness_texture, context),
+        })
     }
 }
 
 impl Quiet for Volume {
     fn is_quiet<C: HasContext>(&self, context: &C) -> bool {
-        is_object_quiet(self, context)
+        is_found_quiet(self, context)
     }
 }
 
@@ -141,29 +125,24 @@ impl Visitable for Specular {
 
     ghost tree = { λ v. closed_object (specular_members v) };
 
-    fn value_ref<'a>(&'a self, _context: &Context<'_>) -> ValueRef<'a> {
-        ValueRef::Specular(self)
-    }
-}
-
-impl<'a, E: EventBuilder<'a>> Events<'a, E> for Specular {
-    #[tactic(auto, using(crate::proofs::Past::past), unfolding(gltf_shading::specs::MaterialExtension::specular_rows, gltf_textures::specs::Texture::info_rows, gltf_shading::specs::MaterialExtension::specular_members))]
-    fn event<C: HasContext>(&'a self, number: usize, context: &C) -> E {
-        match number {
-            0 => E::member("specularTexture", &self.specular_texture, context),
-            1 => E::member(
-                "specularColorTexture",
-                &self.specular_color_texture,
-                context,
-            ),
-            _ => E::end(),
-        }
+    #[tactic(auto, unfolding(gltf_shading::specs::MaterialExtension::specular_rows, gltf_textures::specs::Texture::info_rows, gltf_shading::specs::MaterialExtension::specular_members))]
+    fn value_ref<'a>(&'a self, context: &Context<'_>) -> ValueRef<'a> {
+        ValueRef::TwoTextures(
+            TextureMember {
+                name: "specularTexture",
+                fault: reference_fault(&self.specular_texture, context),
+            },
+            TextureMember {
+                name: "specularColorTexture",
+                fault: reference_fault(&self.specular_color_texture, context),
+            },
+        )
     }
 }
 
 impl Quiet for Specular {
     fn is_quiet<C: HasContext>(&self, context: &C) -> bool {
-        is_object_quiet(self, context)
+        is_found_quiet(self, context)
     }
 }
 

@@ -8,10 +8,12 @@ ghost use Rattle.std.specs.Prelude.{refl};
 use crate::always_valid::AlwaysValid;
 use crate::event::EventBuilder;
 use crate::events::Events;
-use crate::quiet::{Quiet, are_quiet, is_object_quiet};
+use crate::quiet::{Quiet, are_quiet, is_found_quiet, is_object_quiet};
+use crate::references::TextureReference;
 use crate::value_ref::ValueRef;
 use crate::visitable::Visitable;
-use gltf_faults::{Context, HasContext, source_fault};
+use gltf_base::validation::Error;
+use gltf_faults::{Context, HasContext, index_fault, source_fault};
 use gltf_textures::extensions::texture as extensions;
 use gltf_textures::extensions::texture::{
     TextureTransform, TextureTransformOffset, TextureTransformRotation, TextureTransformScale,
@@ -111,24 +113,21 @@ impl Visitable for Info {
 
     ghost tree = { λ v. closed_object (info_members v) };
 
-    fn value_ref<'a>(&'a self, _context: &Context<'_>) -> ValueRef<'a> {
-        ValueRef::Info(self)
+    fn value_ref<'a>(&'a self, context: &Context<'_>) -> ValueRef<'a> {
+        ValueRef::TextureReference(self.index_error(context))
     }
 }
 
-impl<'a, E: EventBuilder<'a>> Events<'a, E> for Info {
-    #[tactic(auto, using(crate::proofs::Past::past), unfolding(gltf_textures::specs::Texture::info_rows, gltf_textures::specs::Texture::info_extension_rows, gltf_textures::specs::Texture::texture_transform_rows, gltf_textures::specs::Texture::info_members))]
-    fn event<C: HasContext>(&'a self, number: usize, context: &C) -> E {
-        match number {
-            0 => E::member("index", &self.index, context),
-            _ => E::end(),
-        }
+impl TextureReference for Info {
+    #[tactic(auto, unfolding(gltf_textures::specs::Texture::info_rows, gltf_textures::specs::Texture::info_extension_rows, gltf_textures::specs::Texture::texture_transform_rows, gltf_textures::specs::Texture::info_members))]
+    fn index_error(&self, context: &Context<'_>) -> Option<Error> {
+        index_fault(&self.index, context.root)
     }
 }
 
 impl Quiet for Info {
     fn is_quiet<C: HasContext>(&self, context: &C) -> bool {
-        is_object_quiet(self, context)
+        is_found_quiet(self, context)
     }
 }
 

@@ -1,16 +1,22 @@
 //! A borrowed value of a document.
 
 ghost use Rattle.std.specs.Prelude.{◌≡◌, ◌+◌, ◌<◌, ◌^◌, true};
+ghost use Rattle.gltf_faults.specs.Context.{Context as MathematicalContext, context_of};
 ghost use Rattle.gltf_visits.specs.ValueRefs.{outline_of, IsNumbered};
+ghost use Rattle.gltf_visits.specs.Moves.{IsGiven, IsMore};
 ghost use Rattle.gltf_visits.specs.Outline.{move_at, IsQuiet};
 
-use crate::event::EventBuilder;
+use crate::event::Event;
 use crate::events::Events;
 use crate::lists::{
     at_attributes, channel_at, extension_at, in_attribute, in_channel, in_extension, in_positions,
     is_channel_quiet, item_at, leaf_at,
 };
+use crate::material::{MaterialFaults, in_material, is_material_quiet};
 use crate::quiet::Quiet;
+use crate::references::{
+    TextureMember, in_one_texture, in_reference, in_two_textures, is_reference_quiet,
+};
 use gltf_animations::animation::{Animation, Channel, Sampler as AnimationSampler, Target};
 use gltf_base::Index;
 use gltf_base::mesh::Semantic;
@@ -19,8 +25,8 @@ use gltf_data::accessor::Accessor;
 use gltf_data::accessor::sparse::{Indices, Sparse, Values};
 use gltf_data::buffer::View;
 use gltf_data::image::Image;
-use gltf_faults::{HasContext, PositionFaults};
-use gltf_materials::material::{Material, NormalTexture, OcclusionTexture, PbrMetallicRoughness};
+use gltf_faults::{Context, HasContext, PositionFaults};
+use gltf_materials::material::Material;
 use gltf_meshes::mesh::{Mesh, MorphTarget, Primitive};
 use gltf_nodes::camera::Camera;
 use gltf_nodes::extensions::scene::Node as NodeExtensions;
@@ -29,10 +35,8 @@ use gltf_nodes::scene::{Node, Scene};
 use gltf_nodes::skin::Skin;
 use gltf_root::extensions::root::{KhrLightsPunctual as RootLights, Root as RootExtensions};
 use gltf_root::root::Root;
-use gltf_shading::extensions::material::{
-    Material as MaterialExtensions, PbrSpecularGlossiness, Specular, Transmission, Volume,
-};
-use gltf_textures::texture::{Info, Sampler, Texture};
+use gltf_shading::extensions::material::Material as MaterialExtensions;
+use gltf_textures::texture::{Sampler, Texture};
 use std::collections::BTreeMap;
 
 /// A value that a walk comes to: an object, a list or a map in which something can be wrong, a
@@ -69,15 +73,14 @@ pub enum ValueRef<'a> {
     Images(&'a Vec<Image>),
     Image(&'a Image),
     Materials(&'a Vec<Material>),
-    Material(&'a Material),
-    PbrMetallicRoughness(&'a PbrMetallicRoughness),
-    NormalTexture(&'a NormalTexture),
-    OcclusionTexture(&'a OcclusionTexture),
-    MaterialExtensions(&'a MaterialExtensions),
-    PbrSpecularGlossiness(&'a PbrSpecularGlossiness),
-    Transmission(&'a Transmission),
-    Volume(&'a Volume),
-    Specular(&'a Specular),
+    /// What is wrong in the members of a material, with its extensions; or extensions alone. One
+    /// variant for both: the compiler limits what references reach (docs/DECISIONS.md).
+    Material(Option<MaterialFaults>, Option<&'a MaterialExtensions>),
+    /// A reference to a texture, and the error of its index.
+    TextureReference(Option<Error>),
+    /// An object in which only references to textures can be wrong, in one member or in two.
+    OneTexture(TextureMember),
+    TwoTextures(TextureMember, TextureMember),
     Meshes(&'a Vec<Mesh>),
     Mesh(&'a Mesh),
     Primitives(&'a Vec<Primitive>),
@@ -103,16 +106,15 @@ pub enum ValueRef<'a> {
     Skin(&'a Skin),
     Textures(&'a Vec<Texture>),
     Texture(&'a Texture),
-    Info(&'a Info),
 }
 
 impl<'a> ValueRef<'a> {
     /// The event at a number.
-    pub fn event<E: EventBuilder<'a>, C: HasContext>(self, number: usize, context: &C) -> E
+    pub fn event(self, number: usize, context: &Context<'_>) -> Event<'a>
         requires { IsNumbered self }
-        ensures comes { E.gives (C.context context.now)
-            (move_at (outline_of (C.context context.now) self.entry) number) result }
-        ensures small { E.is_more result → number + 1 < 2 ^ 64 }
+        ensures comes { IsGiven (context_of context.now)
+            (move_at (outline_of (context_of context.now) self.entry) number) result }
+        ensures small { IsMore result → number + 1 < 2 ^ 64 }
     {
         match self {
             ValueRef::Leaf(fault) => leaf_at(fault, number),
@@ -140,17 +142,13 @@ impl<'a> ValueRef<'a> {
             ValueRef::Sampler(object) => object.event(number, context),
             ValueRef::Textures(items) => item_at(items, number, context),
             ValueRef::Texture(object) => object.event(number, context),
-            ValueRef::Info(object) => object.event(number, context),
             ValueRef::Materials(items) => item_at(items, number, context),
-            ValueRef::Material(object) => object.event(number, context),
-            ValueRef::PbrMetallicRoughness(object) => object.event(number, context),
-            ValueRef::NormalTexture(object) => object.event(number, context),
-            ValueRef::OcclusionTexture(object) => object.event(number, context),
-            ValueRef::MaterialExtensions(object) => object.event(number, context),
-            ValueRef::PbrSpecularGlossiness(object) => object.event(number, context),
-            ValueRef::Transmission(object) => object.event(number, context),
-            ValueRef::Volume(object) => object.event(number, context),
-            ValueRef::Specular(object) => object.event(number, context),
+            ValueRef::Material(faults, extensions) => in_material(
+                faults, extensions, number, context,
+            ),
+            ValueRef::TextureReference(error) => in_reference(error, number),
+            ValueRef::OneTexture(member) => in_one_texture(member, number),
+            ValueRef::TwoTextures(first, second) => in_two_textures(first, second, number),
             ValueRef::Meshes(items) => item_at(items, number, context),
             ValueRef::Mesh(object) => object.event(number, context),
             ValueRef::Primitives(items) => item_at(items, number, context),
@@ -180,21 +178,23 @@ impl<'a> ValueRef<'a> {
         }
     }
 
-    /// Whether one look finds nothing wrong: in a leaf, an attribute, or an item of a list. Other
-    /// values get a frame without a look, which keeps a walk linear: a fault is looked at once for
-    /// each list above it.
+    /// Whether one look finds nothing wrong: in an item of a list, or in a value of which all errors
+    /// were found. Other values get a frame without a look, which keeps a walk linear: a fault is
+    /// looked at once for each list above it.
     pub fn is_quiet<C: HasContext>(&self, context: &C) -> bool
         ensures { result ≡ true → IsQuiet (outline_of (C.context context.now) self.now) }
     {
         match self {
-            ValueRef::Leaf(fault) => fault.is_none(),
-            ValueRef::Attribute(key, index) => key.is_none() && index.is_none(),
             ValueRef::Accessor(item) => item.is_quiet(context),
             ValueRef::View(item) => item.is_quiet(context),
             ValueRef::Image(item) => item.is_quiet(context),
             ValueRef::Sampler(item) => item.is_quiet(context),
             ValueRef::Texture(item) => item.is_quiet(context),
-            ValueRef::Material(item) => item.is_quiet(context),
+            ValueRef::Material(Some(faults), extensions) => is_material_quiet(
+                faults,
+                *extensions,
+                context,
+            ),
             ValueRef::Mesh(item) => item.is_quiet(context),
             ValueRef::Primitive(item) => item.is_quiet(context),
             ValueRef::MorphTarget(item) => item.is_quiet(context),
@@ -206,6 +206,23 @@ impl<'a> ValueRef<'a> {
             ValueRef::AnimationSampler(item) => item.is_quiet(context),
             ValueRef::Animation(item) => item.is_quiet(context),
             ValueRef::Channel(channel, animation) => is_channel_quiet(channel, animation, context),
+            found => found.has_no_fault(),
+        }
+    }
+
+    /// Whether a value of which all errors were found has none.
+    pub(crate) fn has_no_fault(&self) -> bool
+        ensures { result ≡ true → (context : MathematicalContext)
+            → IsQuiet (outline_of context self.now) }
+    {
+        match self {
+            ValueRef::Leaf(fault) => fault.is_none(),
+            ValueRef::Attribute(key, index) => key.is_none() && index.is_none(),
+            ValueRef::TextureReference(error) => error.is_none(),
+            ValueRef::OneTexture(member) => is_reference_quiet(member.fault),
+            ValueRef::TwoTextures(first, second) => {
+                is_reference_quiet(first.fault) && is_reference_quiet(second.fault)
+            }
             _ => false,
         }
     }

@@ -16,6 +16,7 @@ enum Task {
     ReadValue,
     ReadAndDropValue,
     FromSlice,
+    FromSliceAndDrop,
     FromValue,
     Validate,
     Walk,
@@ -26,10 +27,11 @@ enum Task {
 }
 
 /// Each task, and the name that it is printed under.
-const TASKS: [(Task, &str); 10] = [
+const TASKS: [(Task, &str); 11] = [
     (Task::ReadValue, "Value::from_slice"),
     (Task::ReadAndDropValue, "Value::from_slice and drop"),
     (Task::FromSlice, "Root::from_slice"),
+    (Task::FromSliceAndDrop, "Root::from_slice and drop"),
     (Task::FromValue, "Root::from_value"),
     (Task::Validate, "Root::validate into a Count"),
     (Task::Walk, "Walk to its end"),
@@ -82,6 +84,11 @@ fn time(rt: &HostRuntime, task: Task, bytes: &[u8], root: &Root) -> Result<u64> 
             let nanos = nanos_since(rt, &start)?;
             drop(read);
             Ok(nanos)
+        }
+        Task::FromSliceAndDrop => {
+            let start = Instant::now(rt)?;
+            drop(Root::from_slice(alloc, bytes)?);
+            nanos_since(rt, &start)
         }
         Task::FromValue => {
             let value = Value::from_slice(alloc, bytes)?;

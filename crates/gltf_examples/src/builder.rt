@@ -20,12 +20,9 @@ pub fn main(rt: HostRuntime) -> Result<()> {
         }
         other => other?,
     };
-    let scene = document.push(Scene {
-        name: Some(String::from_str(alloc, "one node")?),
-        nodes: vec![in alloc; index]?,
-        extensions: None,
-        extras: None,
-    })?;
+    let mut scene = Scene::new(vec![in alloc; index]?);
+    scene.name = Some(String::from_str(alloc, "one node")?);
+    let scene = document.push(scene)?;
     let mut root = document.into_root();
     root.scene = Some(scene);
     println!(rt; "{}", root.to_string(alloc)?)?;

@@ -3,6 +3,7 @@
 
 use anyhow::{Context, Result};
 use gltf_json::Root;
+use gltf_json::material::StrengthFactor;
 use gltf_json::mesh::Primitive;
 use std::fs;
 
@@ -18,11 +19,9 @@ fn print_primitive(rt: &HostRuntime, root: &Root, primitive: &Primitive) -> Resu
         )?;
     }
     let material = primitive.material.and_then(|index| root.get(index));
-    let factor = material.and_then(|it| it.pbr_metallic_roughness.metallic_factor.0.as_ref());
-    // The default is 1 (glTF 2.0, section 5.22).
-    let metallic = factor
-        .and_then(|real| real.as_value().as_f64())
-        .unwrap_or(1.0);
+    let metallic = material.map_or(StrengthFactor::DEFAULT, |it| {
+        it.pbr_metallic_roughness.metallic_factor.value()
+    });
     println!(rt; "  metallic: {metallic}")?;
     Ok(())
 }

@@ -8,7 +8,7 @@ use crate::documents::{FAULTY, SIX, SIX_LINES};
 use crate::reading::{WAYS, Way, read_by};
 use crate::shown::shows;
 use gltf_base::{Step, Steps};
-use gltf_json::validation::{Count, Error, Sink, Stop, Validate};
+use gltf_json::validation::{By, Count, Error, Sink, Stop, Take, Validate};
 use gltf_json::{Path, Root};
 use std::alloc::{AllocError, Global};
 use std::fmt::Write;
@@ -136,6 +136,56 @@ fn holds_the_first_of_six(rt: HostRuntime) -> Result<(), Fail> {
         );
     }
     assert!(rt; holds_first(rt.alloc(), 6, "Ok(()), 0 steps\n")?);
+    Ok(())
+}
+
+/// What takes each report as a line, with a pointer and a code.
+#[derive(Drop)]
+struct Pointers {
+    alloc: Global,
+    lines: String,
+}
+
+impl Take for Pointers {
+    type Refusal = AllocError;
+
+    fn take(&mut self, path: &Steps<'_>, error: Error) -> Result<(), AllocError> {
+        let place = Path::pointer_of(self.alloc, path)?;
+        writeln!(self.lines, "{place}: {}", error.code())
+    }
+}
+
+/// A document with an accessor without a view, and an own attribute without an accessor.
+const OWN_ATTRIBUTE: &str =
+    r#"{"asset":{"version":"2.0"},"accessors":[{"count":1,"componentType":5126,"type":"VEC3","min":[0,0,0],"max":[0,0,0]}],"meshes":[{"primitives":[{"attributes":{"POSITION":0,"_A/B~C":1}}]}]}"#;
+
+/// What is taken of a document's reports, and a last line that says how validation ended.
+fn pointers_of(alloc: Global, root: &Root) -> Result<String, gltf_json::Error> {
+    let mut sink = By(Pointers {
+        alloc,
+        lines: String::new(alloc),
+    });
+    let ended = root.validate(root, &mut Steps::new(), &mut sink);
+    let By(mut taken) = sink;
+    writeln!(taken.lines, "{ended:?}")?;
+    Ok(taken.lines)
+}
+
+/// The same of a document that is read.
+fn pointers_read(alloc: Global, document: &str) -> Result<String, gltf_json::Error> {
+    let root = read_by(alloc, Way::Bytes, document)?;
+    pointers_of(alloc, &root)
+}
+
+#[test]
+fn hands_reports_on_in_order(rt: HostRuntime) -> Result<(), Fail> {
+    let lines = pointers_read(rt.alloc(), OWN_ATTRIBUTE);
+    assert!(rt;
+        shows(
+            lines,
+            "/accessors/0/bufferView: missing\n/meshes/0/primitives/0/attributes/_A~1B~0C: index-out-of-bounds\nOk(())\n"
+        )?
+    );
     Ok(())
 }
 

@@ -10,6 +10,7 @@ use gltf_base::extensions::scene::khr_lights_punctual::LightType;
 use gltf_base::material::AlphaMode;
 use gltf_base::mesh::Mode;
 use gltf_base::texture::{MagFilter, MinFilter, WrappingMode};
+use gltf_base::validation::Checked;
 use std::alloc::{AllocError, Global};
 use std::fmt::{Debug, Write};
 use std::test::Fail;
@@ -153,5 +154,18 @@ fn choices_have_defaults(rt: HostRuntime) -> Result<(), Fail> {
             "Linear Opaque Triangles Repeat (Invalid, Invalid)"
         )?
     );
+    Ok(())
+}
+
+/// A choice by numbers, one by names, and a number of no item, as they are printed.
+fn checked_shown(alloc: Global) -> Result<String, AllocError> {
+    let (target, alpha) = (Checked::Valid(Target::ArrayBuffer), AlphaMode::Mask);
+    let past = Mode::from_gl_enum(7);
+    format!(in alloc; "{target} {alpha} {past}")
+}
+
+#[test]
+fn choices_are_printed_as_spelled(rt: HostRuntime) -> Result<(), Fail> {
+    assert!(rt; shows(checked_shown(rt.alloc()), "34962 MASK <invalid>")?);
     Ok(())
 }

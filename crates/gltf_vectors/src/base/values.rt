@@ -69,6 +69,14 @@ fn attribute_key_shown(alloc: Global) -> Result<String, Fail> {
     Ok(format!(in alloc; "{key:?}")?)
 }
 
+/// The pointer to a member of an item of an attribute whose name has both characters that a pointer
+/// replaces, and one that looks as if it were replaced already.
+fn pointer_shown(alloc: Global) -> Result<String, Fail> {
+    let own = Checked::Valid(Semantic::Extras(String::from_str(alloc, "A/B~1")?));
+    let steps = attribute_steps(&own)?;
+    Ok(Path::pointer_of(alloc, &steps)?)
+}
+
 #[test]
 fn paths_are_compared_and_made_of_steps(rt: HostRuntime) -> Result<(), Fail> {
     assert!(rt; are_paths_compared(rt.alloc())?);
@@ -78,6 +86,7 @@ fn paths_are_compared_and_made_of_steps(rt: HostRuntime) -> Result<(), Fail> {
             "a[\"<invalid semantic name>\"][2].b Index(0)"
         )?
     );
+    assert!(rt; shows(pointer_shown(rt.alloc()), "/a/_A~1B~01/2/b")?);
     assert!(rt; shows(text_key_shown(rt.alloc()), "Key(\"c\")")?);
     assert!(rt; shows(attribute_key_shown(rt.alloc()), "Attribute(Valid(Normals))")?);
     Ok(())
@@ -186,11 +195,21 @@ fn is_whole(number: i64) -> Result<bool, AllocError> {
     Ok(is_cloned && real.as_value().as_i64() == Some(number))
 }
 
+/// The float of a number that is made of a float, if it is made.
+fn float(number: f64) -> Option<f64> {
+    match Real::from_f64(number) {
+        Some(real) => Some(real.as_f64()),
+        None => None,
+    }
+}
+
 #[test]
 fn reals_are_numbers_alone(rt: HostRuntime) -> Result<(), Fail> {
     assert_eq!(rt; fraction(rt.alloc(), "null")?, None);
     assert_eq!(rt; fraction(rt.alloc(), "-0.5")?, Some(-0.5));
     assert!(rt; is_whole(1)? && is_whole(i64::MIN)?);
+    assert_eq!(rt; float(0.5), Some(0.5));
+    assert_eq!(rt; float(f64::INFINITY), None);
     Ok(())
 }
 

@@ -3,8 +3,8 @@ that the line names is a clause of one of these calls. It ends with status 1 if 
 import re
 import sys
 
-from gen_api import ROOT_CRATE, Crates, generic_free
-from sources import ROOT
+from gen_api import ROOT_CRATE, Crates
+from sources import ROOT, trait_and_type
 
 PAGE = ROOT / "docs" / "PROMISES.md"
 
@@ -24,8 +24,7 @@ def known_calls(roots):
                 for member in item.members:
                     add(f"{item.name}::{member.name}", member)
         for block in module.impls:
-            head = generic_free(block.signature).removeprefix("impl ").split(" where ")[0]
-            trait, _, target = head.rpartition(" for ")
+            trait, target = trait_and_type(block)
             for name in (trait, target):
                 name = name.split("<")[0]
                 for member in block.members:

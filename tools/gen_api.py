@@ -7,7 +7,7 @@ import re
 import sys
 import textwrap
 
-from sources import ROOT, crates
+from sources import ROOT, crates, trait_and_type
 
 PAGE = ROOT / "docs" / "API.md"
 ROOT_CRATE = "gltf_json"
@@ -91,13 +91,12 @@ class Page:
 
         def visit(module):
             for block in module.impls:
-                name = generic_free(block.signature).removeprefix("impl ")
-                target = name.split(" where ")[0].rpartition(" for ")[2].strip()
+                trait, target = trait_and_type(block)
                 target = target.split("<")[0].lstrip("&").replace("mut ", "")
                 # `impl<T: Bound> Trait for T`: each type with the bound has the trait.
                 bound = re.match(rf"impl<{target}: (\w+)>", block.signature)
                 if bound:
-                    self.implied.setdefault(bound.group(1), set()).add(trait_of(block))
+                    self.implied.setdefault(bound.group(1), set()).add(trait)
                 found = self.crates.find(module, target.split("::"))
                 if found and found[0] == "item":
                     blocks.setdefault(id(self.behind(found)), []).append(block)
@@ -201,12 +200,13 @@ class Page:
         lines = documented(item.doc, self.declaration(item))
         item = behind or item
         blocks = self.blocks.get(id(item), []) if item.kind in ("struct", "enum") else []
-        traits = self.traits(set(item.derives) | {trait_of(b) for b in blocks})
+        heads = [trait_and_type(block)[0] for block in blocks]
+        traits = self.traits(set(item.derives) | set(heads))
         if traits:
             lines.append(f"// implements {', '.join(traits)}")
-        for block in blocks:
+        for block, trait in zip(blocks, heads):
             functions = [m for m in block.members if m.public]
-            if trait_of(block) == "" and functions:
+            if not trait and functions:
                 lines += within(f"{block.signature} {{")
                 lines += [line for m in functions for line in method(m)]
                 lines.append("}")
@@ -245,24 +245,6 @@ class Page:
         if len(members) < len(item.members):
             lines.append("    // and private fields")
         return [*lines, "}"]
-
-
-def generic_free(signature):
-    """An impl's head without its parameters, whatever brackets are in them."""
-    if not signature.startswith("impl<"):
-        return signature
-    depth = 0
-    for at, c in enumerate(signature):
-        depth += (c == "<") - (c == ">" and signature[at - 1] not in "-=")
-        if c == ">" and depth == 0:
-            return "impl " + signature[at + 1:].strip()
-    return signature
-
-
-def trait_of(block):
-    """The trait that a block is for; empty for a type's own functions."""
-    head = generic_free(block.signature).removeprefix("impl ").split(" where ")[0]
-    return head.rpartition(" for ")[0]
 
 
 def method(item, front="pub "):

@@ -78,9 +78,12 @@ class Scanner:
         if self.word() != word:
             return False
         self.at += len(word)
+        self.blanks()
+        return True
+
+    def blanks(self):
         while self.at < len(self.text) and self.text[self.at].isspace():
             self.at += 1
-        return True
 
     def step(self):
         """Goes past one character, or past a whole text, character literal or comment."""
@@ -116,7 +119,7 @@ class Scanner:
                 break
             if here in "<>" and self.text[self.at - 1] not in "-=":
                 depth += 1 if here == "<" else -1
-            if self.text[self.at] in CLOSING:
+            if here in CLOSING:
                 self.balanced()
             elif word := self.word():
                 if word in words:
@@ -145,6 +148,25 @@ def first_sentence(lines):
     text = " ".join(paragraph)
     found = re.match(r"(.*?\.)(?= [A-Z`|]|$)", text)
     return found.group(1) if found else text
+
+
+def generic_free(signature):
+    """An impl's head without its parameters, whatever brackets are in them."""
+    if not signature.startswith("impl<"):
+        return signature
+    depth = 0
+    for at, c in enumerate(signature):
+        depth += (c == "<") - (c == ">" and signature[at - 1] not in "-=")
+        if c == ">" and depth == 0:
+            return "impl " + signature[at + 1:].strip()
+    return signature
+
+
+def trait_and_type(block):
+    """The trait that an impl is for, empty for a type's own functions, and the type."""
+    head = generic_free(block.signature).removeprefix("impl ").split(" where ")[0]
+    trait, _, target = head.rpartition(" for ")
+    return trait, target.strip()
 
 
 def use_tree(text, prefix=()):
@@ -202,8 +224,7 @@ class Reader:
             scanner.balanced()
             return
         public = self.visibility(scanner)
-        while scanner.word() in ("unsafe", "extern", "const") and self.is_modifier(scanner):
-            scanner.take(scanner.word())
+        self.modifiers(scanner)
         kind = scanner.word()
         if kind == "ghost":
             self.ghost(scanner)
@@ -223,6 +244,11 @@ class Reader:
             if not any("cfg(test)" in a or "#[test]" in a for a in attributes):
                 module.items[item.name] = item
 
+    def modifiers(self, scanner):
+        """Goes past the words before `fn`, `impl` or `trait`."""
+        while scanner.word() in ("unsafe", "extern", "const") and self.is_modifier(scanner):
+            scanner.take(scanner.word())
+
     def is_modifier(self, scanner):
         return re.match(r"\w+ (\"\w+\" )?(fn|impl|trait|unsafe|extern|const)\b",
                         scanner.text[scanner.at:scanner.at + 40])
@@ -232,8 +258,7 @@ class Reader:
             return False
         if scanner.text[scanner.at] == "(":
             scanner.balanced()
-            while scanner.text[scanner.at].isspace():
-                scanner.at += 1
+            scanner.blanks()
             return False
         return True
 
@@ -285,7 +310,6 @@ class Reader:
             signature = scanner.until("{;(", ())
             item = Item(kind, signature.split()[1].split("<")[0], signature, first_sentence(docs),
                         public, derives)
-            item.signature = f"{signature}"
             if scanner.text[scanner.at] == "(":
                 item.signature += self.tuple(scanner)
                 scanner.until(";")
@@ -360,8 +384,7 @@ class Reader:
                 scanner.at += scanner.text[scanner.at] == ";"
                 continue
             public = self.visibility(scanner) or kind == "trait"
-            while scanner.word() in ("unsafe", "extern", "const") and self.is_modifier(scanner):
-                scanner.take(scanner.word())
+            self.modifiers(scanner)
             item.members.append(self.declared(scanner, docs, scanner.attributes, public))
         scanner.at += 1
         return item

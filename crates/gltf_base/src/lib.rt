@@ -72,8 +72,8 @@ pub mod laws {
         equal_light_types_hash_alike, items_are_equal_by_spelling, worked_numbers,
     };
     pub use gltf_paths::laws::{
-        errors_are_ordered_by_rank, indexes_are_compared_as_numbers, sizes_are_compared_as_numbers,
-        worked_paths,
+        codes_tell_errors_apart, errors_are_ordered_by_rank, indexes_are_compared_as_numbers,
+        names_are_read_back, sizes_are_compared_as_numbers, worked_paths, worked_pointers,
     };
 
     /// That the constants of accessors list their choices.

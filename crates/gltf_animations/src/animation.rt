@@ -18,8 +18,7 @@ use gltf_base::{Index, Listed};
 use gltf_data::accessor::Accessor;
 use gltf_data::extras::Extras;
 use gltf_nodes::scene::Node;
-use gltf_schema::{Blank, Error, Object, Reading, Source, Writing};
-use serde_json::{Map, Value};
+use gltf_schema::{Blank, Error, Object, Reading, Source, WriteRows};
 use std::alloc::Global;
 
 /// What moves nodes over time.
@@ -51,9 +50,14 @@ impl Animation {
     /// An animation of these channels, which name the samplers by their numbers.
     #[tactic(auto, unfolding(crate::specs::Animation::animation_rows, crate::specs::Animation::animation_members))]
     pub fn new(samplers: Vec<Sampler>, channels: Vec<Channel>) -> Animation
-        ensures { animation_members result ≡ made animation_rows (
-            (codes "samplers", list_tree (λ s. closed_object (animation_sampler_members s)) samplers.items)
-            ∷ (codes "channels", list_tree (λ c. closed_object (animation_channel_members c)) channels.items)
+        ensures { animation_members result ≡ made animation_rows ((
+          codes "samplers",
+          list_tree (λ s. closed_object (animation_sampler_members s)) samplers.items,
+        )
+            ∷ (
+              codes "channels",
+              list_tree (λ c. closed_object (animation_channel_members c)) channels.items,
+            )
             ∷ []) }
     {
         Animation {
@@ -103,14 +107,12 @@ impl Object for Animation {
         })
     }
 
-    fn encode_members(&self, alloc: Global) -> Result<Map<String, Value>, Error> {
-        Writing::new(alloc)
-            .list("samplers", &self.samplers)
-            .list("channels", &self.channels)
-            .optional("name", &self.name)
-            .optional("extensions", &self.extensions)
-            .optional("extras", &self.extras)
-            .finish()
+    fn write_members<W: WriteRows>(&self, to: &mut W) {
+        to.list("channels", &self.channels);
+        to.optional("extensions", &self.extensions);
+        to.optional("extras", &self.extras);
+        to.optional("name", &self.name);
+        to.list("samplers", &self.samplers);
     }
 }
 
@@ -172,13 +174,11 @@ impl Object for Channel {
         })
     }
 
-    fn encode_members(&self, alloc: Global) -> Result<Map<String, Value>, Error> {
-        Writing::new(alloc)
-            .always("sampler", &self.sampler.number())
-            .always("target", &self.target)
-            .optional("extensions", &self.extensions)
-            .optional("extras", &self.extras)
-            .finish()
+    fn write_members<W: WriteRows>(&self, to: &mut W) {
+        to.optional("extensions", &self.extensions);
+        to.optional("extras", &self.extras);
+        to.always("sampler", &self.sampler.number());
+        to.always("target", &self.target);
     }
 }
 
@@ -239,13 +239,11 @@ impl Object for Target {
         })
     }
 
-    fn encode_members(&self, alloc: Global) -> Result<Map<String, Value>, Error> {
-        Writing::new(alloc)
-            .always("node", &self.node)
-            .always("path", &self.path)
-            .optional("extensions", &self.extensions)
-            .optional("extras", &self.extras)
-            .finish()
+    fn write_members<W: WriteRows>(&self, to: &mut W) {
+        to.optional("extensions", &self.extensions);
+        to.optional("extras", &self.extras);
+        to.always("node", &self.node);
+        to.always("path", &self.path);
     }
 }
 
@@ -326,13 +324,11 @@ impl Object for Sampler {
         })
     }
 
-    fn encode_members(&self, alloc: Global) -> Result<Map<String, Value>, Error> {
-        Writing::new(alloc)
-            .always("input", &self.input)
-            .always("interpolation", &self.interpolation)
-            .always("output", &self.output)
-            .optional("extensions", &self.extensions)
-            .optional("extras", &self.extras)
-            .finish()
+    fn write_members<W: WriteRows>(&self, to: &mut W) {
+        to.optional("extensions", &self.extensions);
+        to.optional("extras", &self.extras);
+        to.always("input", &self.input);
+        to.always("interpolation", &self.interpolation);
+        to.always("output", &self.output);
     }
 }

@@ -16,8 +16,8 @@ use crate::extras::Extras;
 use gltf_base::accessor::{AccessorType, ComponentType, GenericComponentType};
 use gltf_base::validation::{Checked, USize64};
 use gltf_base::{Index, Listed};
-use gltf_schema::{Error, Object, Reading, Source, Writing};
-use serde_json::{Map, Value};
+use gltf_schema::{Error, Object, Reading, Source, WriteRows};
+use serde_json::Value;
 use std::alloc::Global;
 
 pub mod sparse;
@@ -148,20 +148,18 @@ impl Object for Accessor {
         })
     }
 
-    fn encode_members(&self, alloc: Global) -> Result<Map<String, Value>, Error> {
-        Writing::new(alloc)
-            .optional("bufferView", &self.buffer_view)
-            .optional("byteOffset", &self.byte_offset)
-            .always("count", &self.count)
-            .always("componentType", &self.component_type)
-            .always("type", &self.type_)
-            .optional("min", &self.min)
-            .optional("max", &self.max)
-            .optional("name", &self.name)
-            .unless("normalized", &self.normalized, false)
-            .optional("sparse", &self.sparse)
-            .optional("extensions", &self.extensions)
-            .optional("extras", &self.extras)
-            .finish()
+    fn write_members<W: WriteRows>(&self, to: &mut W) {
+        to.optional("bufferView", &self.buffer_view);
+        to.optional("byteOffset", &self.byte_offset);
+        to.always("componentType", &self.component_type);
+        to.always("count", &self.count);
+        to.optional("extensions", &self.extensions);
+        to.optional("extras", &self.extras);
+        to.optional("max", &self.max);
+        to.optional("min", &self.min);
+        to.optional("name", &self.name);
+        to.unless("normalized", &self.normalized, false);
+        to.optional("sparse", &self.sparse);
+        to.always("type", &self.type_);
     }
 }

@@ -15,8 +15,8 @@ use crate::extras::Extras;
 use gltf_base::buffer::Target;
 use gltf_base::validation::{Checked, USize64};
 use gltf_base::{Index, Listed};
-use gltf_schema::{Error, Object, Reading, Schema, Source, Tabled, Writing};
-use serde_json::{Map, Value};
+use gltf_schema::{Error, Object, Reading, Schema, Source, Tabled, WriteRows};
+use serde_json::Value;
 use std::alloc::Global;
 
 /// The distance from one element of a view to the next, in bytes.
@@ -118,14 +118,12 @@ impl Object for Buffer {
         })
     }
 
-    fn encode_members(&self, alloc: Global) -> Result<Map<String, Value>, Error> {
-        Writing::new(alloc)
-            .always("byteLength", &self.byte_length)
-            .optional("name", &self.name)
-            .optional("uri", &self.uri)
-            .optional("extensions", &self.extensions)
-            .optional("extras", &self.extras)
-            .finish()
+    fn write_members<W: WriteRows>(&self, to: &mut W) {
+        to.always("byteLength", &self.byte_length);
+        to.optional("extensions", &self.extensions);
+        to.optional("extras", &self.extras);
+        to.optional("name", &self.name);
+        to.optional("uri", &self.uri);
     }
 }
 
@@ -229,16 +227,14 @@ impl Object for View {
         })
     }
 
-    fn encode_members(&self, alloc: Global) -> Result<Map<String, Value>, Error> {
-        Writing::new(alloc)
-            .always("buffer", &self.buffer)
-            .always("byteLength", &self.byte_length)
-            .optional("byteOffset", &self.byte_offset)
-            .optional("byteStride", &self.byte_stride)
-            .optional("name", &self.name)
-            .optional("target", &self.target)
-            .optional("extensions", &self.extensions)
-            .optional("extras", &self.extras)
-            .finish()
+    fn write_members<W: WriteRows>(&self, to: &mut W) {
+        to.always("buffer", &self.buffer);
+        to.always("byteLength", &self.byte_length);
+        to.optional("byteOffset", &self.byte_offset);
+        to.optional("byteStride", &self.byte_stride);
+        to.optional("extensions", &self.extensions);
+        to.optional("extras", &self.extras);
+        to.optional("name", &self.name);
+        to.optional("target", &self.target);
     }
 }

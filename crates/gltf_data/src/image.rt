@@ -14,8 +14,8 @@ use crate::buffer::View;
 use crate::extensions;
 use crate::extras::Extras;
 use gltf_base::{Index, Listed};
-use gltf_schema::{Error, Object, Reading, Schema, Source, Tabled, Writing};
-use serde_json::{Map, Value};
+use gltf_schema::{Error, Object, Reading, Schema, Source, Tabled, WriteRows};
+use serde_json::Value;
 use std::alloc::Global;
 
 /// The media type of an image's data; it may be another than those that `VALID_MIME_TYPES` lists.
@@ -157,14 +157,12 @@ impl Object for Image {
         })
     }
 
-    fn encode_members(&self, alloc: Global) -> Result<Map<String, Value>, Error> {
-        Writing::new(alloc)
-            .optional("bufferView", &self.buffer_view)
-            .optional("mimeType", &self.mime_type)
-            .optional("name", &self.name)
-            .optional("uri", &self.uri)
-            .optional("extensions", &self.extensions)
-            .optional("extras", &self.extras)
-            .finish()
+    fn write_members<W: WriteRows>(&self, to: &mut W) {
+        to.optional("bufferView", &self.buffer_view);
+        to.optional("extensions", &self.extensions);
+        to.optional("extras", &self.extras);
+        to.optional("mimeType", &self.mime_type);
+        to.optional("name", &self.name);
+        to.optional("uri", &self.uri);
     }
 }

@@ -16,11 +16,11 @@ use gltf_base::material::AlphaMode;
 use gltf_base::validation::Checked;
 use gltf_base::{Index, Listed, Real};
 use gltf_data::extras::Extras;
-use gltf_schema::{Blank, Error, Object, Reading, Schema, Source, Tabled, Writing};
+use gltf_schema::{Blank, Error, Object, Reading, Schema, Source, Tabled, WriteRows};
 use gltf_shading::extensions;
 use gltf_shading::material::StrengthFactor;
 use gltf_textures::texture::{Info, Texture};
-use serde_json::{Map, Value};
+use serde_json::Value;
 use std::alloc::Global;
 
 /// How a surface looks.
@@ -149,20 +149,18 @@ impl Object for Material {
         })
     }
 
-    fn encode_members(&self, alloc: Global) -> Result<Map<String, Value>, Error> {
-        Writing::new(alloc)
-            .optional("alphaCutoff", &self.alpha_cutoff)
-            .always("alphaMode", &self.alpha_mode)
-            .always("doubleSided", &self.double_sided)
-            .optional("name", &self.name)
-            .always("pbrMetallicRoughness", &self.pbr_metallic_roughness)
-            .optional("normalTexture", &self.normal_texture)
-            .optional("occlusionTexture", &self.occlusion_texture)
-            .optional("emissiveTexture", &self.emissive_texture)
-            .optional("emissiveFactor", &self.emissive_factor.0)
-            .optional("extensions", &self.extensions)
-            .optional("extras", &self.extras)
-            .finish()
+    fn write_members<W: WriteRows>(&self, to: &mut W) {
+        to.optional("alphaCutoff", &self.alpha_cutoff);
+        to.always("alphaMode", &self.alpha_mode);
+        to.always("doubleSided", &self.double_sided);
+        to.optional("emissiveFactor", &self.emissive_factor.0);
+        to.optional("emissiveTexture", &self.emissive_texture);
+        to.optional("extensions", &self.extensions);
+        to.optional("extras", &self.extras);
+        to.optional("name", &self.name);
+        to.optional("normalTexture", &self.normal_texture);
+        to.optional("occlusionTexture", &self.occlusion_texture);
+        to.always("pbrMetallicRoughness", &self.pbr_metallic_roughness);
     }
 }
 
@@ -254,16 +252,14 @@ impl Object for PbrMetallicRoughness {
         })
     }
 
-    fn encode_members(&self, alloc: Global) -> Result<Map<String, Value>, Error> {
-        Writing::new(alloc)
-            .optional("baseColorFactor", &self.base_color_factor.0)
-            .optional("baseColorTexture", &self.base_color_texture)
-            .optional("metallicFactor", &self.metallic_factor.0)
-            .optional("roughnessFactor", &self.roughness_factor.0)
-            .optional("metallicRoughnessTexture", &self.metallic_roughness_texture)
-            .optional("extensions", &self.extensions)
-            .optional("extras", &self.extras)
-            .finish()
+    fn write_members<W: WriteRows>(&self, to: &mut W) {
+        to.optional("baseColorFactor", &self.base_color_factor.0);
+        to.optional("baseColorTexture", &self.base_color_texture);
+        to.optional("extensions", &self.extensions);
+        to.optional("extras", &self.extras);
+        to.optional("metallicFactor", &self.metallic_factor.0);
+        to.optional("metallicRoughnessTexture", &self.metallic_roughness_texture);
+        to.optional("roughnessFactor", &self.roughness_factor.0);
     }
 }
 
@@ -361,14 +357,12 @@ impl Object for NormalTexture {
         })
     }
 
-    fn encode_members(&self, alloc: Global) -> Result<Map<String, Value>, Error> {
-        Writing::new(alloc)
-            .always("index", &self.index)
-            .optional("scale", &self.scale)
-            .always("texCoord", &self.tex_coord)
-            .optional("extensions", &self.extensions)
-            .optional("extras", &self.extras)
-            .finish()
+    fn write_members<W: WriteRows>(&self, to: &mut W) {
+        to.optional("extensions", &self.extensions);
+        to.optional("extras", &self.extras);
+        to.always("index", &self.index);
+        to.optional("scale", &self.scale);
+        to.always("texCoord", &self.tex_coord);
     }
 }
 
@@ -450,14 +444,12 @@ impl Object for OcclusionTexture {
         })
     }
 
-    fn encode_members(&self, alloc: Global) -> Result<Map<String, Value>, Error> {
-        Writing::new(alloc)
-            .always("index", &self.index)
-            .optional("strength", &self.strength.0)
-            .always("texCoord", &self.tex_coord)
-            .optional("extensions", &self.extensions)
-            .optional("extras", &self.extras)
-            .finish()
+    fn write_members<W: WriteRows>(&self, to: &mut W) {
+        to.optional("extensions", &self.extensions);
+        to.optional("extras", &self.extras);
+        to.always("index", &self.index);
+        to.optional("strength", &self.strength.0);
+        to.always("texCoord", &self.tex_coord);
     }
 }
 

@@ -17,8 +17,7 @@ use gltf_base::{Index, Listed, Real};
 use gltf_data::accessor::Accessor;
 use gltf_data::extras::Extras;
 use gltf_materials::material::Material;
-use gltf_schema::{Error, Object, Reading, Source, Writing};
-use serde_json::{Map, Value};
+use gltf_schema::{Error, Object, Reading, Source, WriteRows};
 use std::alloc::Global;
 use std::collections::BTreeMap;
 
@@ -52,8 +51,10 @@ impl Mesh {
     /// A mesh of these parts.
     #[tactic(auto, unfolding(crate::specs::Mesh::mesh_rows, crate::specs::Mesh::mesh_members))]
     pub fn new(primitives: Vec<Primitive>) -> Mesh
-        ensures { mesh_members result ≡ made mesh_rows (
-            (codes "primitives", list_tree (λ p. closed_object (primitive_members p)) primitives.items)
+        ensures { mesh_members result ≡ made mesh_rows ((
+          codes "primitives",
+          list_tree (λ p. closed_object (primitive_members p)) primitives.items,
+        )
             ∷ []) }
     {
         Mesh {
@@ -101,14 +102,12 @@ impl Object for Mesh {
         })
     }
 
-    fn encode_members(&self, alloc: Global) -> Result<Map<String, Value>, Error> {
-        Writing::new(alloc)
-            .optional("extensions", &self.extensions)
-            .optional("extras", &self.extras)
-            .optional("name", &self.name)
-            .always("primitives", &self.primitives)
-            .optional("weights", &self.weights)
-            .finish()
+    fn write_members<W: WriteRows>(&self, to: &mut W) {
+        to.optional("extensions", &self.extensions);
+        to.optional("extras", &self.extras);
+        to.optional("name", &self.name);
+        to.always("primitives", &self.primitives);
+        to.optional("weights", &self.weights);
     }
 }
 
@@ -187,16 +186,14 @@ impl Object for Primitive {
         })
     }
 
-    fn encode_members(&self, alloc: Global) -> Result<Map<String, Value>, Error> {
-        Writing::new(alloc)
-            .always("attributes", &self.attributes)
-            .optional("extensions", &self.extensions)
-            .optional("extras", &self.extras)
-            .optional("indices", &self.indices)
-            .optional("material", &self.material)
-            .unless("mode", &self.mode, Checked::Valid(Mode::Triangles))
-            .optional("targets", &self.targets)
-            .finish()
+    fn write_members<W: WriteRows>(&self, to: &mut W) {
+        to.always("attributes", &self.attributes);
+        to.optional("extensions", &self.extensions);
+        to.optional("extras", &self.extras);
+        to.optional("indices", &self.indices);
+        to.optional("material", &self.material);
+        to.unless("mode", &self.mode, Checked::Valid(Mode::Triangles));
+        to.optional("targets", &self.targets);
     }
 }
 
@@ -252,11 +249,9 @@ impl Object for MorphTarget {
         })
     }
 
-    fn encode_members(&self, alloc: Global) -> Result<Map<String, Value>, Error> {
-        Writing::new(alloc)
-            .optional("POSITION", &self.positions)
-            .optional("NORMAL", &self.normals)
-            .optional("TANGENT", &self.tangents)
-            .finish()
+    fn write_members<W: WriteRows>(&self, to: &mut W) {
+        to.optional("NORMAL", &self.normals);
+        to.optional("POSITION", &self.positions);
+        to.optional("TANGENT", &self.tangents);
     }
 }

@@ -16,8 +16,7 @@ use gltf_base::camera::CameraType;
 use gltf_base::validation::Checked;
 use gltf_base::{Listed, Real};
 use gltf_data::extras::Extras;
-use gltf_schema::{Error, Object, Reading, Source, Writing};
-use serde_json::{Map, Value};
+use gltf_schema::{Error, Object, Reading, Source, WriteRows};
 use std::alloc::Global;
 
 /// How a scene is seen from a node.
@@ -126,15 +125,13 @@ impl Object for Camera {
         })
     }
 
-    fn encode_members(&self, alloc: Global) -> Result<Map<String, Value>, Error> {
-        Writing::new(alloc)
-            .optional("name", &self.name)
-            .optional("orthographic", &self.orthographic)
-            .optional("perspective", &self.perspective)
-            .always("type", &self.type_)
-            .optional("extensions", &self.extensions)
-            .optional("extras", &self.extras)
-            .finish()
+    fn write_members<W: WriteRows>(&self, to: &mut W) {
+        to.optional("extensions", &self.extensions);
+        to.optional("extras", &self.extras);
+        to.optional("name", &self.name);
+        to.optional("orthographic", &self.orthographic);
+        to.optional("perspective", &self.perspective);
+        to.always("type", &self.type_);
     }
 }
 
@@ -208,15 +205,13 @@ impl Object for Orthographic {
         })
     }
 
-    fn encode_members(&self, alloc: Global) -> Result<Map<String, Value>, Error> {
-        Writing::new(alloc)
-            .always("xmag", &self.xmag)
-            .always("ymag", &self.ymag)
-            .always("zfar", &self.zfar)
-            .always("znear", &self.znear)
-            .optional("extensions", &self.extensions)
-            .optional("extras", &self.extras)
-            .finish()
+    fn write_members<W: WriteRows>(&self, to: &mut W) {
+        to.optional("extensions", &self.extensions);
+        to.optional("extras", &self.extras);
+        to.always("xmag", &self.xmag);
+        to.always("ymag", &self.ymag);
+        to.always("zfar", &self.zfar);
+        to.always("znear", &self.znear);
     }
 }
 
@@ -288,14 +283,12 @@ impl Object for Perspective {
         })
     }
 
-    fn encode_members(&self, alloc: Global) -> Result<Map<String, Value>, Error> {
-        Writing::new(alloc)
-            .optional("aspectRatio", &self.aspect_ratio)
-            .always("yfov", &self.yfov)
-            .optional("zfar", &self.zfar)
-            .always("znear", &self.znear)
-            .optional("extensions", &self.extensions)
-            .optional("extras", &self.extras)
-            .finish()
+    fn write_members<W: WriteRows>(&self, to: &mut W) {
+        to.optional("aspectRatio", &self.aspect_ratio);
+        to.optional("extensions", &self.extensions);
+        to.optional("extras", &self.extras);
+        to.always("yfov", &self.yfov);
+        to.optional("zfar", &self.zfar);
+        to.always("znear", &self.znear);
     }
 }

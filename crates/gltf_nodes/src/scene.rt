@@ -17,8 +17,8 @@ use crate::skin::Skin;
 use gltf_base::{Index, Listed, Real};
 use gltf_data::extras::Extras;
 use gltf_meshes::mesh::Mesh;
-use gltf_schema::{Error, Object, Reading, Schema, Source, Tabled, Writing};
-use serde_json::{Map, Value};
+use gltf_schema::{Error, Object, Reading, Schema, Source, Tabled, WriteRows};
+use serde_json::Value;
 use std::alloc::Global;
 
 /// A place in the hierarchy of a scene, and what is there.
@@ -178,21 +178,19 @@ impl Object for Node {
         })
     }
 
-    fn encode_members(&self, alloc: Global) -> Result<Map<String, Value>, Error> {
-        Writing::new(alloc)
-            .optional("camera", &self.camera)
-            .optional("children", &self.children)
-            .optional("extensions", &self.extensions)
-            .optional("extras", &self.extras)
-            .optional("matrix", &self.matrix)
-            .optional("mesh", &self.mesh)
-            .optional("name", &self.name)
-            .optional("rotation", &self.rotation)
-            .optional("scale", &self.scale)
-            .optional("translation", &self.translation)
-            .optional("skin", &self.skin)
-            .optional("weights", &self.weights)
-            .finish()
+    fn write_members<W: WriteRows>(&self, to: &mut W) {
+        to.optional("camera", &self.camera);
+        to.optional("children", &self.children);
+        to.optional("extensions", &self.extensions);
+        to.optional("extras", &self.extras);
+        to.optional("matrix", &self.matrix);
+        to.optional("mesh", &self.mesh);
+        to.optional("name", &self.name);
+        to.optional("rotation", &self.rotation);
+        to.optional("scale", &self.scale);
+        to.optional("skin", &self.skin);
+        to.optional("translation", &self.translation);
+        to.optional("weights", &self.weights);
     }
 }
 
@@ -269,13 +267,11 @@ impl Object for Scene {
         })
     }
 
-    fn encode_members(&self, alloc: Global) -> Result<Map<String, Value>, Error> {
-        Writing::new(alloc)
-            .optional("extensions", &self.extensions)
-            .optional("extras", &self.extras)
-            .optional("name", &self.name)
-            .list("nodes", &self.nodes)
-            .finish()
+    fn write_members<W: WriteRows>(&self, to: &mut W) {
+        to.optional("extensions", &self.extensions);
+        to.optional("extras", &self.extras);
+        to.optional("name", &self.name);
+        to.list("nodes", &self.nodes);
     }
 }
 

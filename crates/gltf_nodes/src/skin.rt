@@ -13,8 +13,7 @@ use crate::scene::Node;
 use gltf_base::{Index, Listed};
 use gltf_data::accessor::Accessor;
 use gltf_data::extras::Extras;
-use gltf_schema::{Error, Object, Reading, Source, Writing};
-use serde_json::{Map, Value};
+use gltf_schema::{Error, Object, Reading, Source, WriteRows};
 use std::alloc::Global;
 
 /// The joints that the vertices of a mesh follow.
@@ -103,14 +102,12 @@ impl Object for Skin {
         })
     }
 
-    fn encode_members(&self, alloc: Global) -> Result<Map<String, Value>, Error> {
-        Writing::new(alloc)
-            .optional("extensions", &self.extensions)
-            .optional("extras", &self.extras)
-            .optional("inverseBindMatrices", &self.inverse_bind_matrices)
-            .list("joints", &self.joints)
-            .optional("name", &self.name)
-            .optional("skeleton", &self.skeleton)
-            .finish()
+    fn write_members<W: WriteRows>(&self, to: &mut W) {
+        to.optional("extensions", &self.extensions);
+        to.optional("extras", &self.extras);
+        to.optional("inverseBindMatrices", &self.inverse_bind_matrices);
+        to.list("joints", &self.joints);
+        to.optional("name", &self.name);
+        to.optional("skeleton", &self.skeleton);
     }
 }

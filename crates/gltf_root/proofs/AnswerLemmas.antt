@@ -1,26 +1,23 @@
 -- What bytes are read as, from what is known of their text and of their reader.
-use Rattle.std.proofs.Common.{◌≡◌, ◌≤◌, ◌∙◌, ap, subst, sym, ℕ, true, false, List, Option, Some, None, IsUtf8, ⊎_elim, Result, Ok, Err, IfErr, IfSome}
+use Rattle.std.proofs.Common.{◌≡◌, ℕ, true, false, List, Option, Some, None, IsUtf8, ⊎_elim, Result, Ok, Err, IfErr, IfSome}
 use Rattle.std.specs.Str.{is_utf8}
 use Rattle.std.proofs.lemmas.Bool.{cases_Bool}
-use Rattle.std.proofs.lemmas.Str.{IsUtf8-from_is_utf8, IsUtf8-string_bytes, is_utf8-from_IsUtf8}
+use Rattle.std.proofs.lemmas.Str.{IsUtf8-from_is_utf8, is_utf8-from_IsUtf8}
 use Rattle.std.proofs.KnownBytes.{Consumes-whole}
-use Rattle.serde_json.specs.Data.{Data, depth}
-use Rattle.serde_json.specs.Read.{read as read_json, max_depth}
+use Rattle.serde_json.specs.Data.{Data}
+use Rattle.serde_json.specs.Read.{read as read_json}
 use Rattle.gltf_schema.specs.Outcome.{Reads}
-use Rattle.gltf_schema.specs.Plain.{is_plain}
 use Rattle.gltf_schema.specs.Read.{read}
 use Rattle.gltf_schema.specs.Tree.{Tree}
-use Rattle.gltf_schema.specs.Write.{write}
 use Rattle.gltf_paths.specs.declared.error.Error.{Error}
 use Rattle.gltf_paths.specs.declared.error.Error.TheVariants.{Json, Schema, InvalidItem, Read, Write, Memory, TooLong}
 use Rattle.gltf_root.specs.Answer.{Answer, no_json, tree_answer, answer, IsAnswer, IsReadAnswer, IsReading, IsRefusal}
 use Rattle.gltf_devices.specs.Device.{Seen, IsWithin, IsCause, IsReadError, IsReadToEnd}
 use Rattle.gltf_root.specs.Root.{root_kind, root_tree}
-use Rattle.gltf_root.specs.Written.{IsReadBack}
 use Rattle.gltf_root.specs.declared.root.Root.{Root}
 
 -- bytes of a JSON value are answered by the table
-answer-json : (bytes : List ℕ) (d : Data) → IsUtf8 bytes → read_json bytes ≡ Some d → answer bytes ≡ tree_answer (read root_kind d)
+pub answer-json : (bytes : List ℕ) (d : Data) → IsUtf8 bytes → read_json bytes ≡ Some d → answer bytes ≡ tree_answer (read root_kind d)
 answer-json bytes d utf8 is = rw (is_utf8-from_IsUtf8 bytes utf8, is)
 
 -- bytes that are no text, or none of a JSON value, are no JSON
@@ -120,12 +117,3 @@ refused-gave_up TooLong h = tt
 refused-gave_up InvalidItem h = absurd h
 
 pub ruleset readings = (told-all, told-gave_up, IsReading-within, IsReading-cause, refused-answer, refused-gave_up)
-
--- bytes that read back as what is written are answered by the document
-pub printed-read_back : (t : Tree) (d : Data) (bytes : List ℕ) → write root_kind t ≡ Some d → (is_plain root_kind t ≡ true → read root_kind d ≡ Some t)
-    → IsUtf8 bytes → (depth d ≤ max_depth → read_json bytes ≡ Some d) → IsReadBack t bytes
-printed-read_back t d bytes written back utf8 json = λ e again deep plain.
-    let same : d ≡ e = cc in
-    answer-json bytes d utf8 (json (subst (λ (x : Data). depth x ≤ max_depth) (sym same) deep)) ∙ ap tree_answer (back plain)
-
-pub ruleset texts = (IsUtf8-string_bytes)

@@ -5,7 +5,8 @@ use Rattle.json.specs.Layout.{pretty as pretty_print}
 use Rattle.json.specs.Lex.{tokens}
 use Rattle.serde_json.specs.Data.{Data, depth}
 use Rattle.serde_json.specs.Read.{read as read_json, max_depth}
-use Rattle.serde_json.specs.Written.{has_float, compact_text, IsInOrder}
+use Rattle.json.specs.Token.{Token}
+use Rattle.serde_json.specs.Written.{has_float, compact_text, IsInOrder, WritesValue}
 use Rattle.gltf_schema.specs.Invalid.{holds_invalid}
 use Rattle.gltf_schema.specs.Outcome.{Withholds}
 use Rattle.gltf_schema.specs.Plain.{is_plain}
@@ -47,3 +48,7 @@ IsReadBack t bytes = (d : Data) → write root_kind t ≡ Some d → depth d ≤
 -- why a document is not written: something in it is invalid, or memory was refused
 abbrev pub IsWithheld : Tree → Error → Type 0
 IsWithheld t e = Withholds e (write root_kind t) (holds_invalid t)
+
+-- the new tokens are those of a document's JSON
+abbrev pub IsShown : Tree → List Token → List Token → Type 0
+IsShown t old new = IsSomeAnd (write root_kind t) (λ d. WritesValue d old new)

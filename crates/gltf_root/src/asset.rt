@@ -7,8 +7,7 @@ ghost use Rattle.gltf_root.specs.Asset.{asset_rows, asset_sound, asset_height, a
 
 use crate::extensions;
 use gltf_data::extras::Extras;
-use gltf_schema::{Blank, Error, Object, Reading, Source, Writing};
-use serde_json::{Map, Value};
+use gltf_schema::{Blank, Error, Object, Reading, Source, WriteRows};
 use std::alloc::{AllocError, Global};
 
 /// What a document says of itself.
@@ -98,15 +97,13 @@ impl Object for Asset {
         })
     }
 
-    fn encode_members(&self, alloc: Global) -> Result<Map<String, Value>, Error> {
-        Writing::new(alloc)
-            .optional("copyright", &self.copyright)
-            .optional("generator", &self.generator)
-            .optional("minVersion", &self.min_version)
-            .always("version", &self.version)
-            .optional("extensions", &self.extensions)
-            .optional("extras", &self.extras)
-            .finish()
+    fn write_members<W: WriteRows>(&self, to: &mut W) {
+        to.optional("copyright", &self.copyright);
+        to.optional("extensions", &self.extensions);
+        to.optional("extras", &self.extras);
+        to.optional("generator", &self.generator);
+        to.optional("minVersion", &self.min_version);
+        to.always("version", &self.version);
     }
 }
 

@@ -20,9 +20,8 @@ use gltf_meshes::mesh::Mesh;
 use gltf_nodes::camera::Camera;
 use gltf_nodes::scene::{Node, Scene};
 use gltf_nodes::skin::Skin;
-use gltf_schema::{Error, Object, Reading, Source, Writing};
+use gltf_schema::{Error, Object, Reading, Source, WriteRows};
 use gltf_textures::texture::{self, Texture};
-use serde_json::{Map, Value};
 use std::alloc::{AllocError, Global};
 
 mod extended;
@@ -188,27 +187,25 @@ impl Object for Root {
         })
     }
 
-    fn encode_members(&self, alloc: Global) -> Result<Map<String, Value>, Error> {
-        Writing::new(alloc)
-            .list("accessors", &self.accessors)
-            .list("animations", &self.animations)
-            .always("asset", &self.asset)
-            .list("buffers", &self.buffers)
-            .list("bufferViews", &self.buffer_views)
-            .optional("scene", &self.scene)
-            .optional("extensions", &self.extensions)
-            .optional("extras", &self.extras)
-            .list("extensionsUsed", &self.extensions_used)
-            .list("extensionsRequired", &self.extensions_required)
-            .list("cameras", &self.cameras)
-            .list("images", &self.images)
-            .list("materials", &self.materials)
-            .list("meshes", &self.meshes)
-            .list("nodes", &self.nodes)
-            .list("samplers", &self.samplers)
-            .list("scenes", &self.scenes)
-            .list("skins", &self.skins)
-            .list("textures", &self.textures)
-            .finish()
+    fn write_members<W: WriteRows>(&self, to: &mut W) {
+        to.list("accessors", &self.accessors);
+        to.list("animations", &self.animations);
+        to.always("asset", &self.asset);
+        to.list("bufferViews", &self.buffer_views);
+        to.list("buffers", &self.buffers);
+        to.list("cameras", &self.cameras);
+        to.optional("extensions", &self.extensions);
+        to.list("extensionsRequired", &self.extensions_required);
+        to.list("extensionsUsed", &self.extensions_used);
+        to.optional("extras", &self.extras);
+        to.list("images", &self.images);
+        to.list("materials", &self.materials);
+        to.list("meshes", &self.meshes);
+        to.list("nodes", &self.nodes);
+        to.list("samplers", &self.samplers);
+        to.optional("scene", &self.scene);
+        to.list("scenes", &self.scenes);
+        to.list("skins", &self.skins);
+        to.list("textures", &self.textures);
     }
 }

@@ -77,7 +77,7 @@ reals_written [] = refl
 reals_written (x ∷ xs) = ap (option_map (item (json.number (real_number x)))) (reals_written xs)
 
 -- no real is invalid
-none_invalid : (xs : List Real) → any_holds_invalid (trees (map real_tree xs)) ≡ false
+pub none_invalid : (xs : List Real) → any_holds_invalid (trees (map real_tree xs)) ≡ false
 none_invalid [] = refl
 none_invalid (x ∷ xs) = none_invalid xs
 
@@ -92,3 +92,8 @@ pub array_written : (xs : List Real) (n : ℕ) (ds : Items) → length xs ≡ n 
     → (if nat_eq (length (map real_number xs)) n then Some (array (number_items (map real_number xs))) else None) ≡ Some (array ds)
 array_written xs n ds long h =
     rw (eq-eqb (length (map real_number xs)) n (length-map xs real_number ∙ long)) (ap (option_map array) (sym (reals_written xs) ∙ h))
+
+-- as its kind says
+pub array_as_items : (xs : List Real) (n : ℕ) → length xs ≡ n
+    → option_map array (write_items (write Number) (trees (map real_tree xs))) ≡ (if nat_eq (length (map real_number xs)) n then Some (array (number_items (map real_number xs))) else None)
+array_as_items xs n long = ap (option_map array) (reals_written xs) ∙ sym (array_written xs n (number_items (map real_number xs)) long (reals_written xs))

@@ -3,6 +3,7 @@ pub mod Items
 pub mod Choosing
 pub mod RowByRow
 pub mod Putting
+pub mod RowsPut
 pub mod RowsWritten
 pub mod PuttingIn
 pub mod AttributesBack
@@ -15,3 +16,13 @@ pub mod LastNames
 pub mod RefusedWhereInvalid
 pub mod WrittenWhereValid
 pub mod Heights
+pub mod NumbersPrinted
+pub mod PartsPrinted
+pub mod InOrder
+pub mod InTokens
+pub mod ItemsPrinted
+pub mod ByName
+pub mod RowSteps
+pub mod RowsPrinted
+pub mod ObjectPrinted
+pub mod RowPrinting

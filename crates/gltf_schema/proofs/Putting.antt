@@ -3,7 +3,7 @@ use Rattle.std.proofs.lemmas.Bool.{false≢true, or_left, or_right}
 use Rattle.std.specs.List.{AllZip}
 use Rattle.std.specs.declared.alloc.Global.{Global}
 use Rattle.serde_json.specs.declared.value.Value.{Value}
-use Rattle.std.proofs.Common.{◌≡◌, ℕ, zero, suc, drop, Bool, true, false, if◌then◌else◌, String, string_bytes, nat_eq, length, List, [], ◌∷◌, ◌++◌, Option, Some, None, option_map, map, refl, ap, ◌∙◌}
+use Rattle.std.proofs.Common.{◌≡◌, ℕ, zero, suc, drop, Bool, true, false, if◌then◌else◌, String, string_bytes, List, [], ◌∷◌, ◌++◌, Option, Some, None, option_map, map, refl, ap, ◌∙◌}
 use Rattle.serde_json.specs.Data as json
 use Rattle.serde_json.specs.Data.{Data, Members, put}
 use Rattle.serde_json.specs.View.{items_of, view, members_view}
@@ -14,9 +14,8 @@ use Rattle.gltf_paths.specs.declared.error.Error.TheVariants as errors
 use Rattle.gltf_schema.specs.Maybe.{◌>>=◌}
 use Rattle.gltf_schema.specs.Outcome.{Withholds}
 use Rattle.gltf_schema.specs.Invalid.{is_unknown, any_unknown, holds_invalid, any_holds_invalid}
-use Rattle.gltf_schema.specs.Tree.{Tree, list, end, trees}
-use Rattle.gltf_schema.specs.Kind.{required, unless}
-use Rattle.gltf_schema.specs.Write.{write_items, write_member, write_entries, key_name, small_data}
+use Rattle.gltf_schema.specs.Tree.{Tree, trees}
+use Rattle.gltf_schema.specs.Write.{write_items, write_entries, key_name, small_data}
 use Rattle.gltf_schema.proofs.Items.{onto, onto_push, onto_none}
 
 -- what is made of something withheld
@@ -61,12 +60,6 @@ pub some_behind : {X : Type 0} (f : X → Tree) (i : ℕ) (xs : List X) → any_
 some_behind f zero xs h = h
 some_behind f (suc i) [] h = h
 some_behind f (suc i) (x ∷ xs) h = or_right (holds_invalid (f x)) _ (some_behind f i xs h)
-
--- a list with items is not left out
-pub filled : {X : Type 0} (f : X → Tree) (xs : List X) (n : List ℕ) (g : Tree → Option Data) (ms : Members) (r : Option Members) → nat_eq (length xs) 0 ≡ false
-    → write_member n required g (list (trees (map f xs))) ms ≡ r → write_member n (unless (list end)) g (list (trees (map f xs))) ms ≡ r
-filled f [] n g ms r some h = absurd cc
-filled f (x ∷ xs) n g ms r some h = h
 
 -- a copy of members says what they say
 pub copied : (es fs : List (String Global × Value)) → AllZip (λ (p q : String Global × Value). (string_bytes q.0 ≡ string_bytes p.0) × (view q.1 ≡ view p.1)) es fs → members_view fs ≡ members_view es

@@ -1,6 +1,6 @@
 -- What was read is refused for writing exactly where something in it is invalid.
-use Rattle.std.proofs.Common.{◌≡◌, ◌↔◌, ℕ, List, [], ◌∷◌, length, Bool, true, false, ◌||◌, ◌&&◌, cond, nat_eq, Option, Some, None, option_map, is_some, refl, sym, ap, ◌∙◌, true≢false}
-use Rattle.std.proofs.lemmas.Bool.{false≢true, and_parts, or_parts, or_from, or_right}
+use Rattle.std.proofs.Common.{◌≡◌, ◌↔◌, ℕ, List, [], ◌∷◌, length, Bool, true, false, ◌||◌, cond, nat_eq, Option, Some, None, option_map, is_some, refl, sym, ap, ◌∙◌, true≢false}
+use Rattle.std.proofs.lemmas.Bool.{false≢true, or_parts, or_from, or_right}
 use Rattle.std.proofs.lemmas.Option.{same_Some}
 use Rattle.std.specs.List.{list_any}
 use Rattle.serde_json.specs.Data.{Data, array, object as json_object, Items, no_items, item, Members, no_members, put}

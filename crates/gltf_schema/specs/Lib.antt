@@ -15,9 +15,12 @@ pub mod Attributes
 pub mod Taken
 pub mod Readings
 pub mod Writings
+pub mod ByName
+pub mod Rowwise
 pub mod Leaves
 pub mod Fields
 pub mod Defaults
 pub mod Given
 pub mod Floats
 pub mod Extensions
+pub mod Printings

@@ -7,7 +7,7 @@ use Rattle.gltf_checked.specs.Spelling.{Spelling, by_number, by_name, is_spelled
 use Rattle.gltf_checked.specs.declared.choice.Form.{Form}
 use Rattle.gltf_checked.specs.declared.choice.Form.TheVariants as form
 use Rattle.gltf_schema.specs.Tree.{Tree, any, chosen, list, object, Trees, end, with_tree}
-use Rattle.gltf_schema.specs.Kind.{Mark, optional, or_null, Kind, Choice, ListOf, Object, Rows, no_rows, row, has_row}
+use Rattle.gltf_schema.specs.Kind.{Mark, optional, or_null, Kind, Choice, ListOf, Object, Rows, row, has_row}
 
 -- a null that is kept as it is
 abbrev pub is_null : Tree → Bool

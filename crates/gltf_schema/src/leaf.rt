@@ -1,6 +1,7 @@
 //! Kinds without rows.
 
-ghost use Rattle.std.specs.Prelude.{◌≡◌, map, refl};
+ghost use Rattle.std.specs.Prelude.{◌≡◌, map, option_map, refl};
+ghost use Rattle.serde_json.specs.Data.{array};
 ghost use Rattle.serde_json.specs.View.{view, items_view};
 ghost use Rattle.gltf_schema.specs.Tree.{whole, truth, trees};
 ghost use Rattle.gltf_schema.specs.Kind.{IndexInto, U32, U64, Number, Numbers, Text, Truth, Any};
@@ -9,11 +10,14 @@ ghost use Rattle.gltf_schema.specs.Fields.{any_tree, index_tree, real_tree, real
 ghost use Rattle.gltf_schema.specs.Write.{write, write_items};
 ghost use Rattle.gltf_schema.specs.Invalid.{any_holds_invalid};
 ghost use Rattle.gltf_schema.specs.Outcome.{Reads, Writes};
+ghost use Rattle.gltf_schema.specs.Printings.{printing_state, PrintsValue};
 ghost use Rattle.gltf_schema.specs.Leaves.{checked_tree, choice_of, checked_tree-present};
 
+use crate::printing::Printing;
 use crate::schema::Schema;
 use crate::source::Source;
 use crate::tabled::Tabled;
+use crate::tokens::Tokens;
 use gltf_base::choice::{Choice, Form, Spelling, item_of};
 use gltf_base::validation::{Checked, USize64};
 use gltf_base::{Error, IndexTo, Names, Real};
@@ -36,6 +40,10 @@ impl Schema for u32 {
     fn encode(&self, _alloc: Global) -> Result<Value, Error> {
         Ok(Value::from(*self))
     }
+
+    fn print<W: Tokens>(&self, to: &mut Printing<W>) {
+        to.whole(u64::from(*self));
+    }
 }
 
 impl Tabled for USize64 {
@@ -53,6 +61,10 @@ impl Schema for USize64 {
 
     fn encode(&self, _alloc: Global) -> Result<Value, Error> {
         Ok(Value::from(self.0))
+    }
+
+    fn print<W: Tokens>(&self, to: &mut Printing<W>) {
+        to.whole(self.0);
     }
 }
 
@@ -72,6 +84,10 @@ impl<P: Names> Schema for IndexTo<P> {
     fn encode(&self, _alloc: Global) -> Result<Value, Error> {
         Ok(Value::from(self.number()))
     }
+
+    fn print<W: Tokens>(&self, to: &mut Printing<W>) {
+        to.whole(u64::from(self.number()));
+    }
 }
 
 impl Tabled for Real {
@@ -89,6 +105,10 @@ impl Schema for Real {
 
     fn encode(&self, _alloc: Global) -> Result<Value, Error> {
         Ok(self.as_value().clone()?)
+    }
+
+    fn print<W: Tokens>(&self, to: &mut Printing<W>) {
+        to.value(self.as_value());
     }
 }
 
@@ -113,6 +133,11 @@ impl<const N: usize> Schema for [Real; N] {
         let numbers: &[Real] = self;
         Ok(Value::Array(encode_items(alloc, numbers)?))
     }
+
+    fn print<W: Tokens>(&self, to: &mut Printing<W>) {
+        let numbers: &[Real] = self;
+        print_items(numbers, to);
+    }
 }
 
 impl Tabled for bool {
@@ -130,6 +155,10 @@ impl Schema for bool {
 
     fn encode(&self, _alloc: Global) -> Result<Value, Error> {
         Ok(Value::Bool(*self))
+    }
+
+    fn print<W: Tokens>(&self, to: &mut Printing<W>) {
+        to.truth(*self);
     }
 }
 
@@ -149,6 +178,10 @@ impl Schema for String {
     fn encode(&self, _alloc: Global) -> Result<Value, Error> {
         Ok(Value::String(self.clone()?))
     }
+
+    fn print<W: Tokens>(&self, to: &mut Printing<W>) {
+        to.text(self.as_str());
+    }
 }
 
 impl Tabled for Value {
@@ -166,6 +199,10 @@ impl Schema for Value {
 
     fn encode(&self, _alloc: Global) -> Result<Value, Error> {
         Ok(self.clone()?)
+    }
+
+    fn print<W: Tokens>(&self, to: &mut Printing<W>) {
+        to.value(self);
     }
 }
 
@@ -204,6 +241,17 @@ impl<T: Choice> Schema for Checked<T> {
             Spelling::Name(name) => Ok(Value::String(String::from_str(alloc, name)?)),
         }
     }
+
+    fn print<W: Tokens>(&self, to: &mut Printing<W>) {
+        let Checked::Valid(item) = self else {
+            to.fail(Error::InvalidItem);
+            return;
+        };
+        match item.spelling() {
+            Spelling::Number(n) => to.whole(n),
+            Spelling::Name(name) => to.text(name),
+        }
+    }
 }
 
 impl<T: Schema> Schema for Vec<T> {
@@ -218,6 +266,10 @@ impl<T: Schema> Schema for Vec<T> {
 
     fn encode(&self, alloc: Global) -> Result<Value, Error> {
         Ok(Value::Array(encode_items(alloc, self)?))
+    }
+
+    fn print<W: Tokens>(&self, to: &mut Printing<W>) {
+        print_items(self, to);
     }
 }
 
@@ -252,4 +304,18 @@ fn encode_items<T: Schema>(alloc: Global, items: &[T]) -> Result<Vec<Value>, Err
         written.push(item.encode(alloc)?)?;
     }
     Ok(written)
+}
+
+/// Each item, in order, in brackets.
+fn print_items<T: Schema, W: Tokens>(items: &[T], to: &mut Printing<W>)
+    ensures { PrintsValue (printing_state W.written W.before to.old)
+        (option_map array (write_items (write T.kind) (trees (map T.tree items.now))))
+        (any_holds_invalid (trees (map T.tree items.now)))
+        (printing_state W.written W.before to.new) }
+{
+    to.begin_array();
+    for item in items {
+        item.print(to);
+    }
+    to.end_array();
 }

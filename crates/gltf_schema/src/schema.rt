@@ -9,6 +9,9 @@ ghost use Rattle.gltf_schema.specs.Read.{read};
 ghost use Rattle.gltf_schema.specs.Write.{write};
 ghost use Rattle.gltf_schema.specs.Invalid.{holds_invalid};
 ghost use Rattle.gltf_schema.specs.Put.{put_rows, some_invalid};
+ghost use Rattle.gltf_schema.specs.ByName.{by_name, trees_by_name};
+ghost use Rattle.gltf_schema.specs.Rowwise.{WritesMembers};
+ghost use Rattle.gltf_schema.specs.Printings.{printing_state, PrintsValue};
 ghost use Rattle.gltf_schema.specs.Plain.{is_plain};
 ghost use Rattle.gltf_schema.specs.Sound.{is_sound};
 ghost use Rattle.gltf_schema.specs.Height.{kind_height};
@@ -16,8 +19,11 @@ ghost use Rattle.gltf_schema.specs.Taken.{take_all};
 ghost use Rattle.gltf_schema.specs.Leaves.{wants_object};
 ghost use Rattle.gltf_schema.specs.Outcome.{Reads, Writes};
 
+use crate::printing::Printing;
 use crate::source::Source;
 use crate::tabled::Tabled;
+use crate::tokens::Tokens;
+use crate::writing::{WriteRows, Writing};
 use gltf_base::Error;
 use serde_json::{Map, Value};
 use std::alloc::Global;
@@ -52,6 +58,18 @@ pub trait Schema: Tabled + Drop {
         ensures { Writes view result (write Self.kind (Self.tree self.now))
             (holds_invalid (Self.tree self.now)) };
 
+    /// Prints the value as the JSON that [`Schema::encode`] gives, with errors of the same kinds.
+    fn print<W: Tokens>(&self, to: &mut Printing<W>)
+        ensures { PrintsValue (printing_state W.written W.before to.old)
+            (write Self.kind (Self.tree self.now)) (holds_invalid (Self.tree self.now))
+            (printing_state W.written W.before to.new) }
+    {
+        match self.encode(to.alloc) {
+            Ok(value) => to.value(&value),
+            Err(e) => to.fail(e),
+        }
+    }
+
     // What is there is not seen as missing.
     ghost present: { (x : Self) → is_absent (Self.tree x) ≡ false };
 }
@@ -78,13 +96,24 @@ pub trait Object: Drop {
         ensures { Reads (λ x. (members x, unknown x)) result
             (take_all rows keeps (S.members found)) };
 
+    /// Writes each row in the byte order of the rows' names, behind the members that no row names,
+    /// if the object keeps such members.
+    fn write_members<W: WriteRows>(&self, to: &mut W)
+        ensures { WritesMembers W.Begins W.Adds (unknown self.now) (by_name rows)
+            (trees_by_name rows (members self.now)) (W.state to.old) (W.state to.new) };
+
     /// Returns the members of this object: each row's onto those that no row names. Fails with
     /// `InvalidItem` if a row's member holds an invalid item or key, and with `Memory` if a growth
     /// was refused.
     fn encode_members(&self, alloc: Global) -> Result<Map<String, Value>, Error>
         ensures { Writes (λ m. members_view m.entries) result
             (put_rows rows (members self.now) (unknown self.now))
-            (some_invalid (members self.now)) };
+            (some_invalid (members self.now)) }
+    {
+        let mut writing = Writing::new(alloc);
+        self.write_members(&mut writing);
+        writing.finish()
+    }
 
     // No two rows have one name, here and below, each default is plain and can be written, and the
     // rule has the row that it looks up.
@@ -136,5 +165,11 @@ impl<T: Object> Schema for T {
             ≡ Some (object (T.members self.now) (T.unknown self.now))) }
     {
         Ok(Value::Object(self.encode_members(alloc)?))
+    }
+
+    fn print<W: Tokens>(&self, to: &mut Printing<W>) {
+        let outer = to.begin_members();
+        self.write_members(to);
+        to.end_members(outer);
     }
 }

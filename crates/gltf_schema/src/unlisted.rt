@@ -11,7 +11,7 @@ ghost use Rattle.gltf_schema.specs.Read.{left};
 
 use crate::schema::Object;
 use crate::source::Source;
-use crate::writing::copied;
+use crate::writing::WriteRows;
 use gltf_base::Error;
 use serde_json::{Map, Value};
 use std::alloc::Global;
@@ -32,7 +32,7 @@ pub trait Unlisted: Drop {
             ≡ kept self.now };
 }
 
-#[tactic(auto, unfolding(crate::specs::Taken::take_all, crate::specs::Taken::take_rows, crate::specs::Put::put_rows, crate::specs::Put::some_invalid))]
+#[tactic(auto, unfolding(crate::specs::Taken::take_all, crate::specs::Taken::take_rows))]
 impl<T: Unlisted> Object for T {
     ghost rows = { no_rows };
 
@@ -52,10 +52,9 @@ impl<T: Unlisted> Object for T {
         Ok(T::from_others(S::into_others(found, alloc)?))
     }
 
-    fn encode_members(&self, alloc: Global) -> Result<Map<String, Value>, Error> {
-        match self.others() {
-            Some(others) => copied(others),
-            None => Ok(Map::new(alloc)),
+    fn write_members<W: WriteRows>(&self, to: &mut W) {
+        if let Some(others) = self.others() {
+            to.others(others);
         }
     }
 }

@@ -1,61 +1,111 @@
 //! An object's members as they are written, row by row.
 
-ghost use Rattle.std.specs.Prelude.{◌≡◌, true, false, Some, map};
-ghost use Rattle.serde_json.specs.Data.{no_members};
+ghost use Rattle.std.specs.Prelude.{◌≡◌, ℕ, List, false, Some, Ok, Result, map};
+ghost use Rattle.serde_json.specs.Data.{Data, Members, no_members};
 ghost use Rattle.serde_json.specs.View.{members_view};
 ghost use Rattle.gltf_schema.specs.Tree.{Tree, tree_or_absent, trees, list as list_tree, end};
 ghost use Rattle.gltf_schema.specs.Kind.{required as is_required, optional as is_optional, always as is_always, unless as is_unless, sometimes as is_sometimes, or_null as is_or_null, ListOf};
 ghost use Rattle.gltf_schema.specs.Outcome.{Writes};
-ghost use Rattle.gltf_schema.specs.Writings.{writing_state, written_or_error, BeginsWith, WritesMember};
+ghost use Rattle.gltf_paths.specs.declared.error.Error.{Error as AnError};
+ghost use Rattle.gltf_schema.specs.Rowwise.{BeginsWith, WritesRow, PutsIn, TakesOver};
+ghost use Rattle.gltf_schema.specs.Writings.{writing_state, written_or_error};
 
 use crate::omittable::Omittable;
-use crate::put::{put_always, put_list, put_optional, put_or_null, put_unless};
+use crate::put::put_value;
 use crate::schema::Schema;
 use gltf_base::Error;
 use serde_json::{Map, Value};
 use std::alloc::Global;
 
+/// What the rows of an object are written to: a map of its members, or a text.
+///
+/// Each method writes one row of the table. Rows come in the byte order of their names. Once a row
+/// was refused, the methods write nothing.
+pub trait WriteRows: Drop {
+    /// What is written so far.
+    ghost State: { Type 0 };
+
+    /// What is written so far, or why it is not written.
+    ghost state: { Self → Result State AnError };
+
+    ghost Begins: { Members → State → State → Type 0 };
+
+    ghost Adds: { State → List ℕ → Data → State → Type 0 };
+
+    /// The members that no row names, before the first row. A row's member will take the place of
+    /// one of its name.
+    fn others(&mut self, others: &Map<String, Value>)
+        ensures { BeginsWith Begins (members_view others.now.entries) (state self.old)
+            (state self.new) };
+
+    /// A member that is always written.
+    fn always<T: Schema>(&mut self, name: &str, value: &T)
+        ensures required { WritesRow Adds (state self.old) name.now is_required T.kind
+            (T.tree value.now) (state self.new) }
+        ensures always { (default : Tree) → WritesRow Adds (state self.old) name.now
+            (is_always default) T.kind (T.tree value.now) (state self.new) };
+
+    /// A member that is written if it is there.
+    fn optional<T: Schema>(&mut self, name: &str, value: &Option<T>)
+        ensures optional { WritesRow Adds (state self.old) name.now is_optional T.kind
+            (tree_or_absent T.tree value.now) (state self.new) }
+        ensures sometimes { WritesRow Adds (state self.old) name.now is_sometimes T.kind
+            (tree_or_absent T.tree value.now) (state self.new) }
+    {
+        if let Some(value) = value {
+            self.always(name, value);
+        }
+    }
+
+    /// A member that is written as null if it isn't there.
+    fn or_null<T: Schema>(&mut self, name: &str, value: &Option<T>)
+        ensures { WritesRow Adds (state self.old) name.now is_or_null T.kind
+            (tree_or_absent T.tree value.now) (state self.new) }
+    {
+        match value {
+            Some(value) => self.always(name, value),
+            None => self.always(name, &Value::Null),
+        }
+    }
+
+    /// A member that is left out if it is the default.
+    fn unless<T: Omittable>(&mut self, name: &str, value: &T, default: T)
+        ensures { WritesRow Adds (state self.old) name.now (is_unless (T.tree default)) T.kind
+            (T.tree value.now) (state self.new) }
+    {
+        if !value.is_default(&default) {
+            self.always(name, value);
+        }
+    }
+
+    /// A list that is left out if it is empty.
+    fn list<T: Schema>(&mut self, name: &str, value: &Vec<T>)
+        ensures { WritesRow Adds (state self.old) name.now (is_unless (list_tree end))
+            (ListOf T.kind) (list_tree (trees (map T.tree value.now.items))) (state self.new) }
+    {
+        if !value.is_empty() {
+            self.always(name, value);
+        }
+    }
+}
+
 /// The members of an object that are written so far, or why they are not written.
 ///
-/// Each method writes one row of the table. Once a row was refused, the methods write nothing, and
-/// [`Writing::finish`] fails with the error.
+/// Once a row was refused, the methods write nothing, and [`Writing::finish`] fails with the error.
 #[derive(Drop)]
 pub struct Writing {
     alloc: Global,
     state: Result<Map<String, Value>, Error>,
 }
 
-/// Writes one row on by a call.
-macro_rules! write_on {
-    ($self:ident, $put:ident($($argument:expr),*)) => {{
-        if let Ok(members) = &mut $self.state {
-            if let Err(e) = $put($self.alloc, members, $($argument),*) {
-                $self.state = Err(e);
-            }
-        }
-        $self
-    }};
-}
-
 impl Writing {
     /// Begins to write the members of an object.
     pub fn new(alloc: Global) -> Writing
-        ensures { BeginsWith false no_members (writing_state result) }
+        ensures { writing_state result ≡ Ok no_members }
     {
         Writing {
             alloc,
             state: Ok(Map::new(alloc)),
-        }
-    }
-
-    /// Begins with a copy of the members that no row names. A row's member will take the place of
-    /// one of its name.
-    pub fn from_others(alloc: Global, others: &Map<String, Value>) -> Writing
-        ensures { BeginsWith true (members_view others.now.entries) (writing_state result) }
-    {
-        Writing {
-            alloc,
-            state: copied(others),
         }
     }
 
@@ -66,51 +116,29 @@ impl Writing {
         let Writing { alloc: _, state } = self;
         state
     }
+}
 
-    /// A member that is always written.
-    pub fn always<T: Schema>(mut self, name: &str, value: &T) -> Writing
-        ensures required { WritesMember (writing_state self) name.now is_required T.kind
-            (T.tree value.now) (writing_state result) }
-        ensures always { (default : Tree)
-            → WritesMember (writing_state self) name.now (is_always default) T.kind
-            (T.tree value.now) (writing_state result) }
-    {
-        write_on!(self, put_always(name, value))
+impl WriteRows for Writing {
+    ghost State = { Members };
+
+    ghost state = { writing_state };
+
+    ghost Begins = { TakesOver };
+
+    ghost Adds = { PutsIn };
+
+    fn others(&mut self, others: &Map<String, Value>) {
+        if self.state.is_ok() {
+            self.state = copied(others);
+        }
     }
 
-    /// A member that is written where it is there.
-    pub fn optional<T: Schema>(mut self, name: &str, value: &Option<T>) -> Writing
-        ensures optional { WritesMember (writing_state self) name.now is_optional T.kind
-            (tree_or_absent T.tree value.now) (writing_state result) }
-        ensures sometimes { WritesMember (writing_state self) name.now is_sometimes T.kind
-            (tree_or_absent T.tree value.now) (writing_state result) }
-    {
-        write_on!(self, put_optional(name, value))
-    }
-
-    /// A member that is written as null where it isn't there.
-    pub fn or_null<T: Schema>(mut self, name: &str, value: &Option<T>) -> Writing
-        ensures { WritesMember (writing_state self) name.now is_or_null T.kind
-            (tree_or_absent T.tree value.now) (writing_state result) }
-    {
-        write_on!(self, put_or_null(name, value))
-    }
-
-    /// A member that is left out where it is the default.
-    pub fn unless<T: Omittable>(mut self, name: &str, value: &T, default: T) -> Writing
-        ensures { WritesMember (writing_state self) name.now (is_unless (T.tree default)) T.kind
-            (T.tree value.now) (writing_state result) }
-    {
-        write_on!(self, put_unless(name, value, default))
-    }
-
-    /// A list that is left out where it is empty.
-    pub fn list<T: Schema>(mut self, name: &str, value: &Vec<T>) -> Writing
-        ensures { WritesMember (writing_state self) name.now (is_unless (list_tree end))
-            (ListOf T.kind)
-            (list_tree (trees (map T.tree value.now.items))) (writing_state result) }
-    {
-        write_on!(self, put_list(name, value))
+    fn always<T: Schema>(&mut self, name: &str, value: &T) {
+        if let Ok(members) = &mut self.state {
+            if let Err(e) = put_value(self.alloc, members, name, value) {
+                self.state = Err(e);
+            }
+        }
     }
 }
 

@@ -16,8 +16,7 @@ use gltf_base::validation::Checked;
 use gltf_base::{Index, Listed};
 use gltf_data::extras::Extras;
 use gltf_data::image::Image;
-use gltf_schema::{Error, Object, Reading, Source, Writing};
-use serde_json::{Map, Value};
+use gltf_schema::{Error, Object, Reading, Source, WriteRows};
 use std::alloc::Global;
 
 /// How a texture is sampled: how it is filtered, and what lies past its edges.
@@ -109,16 +108,14 @@ impl Object for Sampler {
         })
     }
 
-    fn encode_members(&self, alloc: Global) -> Result<Map<String, Value>, Error> {
-        Writing::new(alloc)
-            .optional("magFilter", &self.mag_filter)
-            .optional("minFilter", &self.min_filter)
-            .optional("name", &self.name)
-            .always("wrapS", &self.wrap_s)
-            .always("wrapT", &self.wrap_t)
-            .optional("extensions", &self.extensions)
-            .optional("extras", &self.extras)
-            .finish()
+    fn write_members<W: WriteRows>(&self, to: &mut W) {
+        to.optional("extensions", &self.extensions);
+        to.optional("extras", &self.extras);
+        to.optional("magFilter", &self.mag_filter);
+        to.optional("minFilter", &self.min_filter);
+        to.optional("name", &self.name);
+        to.always("wrapS", &self.wrap_s);
+        to.always("wrapT", &self.wrap_t);
     }
 }
 
@@ -205,14 +202,12 @@ impl Object for Texture {
         })
     }
 
-    fn encode_members(&self, alloc: Global) -> Result<Map<String, Value>, Error> {
-        Writing::new(alloc)
-            .optional("name", &self.name)
-            .optional("sampler", &self.sampler)
-            .optional("extensions", &self.extensions)
-            .unless("source", &self.source, Index::new(NO_IMAGE))
-            .optional("extras", &self.extras)
-            .finish()
+    fn write_members<W: WriteRows>(&self, to: &mut W) {
+        to.optional("extensions", &self.extensions);
+        to.optional("extras", &self.extras);
+        to.optional("name", &self.name);
+        to.optional("sampler", &self.sampler);
+        to.unless("source", &self.source, Index::new(NO_IMAGE));
     }
 }
 
@@ -285,12 +280,10 @@ impl Object for Info {
         })
     }
 
-    fn encode_members(&self, alloc: Global) -> Result<Map<String, Value>, Error> {
-        Writing::new(alloc)
-            .always("index", &self.index)
-            .always("texCoord", &self.tex_coord)
-            .optional("extensions", &self.extensions)
-            .optional("extras", &self.extras)
-            .finish()
+    fn write_members<W: WriteRows>(&self, to: &mut W) {
+        to.optional("extensions", &self.extensions);
+        to.optional("extras", &self.extras);
+        to.always("index", &self.index);
+        to.always("texCoord", &self.tex_coord);
     }
 }

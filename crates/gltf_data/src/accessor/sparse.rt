@@ -16,8 +16,7 @@ use crate::extras::Extras;
 use gltf_base::Index;
 use gltf_base::accessor::{ComponentType, IndexComponentType};
 use gltf_base::validation::{Checked, USize64};
-use gltf_schema::{Blank, Error, Object, Reading, Source, Writing};
-use serde_json::{Map, Value};
+use gltf_schema::{Blank, Error, Object, Reading, Source, WriteRows};
 use std::alloc::Global;
 
 /// Elements that deviate from those of the view.
@@ -85,14 +84,12 @@ impl Object for Sparse {
         })
     }
 
-    fn encode_members(&self, alloc: Global) -> Result<Map<String, Value>, Error> {
-        Writing::new(alloc)
-            .always("count", &self.count)
-            .always("indices", &self.indices)
-            .always("values", &self.values)
-            .optional("extensions", &self.extensions)
-            .optional("extras", &self.extras)
-            .finish()
+    fn write_members<W: WriteRows>(&self, to: &mut W) {
+        to.always("count", &self.count);
+        to.optional("extensions", &self.extensions);
+        to.optional("extras", &self.extras);
+        to.always("indices", &self.indices);
+        to.always("values", &self.values);
     }
 }
 
@@ -160,14 +157,12 @@ impl Object for Indices {
         })
     }
 
-    fn encode_members(&self, alloc: Global) -> Result<Map<String, Value>, Error> {
-        Writing::new(alloc)
-            .always("bufferView", &self.buffer_view)
-            .always("byteOffset", &self.byte_offset)
-            .always("componentType", &self.component_type)
-            .optional("extensions", &self.extensions)
-            .optional("extras", &self.extras)
-            .finish()
+    fn write_members<W: WriteRows>(&self, to: &mut W) {
+        to.always("bufferView", &self.buffer_view);
+        to.always("byteOffset", &self.byte_offset);
+        to.always("componentType", &self.component_type);
+        to.optional("extensions", &self.extensions);
+        to.optional("extras", &self.extras);
     }
 }
 
@@ -240,13 +235,11 @@ impl Object for Values {
         })
     }
 
-    fn encode_members(&self, alloc: Global) -> Result<Map<String, Value>, Error> {
-        Writing::new(alloc)
-            .always("bufferView", &self.buffer_view)
-            .always("byteOffset", &self.byte_offset)
-            .optional("extensions", &self.extensions)
-            .optional("extras", &self.extras)
-            .finish()
+    fn write_members<W: WriteRows>(&self, to: &mut W) {
+        to.always("bufferView", &self.buffer_view);
+        to.always("byteOffset", &self.byte_offset);
+        to.optional("extensions", &self.extensions);
+        to.optional("extras", &self.extras);
     }
 }
 

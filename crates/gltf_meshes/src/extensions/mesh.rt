@@ -8,7 +8,7 @@ ghost use Rattle.gltf_schema.specs.Tree.{end, list, whole, with_tree};
 ghost use Rattle.gltf_schema.specs.Defaults.{defaults};
 ghost use Rattle.gltf_meshes.specs.Mesh.{primitive_extension_rows, primitive_extension_sound, primitive_extension_height, variant_mappings_rows, variant_mappings_sound, variant_mappings_height, variant_mapping_rows, variant_mapping_sound, variant_mapping_height, primitive_extension_members, variant_mappings_members, variant_mapping_members};
 
-use gltf_schema::{Error, KeptExtensions, Object, Reading, Source, Writing};
+use gltf_schema::{Error, KeptExtensions, Object, Reading, Source, WriteRows};
 use serde_json::{Map, Value};
 use std::alloc::Global;
 
@@ -49,10 +49,9 @@ impl Object for Primitive {
         })
     }
 
-    fn encode_members(&self, alloc: Global) -> Result<Map<String, Value>, Error> {
-        Writing::from_others(alloc, &self.others)
-            .optional("KHR_materials_variants", &self.khr_materials_variants)
-            .finish()
+    fn write_members<W: WriteRows>(&self, to: &mut W) {
+        to.others(&self.others);
+        to.optional("KHR_materials_variants", &self.khr_materials_variants);
     }
 }
 
@@ -100,10 +99,8 @@ impl Object for KhrMaterialsVariants {
         reading.finish(KhrMaterialsVariants { mappings })
     }
 
-    fn encode_members(&self, alloc: Global) -> Result<Map<String, Value>, Error> {
-        Writing::new(alloc)
-            .always("mappings", &self.mappings)
-            .finish()
+    fn write_members<W: WriteRows>(&self, to: &mut W) {
+        to.always("mappings", &self.mappings);
     }
 }
 
@@ -150,11 +147,9 @@ impl Object for Mapping {
         reading.finish(Mapping { material, variants })
     }
 
-    fn encode_members(&self, alloc: Global) -> Result<Map<String, Value>, Error> {
-        Writing::new(alloc)
-            .always("material", &self.material)
-            .always("variants", &self.variants)
-            .finish()
+    fn write_members<W: WriteRows>(&self, to: &mut W) {
+        to.always("material", &self.material);
+        to.always("variants", &self.variants);
     }
 }
 

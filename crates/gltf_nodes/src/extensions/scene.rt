@@ -7,7 +7,7 @@ ghost use Rattle.serde_json.specs.View.{members_view};
 ghost use Rattle.gltf_schema.specs.Defaults.{defaults};
 ghost use Rattle.gltf_nodes.specs.Scene.{node_extension_rows, node_extension_sound, node_extension_height, node_extension_members};
 
-use gltf_schema::{Error, KeptExtensions, Object, Reading, Source, Writing};
+use gltf_schema::{Error, KeptExtensions, Object, Reading, Source, WriteRows};
 use serde_json::{Map, Value};
 use std::alloc::Global;
 
@@ -48,10 +48,9 @@ impl Object for Node {
         })
     }
 
-    fn encode_members(&self, alloc: Global) -> Result<Map<String, Value>, Error> {
-        Writing::from_others(alloc, &self.others)
-            .optional("KHR_lights_punctual", &self.khr_lights_punctual)
-            .finish()
+    fn write_members<W: WriteRows>(&self, to: &mut W) {
+        to.others(&self.others);
+        to.optional("KHR_lights_punctual", &self.khr_lights_punctual);
     }
 }
 

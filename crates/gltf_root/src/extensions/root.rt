@@ -10,7 +10,7 @@ ghost use Rattle.gltf_root.specs.RootExtension.{root_extension_rows, root_extens
 
 use gltf_nodes::extensions::scene::khr_lights_punctual::Light;
 use gltf_nodes::extensions::scene::khr_materials_variants::Variant;
-use gltf_schema::{Error, Object, Reading, Source, Writing};
+use gltf_schema::{Error, Object, Reading, Source, WriteRows};
 use serde_json::{Map, Value};
 use std::alloc::Global;
 
@@ -52,11 +52,10 @@ impl Object for Root {
         })
     }
 
-    fn encode_members(&self, alloc: Global) -> Result<Map<String, Value>, Error> {
-        Writing::from_others(alloc, &self.others)
-            .optional("KHR_lights_punctual", &self.khr_lights_punctual)
-            .optional("KHR_materials_variants", &self.khr_materials_variants)
-            .finish()
+    fn write_members<W: WriteRows>(&self, to: &mut W) {
+        to.others(&self.others);
+        to.optional("KHR_lights_punctual", &self.khr_lights_punctual);
+        to.optional("KHR_materials_variants", &self.khr_materials_variants);
     }
 }
 
@@ -105,8 +104,8 @@ impl Object for KhrLightsPunctual {
         reading.finish(KhrLightsPunctual { lights })
     }
 
-    fn encode_members(&self, alloc: Global) -> Result<Map<String, Value>, Error> {
-        Writing::new(alloc).always("lights", &self.lights).finish()
+    fn write_members<W: WriteRows>(&self, to: &mut W) {
+        to.always("lights", &self.lights);
     }
 }
 
@@ -152,10 +151,8 @@ impl Object for KhrMaterialsVariants {
         reading.finish(KhrMaterialsVariants { variants })
     }
 
-    fn encode_members(&self, alloc: Global) -> Result<Map<String, Value>, Error> {
-        Writing::new(alloc)
-            .always("variants", &self.variants)
-            .finish()
+    fn write_members<W: WriteRows>(&self, to: &mut W) {
+        to.always("variants", &self.variants);
     }
 }
 

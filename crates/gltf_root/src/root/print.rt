@@ -1,6 +1,6 @@
 //! Documents as values, texts and bytes, and into writers.
 
-ghost use Rattle.std.specs.Prelude.{◌≡◌, ◌≢◌, ℕ, List, true, false, Some, IfOk, IfErr, OnOk, Err, string_bytes};
+ghost use Rattle.std.specs.Prelude.{◌≡◌, ◌≢◌, ℕ, List, true, false, Some, IfOk, IfErr, OnOk, Err, IsUtf8, string_bytes};
 ghost use Rattle.std.specs.Io.KnownBytes.{Appends};
 ghost use Rattle.serde_json.specs.View.{view};
 ghost use Rattle.gltf_schema.specs.Invalid.{holds_invalid};
@@ -10,13 +10,17 @@ ghost use Rattle.gltf_schema.specs.Read.{read};
 ghost use Rattle.gltf_schema.specs.Write.{write};
 ghost use Rattle.gltf_devices.specs.Device.{AppendsFront};
 ghost use Rattle.gltf_root.specs.Root.{root_kind, root_tree};
-ghost use Rattle.gltf_root.specs.Written.{IsCompactOf, IsPrettyOf, IsReadBack, IsWithheld};
+ghost use Rattle.gltf_root.specs.Written.{IsCompactOf, IsPrettyOf, IsReadBack, IsShown, IsWithheld};
 
 use super::Root;
 use gltf_devices::{ByteOut, Failed, write_all};
-use gltf_schema::{Error, Schema};
+use gltf_schema::{Error, Printing, Schema, Tokens};
+use json::{Pretty, Writer};
 use serde_json::Value;
 use std::alloc::Global;
+
+/// How many bytes a text has room for at first.
+const FIRST_ROOM: usize = 128;
 
 impl Root {
     /// Returns the JSON value that the document is written as. Fails with `InvalidItem` if and only
@@ -33,6 +37,18 @@ impl Root {
         self.encode(alloc)
     }
 
+    /// Prints the document behind what `out` has taken.
+    fn printed<W: Tokens>(&self, alloc: Global, out: W) -> Result<W, Error>
+        ensures shown { IfOk result (λ w. IsShown (root_tree self.now) (W.written out)
+            (W.written w)) }
+        ensures before { IfOk result (λ w. W.before w ≡ W.before out) }
+        ensures withheld { IfErr result (IsWithheld (root_tree self.now)) }
+    {
+        let mut printing = Printing::new(alloc, out);
+        self.print(&mut printing);
+        printing.finish()
+    }
+
     /// Returns the document as JSON in one line, without blanks between its tokens; errors are
     /// those of [`Root::to_value`]. A plain one reads back if it isn't nested deeper than 127
     /// levels.
@@ -41,7 +57,8 @@ impl Root {
         ensures withheld { IfErr result (IsWithheld (root_tree self.now)) }
         ensures reads_back { IfOk result (λ b. IsReadBack (root_tree self.now) b.items) }
     {
-        Ok(self.to_value(alloc)?.to_vec(alloc)?)
+        let out = Writer::new(Vec::with_capacity(alloc, FIRST_ROOM)?);
+        Ok(self.printed(alloc, out)?.into_inner())
     }
 
     /// Returns the document as JSON in lines, two blanks deeper at each level, without a newline at
@@ -51,27 +68,25 @@ impl Root {
         ensures withheld { IfErr result (IsWithheld (root_tree self.now)) }
         ensures reads_back { IfOk result (λ b. IsReadBack (root_tree self.now) b.items) }
     {
-        Ok(self.to_value(alloc)?.to_vec_pretty(alloc)?)
+        Ok(self.printed(alloc, Pretty::new(alloc))?.into_inner())
     }
 
     /// The text of [`Root::to_vec`].
-    #[tactic(auto, using(crate::proofs::AnswerLemmas::texts))]
     pub fn to_string(&self, alloc: Global) -> Result<String, Error>
         ensures printed { IfOk result (λ s. IsCompactOf (root_tree self.now) (string_bytes s)) }
         ensures withheld { IfErr result (IsWithheld (root_tree self.now)) }
         ensures reads_back { IfOk result (λ s. IsReadBack (root_tree self.now) (string_bytes s)) }
     {
-        Ok(self.to_value(alloc)?.to_string(alloc)?)
+        Ok(text_of(self.to_vec(alloc)?))
     }
 
     /// The text of [`Root::to_vec_pretty`].
-    #[tactic(auto, using(crate::proofs::AnswerLemmas::texts))]
     pub fn to_string_pretty(&self, alloc: Global) -> Result<String, Error>
         ensures printed { IfOk result (λ s. IsPrettyOf (root_tree self.now) (string_bytes s)) }
         ensures withheld { IfErr result (IsWithheld (root_tree self.now)) }
         ensures reads_back { IfOk result (λ s. IsReadBack (root_tree self.now) (string_bytes s)) }
     {
-        Ok(self.to_value(alloc)?.to_string_pretty(alloc)?)
+        Ok(text_of(self.to_vec_pretty(alloc)?))
     }
 
     /// Writes the bytes of [`Root::to_vec`], which are made before the first of them is written.
@@ -112,6 +127,15 @@ impl Root {
         let bytes = self.to_vec_pretty(alloc)?;
         write_out(writer, &bytes)
     }
+}
+
+/// The text of bytes that were printed, which are not looked at again.
+fn text_of(bytes: Vec<u8>) -> String
+    requires { IsUtf8 bytes.items }
+    ensures { string_bytes result ≡ bytes.items }
+{
+    // SAFETY: the bytes are UTF-8, as the clause above asks of the caller.
+    unsafe { String::from_utf8_unchecked(bytes) }
 }
 
 /// Writes bytes. Fails with `Write` if the writer fails, and with nothing else.

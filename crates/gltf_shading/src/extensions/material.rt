@@ -14,7 +14,7 @@ ghost use Rattle.gltf_schema.specs.Fields.{real_tree, reals_tree};
 use crate::material::StrengthFactor;
 use gltf_base::Real;
 use gltf_data::extras::Extras;
-use gltf_schema::{Error, KeptExtensions, Object, Reading, Source, Tabled, Writing};
+use gltf_schema::{Error, KeptExtensions, Object, Reading, Source, Tabled, WriteRows};
 use gltf_textures::texture::Info;
 use serde_json::{Map, Value};
 use std::alloc::Global;
@@ -94,19 +94,18 @@ impl Object for Material {
         })
     }
 
-    fn encode_members(&self, alloc: Global) -> Result<Map<String, Value>, Error> {
-        Writing::from_others(alloc, &self.others)
-            .optional(
-                "KHR_materials_pbrSpecularGlossiness",
-                &self.pbr_specular_glossiness,
-            )
-            .optional("KHR_materials_unlit", &self.unlit)
-            .optional("KHR_materials_transmission", &self.transmission)
-            .optional("KHR_materials_volume", &self.volume)
-            .optional("KHR_materials_specular", &self.specular)
-            .optional("KHR_materials_ior", &self.ior)
-            .optional("KHR_materials_emissive_strength", &self.emissive_strength)
-            .finish()
+    fn write_members<W: WriteRows>(&self, to: &mut W) {
+        to.others(&self.others);
+        to.optional("KHR_materials_emissive_strength", &self.emissive_strength);
+        to.optional("KHR_materials_ior", &self.ior);
+        to.optional(
+            "KHR_materials_pbrSpecularGlossiness",
+            &self.pbr_specular_glossiness,
+        );
+        to.optional("KHR_materials_specular", &self.specular);
+        to.optional("KHR_materials_transmission", &self.transmission);
+        to.optional("KHR_materials_unlit", &self.unlit);
+        to.optional("KHR_materials_volume", &self.volume);
     }
 }
 
@@ -210,18 +209,17 @@ impl Object for PbrSpecularGlossiness {
         })
     }
 
-    fn encode_members(&self, alloc: Global) -> Result<Map<String, Value>, Error> {
-        Writing::from_others(alloc, &self.others)
-            .optional("diffuseFactor", &self.diffuse_factor.0)
-            .optional("diffuseTexture", &self.diffuse_texture)
-            .optional("specularFactor", &self.specular_factor.0)
-            .optional("glossinessFactor", &self.glossiness_factor.0)
-            .optional(
-                "specularGlossinessTexture",
-                &self.specular_glossiness_texture,
-            )
-            .optional("extras", &self.extras)
-            .finish()
+    fn write_members<W: WriteRows>(&self, to: &mut W) {
+        to.others(&self.others);
+        to.optional("diffuseFactor", &self.diffuse_factor.0);
+        to.optional("diffuseTexture", &self.diffuse_texture);
+        to.optional("extras", &self.extras);
+        to.optional("glossinessFactor", &self.glossiness_factor.0);
+        to.optional("specularFactor", &self.specular_factor.0);
+        to.optional(
+            "specularGlossinessTexture",
+            &self.specular_glossiness_texture,
+        );
     }
 }
 
@@ -319,9 +317,7 @@ impl Object for Unlit {
         Ok(Unlit {})
     }
 
-    fn encode_members(&self, alloc: Global) -> Result<Map<String, Value>, Error> {
-        Writing::new(alloc).finish()
-    }
+    fn write_members<W: WriteRows>(&self, _to: &mut W) {}
 }
 
 impl Unlit {
@@ -379,12 +375,10 @@ impl Object for Transmission {
         })
     }
 
-    fn encode_members(&self, alloc: Global) -> Result<Map<String, Value>, Error> {
-        Writing::new(alloc)
-            .optional("transmissionFactor", &self.transmission_factor.0)
-            .optional("transmissionTexture", &self.transmission_texture)
-            .optional("extras", &self.extras)
-            .finish()
+    fn write_members<W: WriteRows>(&self, to: &mut W) {
+        to.optional("extras", &self.extras);
+        to.optional("transmissionFactor", &self.transmission_factor.0);
+        to.optional("transmissionTexture", &self.transmission_texture);
     }
 }
 
@@ -485,14 +479,12 @@ impl Object for Volume {
         })
     }
 
-    fn encode_members(&self, alloc: Global) -> Result<Map<String, Value>, Error> {
-        Writing::new(alloc)
-            .optional("thicknessFactor", &self.thickness_factor.0)
-            .optional("thicknessTexture", &self.thickness_texture)
-            .optional("attenuationDistance", &self.attenuation_distance.0)
-            .optional("attenuationColor", &self.attenuation_color.0)
-            .optional("extras", &self.extras)
-            .finish()
+    fn write_members<W: WriteRows>(&self, to: &mut W) {
+        to.optional("attenuationColor", &self.attenuation_color.0);
+        to.optional("attenuationDistance", &self.attenuation_distance.0);
+        to.optional("extras", &self.extras);
+        to.optional("thicknessFactor", &self.thickness_factor.0);
+        to.optional("thicknessTexture", &self.thickness_texture);
     }
 }
 
@@ -642,14 +634,12 @@ impl Object for Specular {
         })
     }
 
-    fn encode_members(&self, alloc: Global) -> Result<Map<String, Value>, Error> {
-        Writing::new(alloc)
-            .optional("specularFactor", &self.specular_factor.0)
-            .optional("specularTexture", &self.specular_texture)
-            .optional("specularColorFactor", &self.specular_color_factor.0)
-            .optional("specularColorTexture", &self.specular_color_texture)
-            .optional("extras", &self.extras)
-            .finish()
+    fn write_members<W: WriteRows>(&self, to: &mut W) {
+        to.optional("extras", &self.extras);
+        to.optional("specularColorFactor", &self.specular_color_factor.0);
+        to.optional("specularColorTexture", &self.specular_color_texture);
+        to.optional("specularFactor", &self.specular_factor.0);
+        to.optional("specularTexture", &self.specular_texture);
     }
 }
 
@@ -752,11 +742,9 @@ impl Object for Ior {
         })
     }
 
-    fn encode_members(&self, alloc: Global) -> Result<Map<String, Value>, Error> {
-        Writing::new(alloc)
-            .optional("ior", &self.ior.0)
-            .optional("extras", &self.extras)
-            .finish()
+    fn write_members<W: WriteRows>(&self, to: &mut W) {
+        to.optional("extras", &self.extras);
+        to.optional("ior", &self.ior.0);
     }
 }
 
@@ -831,10 +819,8 @@ impl Object for EmissiveStrength {
         })
     }
 
-    fn encode_members(&self, alloc: Global) -> Result<Map<String, Value>, Error> {
-        Writing::new(alloc)
-            .optional("emissiveStrength", &self.emissive_strength.0)
-            .finish()
+    fn write_members<W: WriteRows>(&self, to: &mut W) {
+        to.optional("emissiveStrength", &self.emissive_strength.0);
     }
 }
 

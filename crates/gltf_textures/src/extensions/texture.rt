@@ -13,7 +13,7 @@ ghost use Rattle.gltf_schema.specs.Tree.{tree_or_absent};
 
 use gltf_base::Real;
 use gltf_data::extras::Extras;
-use gltf_schema::{Error, KeptExtensions, Object, Reading, Source, Tabled, Writing};
+use gltf_schema::{Error, KeptExtensions, Object, Reading, Source, Tabled, WriteRows};
 use serde_json::{Map, Value};
 use std::alloc::Global;
 
@@ -57,10 +57,9 @@ impl Object for Info {
         })
     }
 
-    fn encode_members(&self, alloc: Global) -> Result<Map<String, Value>, Error> {
-        Writing::from_others(alloc, &self.others)
-            .optional("KHR_texture_transform", &self.texture_transform)
-            .finish()
+    fn write_members<W: WriteRows>(&self, to: &mut W) {
+        to.others(&self.others);
+        to.optional("KHR_texture_transform", &self.texture_transform);
     }
 }
 
@@ -124,14 +123,12 @@ impl Object for TextureTransform {
         })
     }
 
-    fn encode_members(&self, alloc: Global) -> Result<Map<String, Value>, Error> {
-        Writing::new(alloc)
-            .optional("offset", &self.offset.0)
-            .optional("rotation", &self.rotation.0)
-            .optional("scale", &self.scale.0)
-            .or_null("texCoord", &self.tex_coord)
-            .optional("extras", &self.extras)
-            .finish()
+    fn write_members<W: WriteRows>(&self, to: &mut W) {
+        to.optional("extras", &self.extras);
+        to.optional("offset", &self.offset.0);
+        to.optional("rotation", &self.rotation.0);
+        to.optional("scale", &self.scale.0);
+        to.or_null("texCoord", &self.tex_coord);
     }
 }
 

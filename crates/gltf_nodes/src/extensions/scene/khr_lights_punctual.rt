@@ -17,8 +17,8 @@ use gltf_base::extensions::scene::khr_lights_punctual::LightType;
 use gltf_base::validation::Checked;
 use gltf_base::{Index, Listed, Real};
 use gltf_data::extras::Extras;
-use gltf_schema::{Error, Object, Reading, Source, Writing};
-use serde_json::{Map, Value};
+use gltf_schema::{Error, Object, Reading, Source, WriteRows};
+use serde_json::Value;
 use std::alloc::Global;
 use std::f64::consts::FRAC_PI_4;
 
@@ -65,8 +65,8 @@ impl Object for KhrLightsPunctual {
         reading.finish(KhrLightsPunctual { light })
     }
 
-    fn encode_members(&self, alloc: Global) -> Result<Map<String, Value>, Error> {
-        Writing::new(alloc).always("light", &self.light).finish()
+    fn write_members<W: WriteRows>(&self, to: &mut W) {
+        to.always("light", &self.light);
     }
 }
 
@@ -196,17 +196,15 @@ impl Object for Light {
         })
     }
 
-    fn encode_members(&self, alloc: Global) -> Result<Map<String, Value>, Error> {
-        Writing::new(alloc)
-            .optional("color", &self.color)
-            .optional("extensions", &self.extensions)
-            .optional("extras", &self.extras)
-            .optional("intensity", &self.intensity)
-            .optional("name", &self.name)
-            .optional("range", &self.range)
-            .optional("spot", &self.spot)
-            .always("type", &self.type_)
-            .finish()
+    fn write_members<W: WriteRows>(&self, to: &mut W) {
+        to.optional("color", &self.color);
+        to.optional("extensions", &self.extensions);
+        to.optional("extras", &self.extras);
+        to.optional("intensity", &self.intensity);
+        to.optional("name", &self.name);
+        to.optional("range", &self.range);
+        to.optional("spot", &self.spot);
+        to.always("type", &self.type_);
     }
 }
 
@@ -246,11 +244,9 @@ impl Object for Spot {
         })
     }
 
-    fn encode_members(&self, alloc: Global) -> Result<Map<String, Value>, Error> {
-        Writing::new(alloc)
-            .optional("innerConeAngle", &self.inner_cone_angle)
-            .optional("outerConeAngle", &self.outer_cone_angle)
-            .finish()
+    fn write_members<W: WriteRows>(&self, to: &mut W) {
+        to.optional("innerConeAngle", &self.inner_cone_angle);
+        to.optional("outerConeAngle", &self.outer_cone_angle);
     }
 }
 

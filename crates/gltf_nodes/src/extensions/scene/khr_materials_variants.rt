@@ -9,8 +9,7 @@ ghost use Rattle.gltf_schema.specs.Fields.{text_tree};
 ghost use Rattle.gltf_nodes.specs.Light.{variant_rows, variant_sound, variant_height, variant_members};
 
 use gltf_base::Listed;
-use gltf_schema::{Error, Object, Reading, Source, Writing};
-use serde_json::{Map, Value};
+use gltf_schema::{Error, Object, Reading, Source, WriteRows};
 use std::alloc::Global;
 
 /// A variant: a choice of materials for the whole document.
@@ -63,7 +62,7 @@ impl Object for Variant {
         reading.finish(Variant { name })
     }
 
-    fn encode_members(&self, alloc: Global) -> Result<Map<String, Value>, Error> {
-        Writing::new(alloc).always("name", &self.name).finish()
+    fn write_members<W: WriteRows>(&self, to: &mut W) {
+        to.always("name", &self.name);
     }
 }

@@ -1,10 +1,14 @@
--- The value that is printed reads back, and so do its bytes.
-use Rattle.serde_json.specs.View.{view}
-use Rattle.gltf_root.specs.Root.{root_tree}
-use Rattle.gltf_root.proofs.AnswerLemmas.{printed-read_back}
+-- The bytes that the writer made of the document's tokens, which read back.
+use Rattle.std.proofs.Common.{◌∙◌}
+use Rattle.gltf_schema.specs.Write.{write}
+use Rattle.gltf_root.specs.Root.{root_kind, root_tree}
+use Rattle.gltf_root.proofs.Printed.{compact_bytes, compact_read_back}
 use Rattle.gltf_root.proofs.root.Root.to_vec.Goals as goal
 
+pub returns-clause-printed : goal.returns-clause-printed
+returns-clause-printed c =
+    compact_bytes (write root_kind (root_tree c.args.self.now)) _ _ _ _ _ c.in_ok-printed.ensures.shown c.new-out.ensures.tokens c.in_ok-printed.ensures.before
+    (c.new-out.ensures.before ∙ c.in_ok-with_capacity.ensures.items) c.into_inner.ensures.items c.into_inner.ensures.reads_back c.into_inner.ensures.utf8
+
 pub returns-clause-reads_back : goal.returns-clause-reads_back
-returns-clause-reads_back c =
-    printed-read_back (root_tree c.args.self.now) (view c.in_ok-to_value.field-0) (c.in_ok-to_vec.field-0.items) c.in_ok-to_value.ensures.by_table c.in_ok-to_value.ensures.reads_back
-    c.in_ok-to_vec.ensures.utf8 c.in_ok-to_vec.ensures.reads_back
+returns-clause-reads_back c = compact_read_back (root_tree c.args.self.now) c.into_inner.result.items (returns-clause-printed c)

@@ -1,10 +1,12 @@
--- The value that is printed reads back, and so do its bytes.
-use Rattle.serde_json.specs.View.{view}
-use Rattle.gltf_root.specs.Root.{root_tree}
-use Rattle.gltf_root.proofs.AnswerLemmas.{printed-read_back}
+-- The bytes that the writer made of the document's tokens, which read back.
+use Rattle.gltf_schema.specs.Write.{write}
+use Rattle.gltf_root.specs.Root.{root_kind, root_tree}
+use Rattle.gltf_root.proofs.Printed.{pretty_bytes, pretty_read_back}
 use Rattle.gltf_root.proofs.root.Root.to_vec_pretty.Goals as goal
 
+pub returns-clause-printed : goal.returns-clause-printed
+returns-clause-printed c =
+    pretty_bytes (write root_kind (root_tree c.args.self.now)) _ _ _ c.in_ok-printed.ensures.shown c.new.ensures c.into_inner.ensures.value c.into_inner.ensures.layout c.into_inner.ensures.utf8
+
 pub returns-clause-reads_back : goal.returns-clause-reads_back
-returns-clause-reads_back c =
-    printed-read_back (root_tree c.args.self.now) (view c.in_ok-to_value.field-0) (c.in_ok-to_vec_pretty.field-0.items) c.in_ok-to_value.ensures.by_table c.in_ok-to_value.ensures.reads_back
-    c.in_ok-to_vec_pretty.ensures.utf8 c.in_ok-to_vec_pretty.ensures.reads_back
+returns-clause-reads_back c = pretty_read_back (root_tree c.args.self.now) c.into_inner.result.items (returns-clause-printed c)

@@ -1,0 +1,10 @@
+-- Each row is written in the order of the names.
+use Rattle.gltf_schema.proofs.RowsWritten.{all_written, write_none, write_row}
+use Rattle.gltf_shading.specs.MaterialExtension.{emissive_strength_rows, emissive_strength_members}
+use Rattle.gltf_shading.proofs.extensions.material.EmissiveStrengthObject.write_members.Goals as goal
+
+pub returns : goal.returns
+unfolding emissive_strength_rows emissive_strength_members
+returns g c =
+    all_written
+    (write_row c.optional.ensures.sometimes write_none)

@@ -1,8 +1,10 @@
 -- What was found at a place is a leaf of its outline.
-use Rattle.std.proofs.Common.{◌≡◌, List, [], ◌∷◌, ◌++◌, Option, Some, None, refl, sym, ◌∙◌}
+use Rattle.std.proofs.Common.{◌≡◌, List, [], ◌∷◌, ◌++◌, Option, Some, None, refl, sym, ◌∙◌, ap}
 use Rattle.gltf_paths.specs.Steps.{Step}
 use Rattle.gltf_paths.specs.declared.validation.Error.{Error}
-use Rattle.gltf_sinks.specs.Report.{From, found_at}
+use Rattle.std.specs.Option.{is_some}
+use Rattle.gltf_schema.specs.Tree.{Tree, invalid}
+use Rattle.gltf_sinks.specs.Report.{From, found_at, report}
 use Rattle.gltf_checked.specs.Semantics.{checked_key}
 use Rattle.gltf_checked.specs.Spelling.{Spelling, by_number}
 use Rattle.gltf_checked.specs.declared.mesh.Semantic.{Semantic}
@@ -13,6 +15,7 @@ use Rattle.gltf_schema.specs.Leaves.{checked_tree}
 use Rattle.gltf_faults.specs.Faults.{choice_faults, key_faults}
 use Rattle.gltf_visits.specs.Outline.{leaf}
 use Rattle.gltf_visits.specs.OutlineOf.{leaf_of, error_of}
+use Rattle.gltf_visits.specs.References.{invalid_if}
 
 pub found_leaf : (f : From) (e : Option Error) (s : Step) → ((base : List Step) → found_at e (base ++ s ∷ []) ≡ f base) → leaf e ≡ leaf_of f
 found_leaf f None s h = rw (sym (h [])) refl
@@ -21,6 +24,15 @@ found_leaf f (Some error) s h = rw (sym (h [])) refl
 pub found_error : (f : From) (e : Option Error) → ((base : List Step) → found_at e base ≡ f base) → e ≡ error_of f
 found_error f None h = rw (sym (h [])) refl
 found_error f (Some error) h = rw (sym (h [])) refl
+
+-- the one error of a choice
+pub found_choice : (t : Tree) (e : Option Error) → ((base : List Step) → found_at e base ≡ choice_faults t base)
+    → leaf (invalid_if (is_some e)) ≡ leaf_of (choice_faults t)
+found_choice t None h = ap leaf (found_error (choice_faults t) None h)
+found_choice invalid (Some e) h = refl
+found_choice t (Some e) h =
+    let no : report [] e ∷ [] ≡ [] = h [] in
+    absurd cc
 
 -- an attribute's key is wrong where it is an invalid choice
 key_error : (spell : Semantic → Spelling) (k : Checked Semantic) → error_of (choice_faults (checked_tree spell k)) ≡ error_of (key_faults (checked_key k))

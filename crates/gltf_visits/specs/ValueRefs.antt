@@ -15,7 +15,7 @@ use Rattle.gltf_textures.specs.Texture.{sampler_kind, texture_kind, sampler_memb
 use Rattle.gltf_paths.specs.Lists.{ListName}
 use Rattle.gltf_schema.specs.Fields.{attributes_tree, closed_object, index_tree, list_tree, text_tree}
 use Rattle.gltf_schema.specs.Kind.{Attributes, IndexInto, ListOf}
-use Rattle.gltf_schema.specs.Tree.{absent, items_in, tree_or_absent}
+use Rattle.gltf_schema.specs.Tree.{absent, items_in}
 use Rattle.gltf_faults.specs.Context.{Context}
 use Rattle.gltf_faults.specs.declared.primitive.PositionFaults.{PositionFaults}
 use Rattle.gltf_visits.specs.Outline.{Outline, place, leaf}
@@ -43,11 +43,12 @@ outline_of context (value_ref.Sampler x) = outline sampler_kind (closed_object (
 outline_of context (value_ref.Samplers xs) = outline (ListOf sampler_kind) (list_tree (λ x. closed_object (sampler_members x)) xs.now.items) context absent
 outline_of context (value_ref.Texture x) = outline texture_kind (closed_object (texture_members x.now)) context absent
 outline_of context (value_ref.Textures xs) = outline (ListOf texture_kind) (list_tree (λ x. closed_object (texture_members x)) xs.now.items) context absent
-outline_of context (value_ref.TextureReference e) = reference_outline (Some e)
-outline_of context (value_ref.OneTexture m) = one_texture m
-outline_of context (value_ref.TwoTextures m n) = two_textures m n
-outline_of context (value_ref.Material (Some m) e) = material_outline context m (tree_or_absent (λ x. material_extensions x.now) e)
-outline_of context (value_ref.Material None e) = extensions_outline context (tree_or_absent (λ x. material_extensions x.now) e)
+outline_of context (value_ref.TextureReference s) = reference_outline s
+outline_of context (value_ref.OneTexture s n) = one_texture s n
+outline_of context (value_ref.TwoTextures s r n m) = two_textures s r n m
+outline_of context (value_ref.Material (Some m) e) = material_outline context m (material_extensions e.now)
+outline_of context (value_ref.Material None e) = extensions_outline context (material_extensions e.now)
+outline_of context (value_ref.PlainMaterial m) = material_outline context m absent
 outline_of context (value_ref.Materials xs) = outline (ListOf material_kind) (list_tree (λ x. closed_object (material_members x)) xs.now.items) context absent
 outline_of context (value_ref.Mesh x) = outline mesh_kind (closed_object (mesh_members x.now)) context absent
 outline_of context (value_ref.Meshes xs) = outline (ListOf mesh_kind) (list_tree (λ x. closed_object (mesh_members x)) xs.now.items) context absent

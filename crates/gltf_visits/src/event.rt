@@ -8,8 +8,10 @@ ghost use Rattle.gltf_visits.specs.ValueRefs.{outline_of};
 ghost use Rattle.gltf_visits.specs.Outline.{Move, down, first_move, leaf, over, IsQuiet};
 ghost use Rattle.gltf_visits.specs.OutlineOf.{outline};
 ghost use Rattle.gltf_visits.specs.Moves.{IsGiven, IsMore};
+ghost use Rattle.gltf_visits.specs.References.{reference_outline};
 
 use crate::quiet::Quiet;
+use crate::references::ReferenceState;
 use crate::value_ref::ValueRef;
 use gltf_base::Step;
 use gltf_base::validation::Error;
@@ -56,6 +58,11 @@ pub trait EventBuilder<'a>: Sized {
         ensures { (context : _) (move : Move) → first_move (leaf fault) ≡ move
             → gives context move result };
 
+    /// A member of an object that is a reference to a texture.
+    fn reference_at(name: &'static str, state: ReferenceState) -> Self
+        ensures { (context : _) (move : Move) → down (field name.now) (reference_outline state)
+            ≡ move → gives context move result };
+
     /// A step down to a value, of which the caller says whether it is quiet.
     fn enter<C: HasContext>(
         step: Step<'a>,
@@ -96,6 +103,10 @@ impl<'a> EventBuilder<'a> for Event<'a> {
             Some(error) => Event::Fault(error),
             None => Event::End,
         }
+    }
+
+    fn reference_at(name: &'static str, state: ReferenceState) -> Event<'a> {
+        Event::Enter(Step::Field(name), ValueRef::TextureReference(state))
     }
 
     fn enter<C: HasContext>(

@@ -7,6 +7,7 @@ ghost use Rattle.gltf_visits.specs.Outline.{Outline, Move, down, IsQuiet};
 
 use crate::event::EventBuilder;
 use crate::quiet::Quiet;
+use crate::references::ReferenceState;
 use crate::value_ref::ValueRef;
 use gltf_base::Step;
 use gltf_base::validation::Error;
@@ -55,6 +56,10 @@ impl<'a> EventBuilder<'a> for Look {
             Some(_) => Look::Loud,
             None => Look::Over,
         }
+    }
+
+    fn reference_at(_name: &'static str, state: ReferenceState) -> Look {
+        Look::quiet_if(state.is_quiet())
     }
 
     fn enter<C: HasContext>(

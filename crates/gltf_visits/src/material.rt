@@ -3,28 +3,25 @@
 ghost use Rattle.gltf_materials.specs.Material.{material_kind, material_extensions, pbr_metallic_roughness_kind, normal_texture_kind, occlusion_texture_kind, material_members, pbr_metallic_roughness_members, normal_texture_members, occlusion_texture_members, alpha_cutoff_tree};
 ghost use Rattle.gltf_schema.specs.Fields.{closed_object, list_tree};
 ghost use Rattle.gltf_schema.specs.Kind.{ListOf, Number};
+ghost use Rattle.gltf_schema.specs.Leaves.{checked_tree, choice_of};
 ghost use Rattle.gltf_schema.specs.Tree.{absent, tree_or_absent};
 ghost use Rattle.gltf_faults.specs.Context.{Context as MathematicalContext, context_of};
-ghost use Rattle.gltf_visits.specs.Moves.{IsGiven, IsMore};
-ghost use Rattle.gltf_visits.specs.Outline.{IsQuiet, move_at};
+ghost use Rattle.gltf_visits.specs.Outline.{IsQuiet, leaf, move_at};
 ghost use Rattle.gltf_visits.specs.OutlineOf.{outline};
-ghost use Rattle.gltf_visits.specs.References.{extensions_outline, material_outline, parameters_outline};
+ghost use Rattle.gltf_visits.specs.References.{extensions_outline, invalid_if, material_outline, parameters_outline};
 ghost use Rattle.gltf_visits.specs.ValueRefs.{outline_of};
-ghost use Rattle.gltf_visits.specs.declared.value_ref.ValueRef.TheVariants as value_ref;
 ghost use Rattle.std.specs.Prelude.{◌≡◌, ◌+◌, ◌<◌, ◌^◌, true, refl};
 
 use crate::always_valid::AlwaysValid;
-use crate::event::Event;
-use crate::events::Events;
+use crate::event::EventBuilder;
 use crate::quiet::{Quiet, are_quiet, is_found_quiet};
-use crate::references::{
-    TextureMember, TextureReference, at_reference, is_reference_quiet, reference_fault,
-};
+use crate::references::{MemberName, ReferenceState, TextureReference, index_state, member_state};
 use crate::value_ref::ValueRef;
 use crate::visitable::Visitable;
 use gltf_base::Step;
-use gltf_base::validation::Error;
-use gltf_faults::{Context, HasContext, choice_fault, index_fault};
+use gltf_base::validation::{Checked, Error};
+use gltf_checked::choice::Choice;
+use gltf_faults::{Context, HasContext, choice_fault};
 use gltf_materials::material::{
     AlphaCutoff, EmissiveFactor, Material, NormalTexture, OcclusionTexture, PbrBaseColorFactor,
     PbrMetallicRoughness,
@@ -32,16 +29,26 @@ use gltf_materials::material::{
 use gltf_shading::extensions::material::Material as MaterialExtensions;
 use gltf_shading::material::StrengthFactor;
 
-/// What is wrong in the members of a material, but for its extensions: the error of its alpha mode,
-/// and of each reference to a texture as in `TextureMember`.
+/// What is wrong in the members of a material, but for its extensions.
+// Six bytes: docs/PERFORMANCE.md says why a `ValueRef` is small.
 #[derive(Clone, Copy, Drop)]
 pub struct MaterialFaults {
-    alpha_mode: Option<Error>,
-    base_color: Option<Option<Error>>,
-    metallic_roughness: Option<Option<Error>>,
-    normal: Option<Option<Error>>,
-    occlusion: Option<Option<Error>>,
-    emissive: Option<Option<Error>>,
+    is_alpha_mode_invalid: bool,
+    base_color: ReferenceState,
+    metallic_roughness: ReferenceState,
+    normal: ReferenceState,
+    occlusion: ReferenceState,
+    emissive: ReferenceState,
+}
+
+/// Whether a choice is none of its list.
+#[tactic(auto, using(crate::proofs::Leaves::found_choice))]
+fn is_invalid<T: Choice>(choice: &Checked<T>) -> bool
+    ensures { (context : MathematicalContext) → leaf (invalid_if result)
+        ≡ outline (choice_of T.form T.spelling T.listed) (checked_tree T.spelling choice.now) context
+        absent }
+{
+    choice_fault(choice).is_some()
 }
 
 /// What is wrong in the members of a material.
@@ -54,74 +61,71 @@ fn material_faults(material: &Material, context: &Context<'_>) -> MaterialFaults
 {
     let parameters = &material.pbr_metallic_roughness;
     MaterialFaults {
-        alpha_mode: choice_fault(&material.alpha_mode),
-        base_color: reference_fault(&parameters.base_color_texture, context),
-        metallic_roughness: reference_fault(&parameters.metallic_roughness_texture, context),
-        normal: reference_fault(&material.normal_texture, context),
-        occlusion: reference_fault(&material.occlusion_texture, context),
-        emissive: reference_fault(&material.emissive_texture, context),
-    }
-}
-
-/// The event at a number of a material, or of extensions alone.
-pub(crate) fn in_material<'a>(
-    faults: Option<MaterialFaults>,
-    extensions: Option<&'a MaterialExtensions>,
-    number: usize,
-    context: &Context<'_>,
-) -> Event<'a>
-    ensures comes { IsGiven (context_of context.now) (move_at
-        (outline_of (context_of context.now) (value_ref.Material faults extensions.entry)) number)
-        result }
-    ensures small { IsMore result → number + 1 < 2 ^ 64 }
-{
-    match (faults, extensions) {
-        (Some(faults), _) => in_members(faults, extensions, number),
-        (None, Some(extensions)) => extensions.event(number, context),
-        (None, None) => Event::End,
+        is_alpha_mode_invalid: is_invalid(&material.alpha_mode),
+        base_color: member_state(&parameters.base_color_texture, context),
+        metallic_roughness: member_state(&parameters.metallic_roughness_texture, context),
+        normal: member_state(&material.normal_texture, context),
+        occlusion: member_state(&material.occlusion_texture, context),
+        emissive: member_state(&material.emissive_texture, context),
     }
 }
 
 /// The event at a number of a material.
 #[tactic(auto, using(crate::proofs::Past::past))]
-fn in_members<'a>(
+pub(crate) fn in_material<'a, E: EventBuilder<'a>, C: HasContext>(
     faults: MaterialFaults,
     extensions: Option<&'a MaterialExtensions>,
     number: usize,
-) -> Event<'a>
-    ensures comes { (context : MathematicalContext) → IsGiven context (move_at
-        (material_outline context faults
+    context: &C,
+) -> E
+    ensures comes { E.gives (C.context context.now) (move_at
+        (material_outline (C.context context.now) faults
         (tree_or_absent (λ e. material_extensions e.now) extensions.entry)) number) result }
-    ensures small { IsMore result → number + 1 < 2 ^ 64 }
+    ensures small { E.is_more result → number + 1 < 2 ^ 64 }
 {
     match number {
-        0 => Event::Enter(Step::Field("alphaMode"), ValueRef::Leaf(faults.alpha_mode)),
-        1 => Event::Enter(Step::Field("pbrMetallicRoughness"), parameters(faults)),
-        2 => at_reference("normalTexture", faults.normal),
-        3 => at_reference("occlusionTexture", faults.occlusion),
-        4 => at_reference("emissiveTexture", faults.emissive),
-        5 => Event::Enter(
-            Step::Field("extensions"),
-            ValueRef::Material(None, extensions),
+        0 => E::fault_at("alphaMode", alpha_mode_fault(faults)),
+        1 => E::enter(
+            Step::Field("pbrMetallicRoughness"),
+            parameters_ref(faults.base_color, faults.metallic_roughness),
+            false,
+            context,
         ),
-        _ => Event::End,
+        2 => E::reference_at("normalTexture", faults.normal),
+        3 => E::reference_at("occlusionTexture", faults.occlusion),
+        4 => E::reference_at("emissiveTexture", faults.emissive),
+        5 => match extensions {
+            Some(extensions) => E::member("extensions", extensions, context),
+            None => E::fault_at("extensions", None),
+        },
+        _ => E::end(),
     }
 }
 
-/// The parameters of the metallic-roughness model.
-fn parameters<'a>(faults: MaterialFaults) -> ValueRef<'a>
-    ensures { (context : MathematicalContext)
-        → outline_of context result ≡ parameters_outline faults }
+/// The error of the alpha mode of a material.
+fn alpha_mode_fault(faults: MaterialFaults) -> Option<Error>
+    ensures { result ≡ invalid_if faults.is_alpha_mode_invalid }
+{
+    if faults.is_alpha_mode_invalid {
+        Some(Error::Invalid)
+    } else {
+        None
+    }
+}
+
+/// The parameters of the metallic-roughness model, by what was found at their references.
+fn parameters_ref<'a>(
+    base_color: ReferenceState,
+    metallic_roughness: ReferenceState,
+) -> ValueRef<'a>
+    ensures { (context : MathematicalContext) → outline_of context result
+        ≡ parameters_outline base_color metallic_roughness }
 {
     ValueRef::TwoTextures(
-        TextureMember {
-            name: "baseColorTexture",
-            fault: faults.base_color,
-        },
-        TextureMember {
-            name: "metallicRoughnessTexture",
-            fault: faults.metallic_roughness,
-        },
+        base_color,
+        metallic_roughness,
+        MemberName(&"baseColorTexture"),
+        MemberName(&"metallicRoughnessTexture"),
     )
 }
 
@@ -134,12 +138,12 @@ pub(crate) fn is_material_quiet<C: HasContext>(
     ensures { result ≡ true → IsQuiet (material_outline (C.context context.now) faults.now
         (tree_or_absent (λ e. material_extensions e.now) extensions.entry)) }
 {
-    faults.alpha_mode.is_none()
-        && is_reference_quiet(faults.base_color)
-        && is_reference_quiet(faults.metallic_roughness)
-        && is_reference_quiet(faults.normal)
-        && is_reference_quiet(faults.occlusion)
-        && is_reference_quiet(faults.emissive)
+    !faults.is_alpha_mode_invalid
+        && faults.base_color.is_quiet()
+        && faults.metallic_roughness.is_quiet()
+        && faults.normal.is_quiet()
+        && faults.occlusion.is_quiet()
+        && faults.emissive.is_quiet()
         && are_extensions_quiet(extensions, context)
 }
 
@@ -160,10 +164,11 @@ impl Visitable for Material {
     ghost tree = { λ v. closed_object (material_members v) };
 
     fn value_ref<'a>(&'a self, context: &Context<'_>) -> ValueRef<'a> {
-        ValueRef::Material(
-            Some(material_faults(self, context)),
-            self.extensions.as_ref(),
-        )
+        let faults = material_faults(self, context);
+        match &self.extensions {
+            Some(extensions) => ValueRef::Material(Some(faults), extensions),
+            None => ValueRef::PlainMaterial(faults),
+        }
     }
 }
 
@@ -200,15 +205,9 @@ impl Visitable for PbrMetallicRoughness {
 
     #[tactic(auto, unfolding(gltf_materials::specs::Material::pbr_metallic_roughness_rows, gltf_textures::specs::Texture::info_rows, gltf_materials::specs::Material::pbr_metallic_roughness_members))]
     fn value_ref<'a>(&'a self, context: &Context<'_>) -> ValueRef<'a> {
-        ValueRef::TwoTextures(
-            TextureMember {
-                name: "baseColorTexture",
-                fault: reference_fault(&self.base_color_texture, context),
-            },
-            TextureMember {
-                name: "metallicRoughnessTexture",
-                fault: reference_fault(&self.metallic_roughness_texture, context),
-            },
+        parameters_ref(
+            member_state(&self.base_color_texture, context),
+            member_state(&self.metallic_roughness_texture, context),
         )
     }
 }
@@ -225,14 +224,14 @@ impl Visitable for NormalTexture {
     ghost tree = { λ v. closed_object (normal_texture_members v) };
 
     fn value_ref<'a>(&'a self, context: &Context<'_>) -> ValueRef<'a> {
-        ValueRef::TextureReference(self.index_error(context))
+        ValueRef::TextureReference(self.state(context))
     }
 }
 
 impl TextureReference for NormalTexture {
     #[tactic(auto, unfolding(gltf_materials::specs::Material::normal_texture_rows, gltf_materials::specs::Material::normal_texture_members))]
-    fn index_error(&self, context: &Context<'_>) -> Option<Error> {
-        index_fault(&self.index, context.root)
+    fn state(&self, context: &Context<'_>) -> ReferenceState {
+        index_state(&self.index, context)
     }
 }
 
@@ -248,14 +247,14 @@ impl Visitable for OcclusionTexture {
     ghost tree = { λ v. closed_object (occlusion_texture_members v) };
 
     fn value_ref<'a>(&'a self, context: &Context<'_>) -> ValueRef<'a> {
-        ValueRef::TextureReference(self.index_error(context))
+        ValueRef::TextureReference(self.state(context))
     }
 }
 
 impl TextureReference for OcclusionTexture {
     #[tactic(auto, unfolding(gltf_materials::specs::Material::occlusion_texture_rows, gltf_materials::specs::Material::occlusion_texture_members))]
-    fn index_error(&self, context: &Context<'_>) -> Option<Error> {
-        index_fault(&self.index, context.root)
+    fn state(&self, context: &Context<'_>) -> ReferenceState {
+        index_state(&self.index, context)
     }
 }
 

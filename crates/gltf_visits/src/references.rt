@@ -1,121 +1,132 @@
 //! References to textures, and the objects in which only such references can be wrong.
+#![tactic(auto, using(crate::proofs::Past::past))]
 
-ghost use Rattle.std.specs.Prelude.{◌≡◌, ◌+◌, ◌<◌, ◌^◌, true, Some};
-ghost use Rattle.gltf_paths.specs.Steps.{field};
+ghost use Rattle.std.specs.Prelude.{◌≡◌, ◌+◌, ◌<◌, ◌^◌, true};
+ghost use Rattle.gltf_schema.specs.Fields.{index_tree};
 ghost use Rattle.gltf_schema.specs.Tree.{absent, tree_or_absent};
 ghost use Rattle.gltf_faults.specs.Context.{Context as MathematicalContext, context_of};
 ghost use Rattle.gltf_visits.specs.Moves.{IsGiven, IsMore};
-ghost use Rattle.gltf_visits.specs.Outline.{IsQuiet, down, move_at};
+ghost use Rattle.gltf_visits.specs.Outline.{IsQuiet, move_at};
 ghost use Rattle.gltf_visits.specs.OutlineOf.{outline};
-ghost use Rattle.gltf_visits.specs.References.{one_texture, reference_outline, two_textures};
-ghost use Rattle.gltf_visits.specs.ValueRefs.{outline_of};
+ghost use Rattle.gltf_visits.specs.References.{index_outline, one_texture, reference_outline, two_textures};
 
-use crate::event::Event;
-use crate::value_ref::ValueRef;
+use crate::event::{Event, EventBuilder};
 use crate::visitable::Visitable;
-use gltf_base::Step;
+use gltf_base::Index;
 use gltf_base::validation::Error;
-use gltf_faults::Context;
+use gltf_faults::{Context, index_fault};
+use gltf_textures::texture::Texture;
 
-/// A member that is a reference to a texture.
+/// What was found at a member that is a reference to a texture. Only its index can be wrong.
 #[derive(Clone, Copy, Drop)]
-pub struct TextureMember {
-    pub(crate) name: &'static str,
-    /// The error of its index; `None` if the member is absent.
-    pub(crate) fault: Option<Option<Error>>,
+pub enum ReferenceState {
+    Absent,
+    Resolved,
+    OutOfBounds,
 }
 
-/// A reference to a texture. Only its index can be wrong.
+/// The name of a member.
+#[derive(Clone, Copy, Drop)]
+pub struct MemberName(pub(crate) &'static &'static str);
+
+impl MemberName {
+    fn text(self) -> &'static str
+        ensures { result.now ≡ self.0.now.now }
+    {
+        let text = self.0;
+        *text
+    }
+}
+
+impl ReferenceState {
+    /// Whether nothing is wrong with the reference.
+    pub(crate) fn is_quiet(self) -> bool
+        ensures { result ≡ true → IsQuiet (reference_outline self) }
+    {
+        match self {
+            ReferenceState::Absent | ReferenceState::Resolved => true,
+            ReferenceState::OutOfBounds => false,
+        }
+    }
+}
+
+/// A reference to a texture.
 pub(crate) trait TextureReference: Visitable {
-    /// The error of the index.
-    fn index_error(&self, context: &Context<'_>) -> Option<Error>
-        ensures { reference_outline (Some result)
+    /// What is found at the reference.
+    fn state(&self, context: &Context<'_>) -> ReferenceState
+        ensures { reference_outline result
             ≡ outline Self.kind (Self.tree self.now) (context_of context.now) absent };
 }
 
-/// The error of the index of a reference; `None` if there is no reference.
-pub(crate) fn reference_fault<T: TextureReference>(
+/// What is found at an index of a texture.
+pub(crate) fn index_state(index: &Index<Texture>, context: &Context<'_>) -> ReferenceState
+    ensures { reference_outline result
+        ≡ index_outline (context_of context.now) (index_tree index.now) }
+{
+    match index_fault(index, context.root) {
+        None => ReferenceState::Resolved,
+        Some(_) => ReferenceState::OutOfBounds,
+    }
+}
+
+/// What is found at a member that may be absent.
+pub(crate) fn member_state<T: TextureReference>(
     reference: &Option<T>,
     context: &Context<'_>,
-) -> Option<Option<Error>>
+) -> ReferenceState
     ensures { reference_outline result ≡ outline T.kind (tree_or_absent T.tree reference.now)
         (context_of context.now) absent }
 {
     match reference {
-        Some(reference) => Some(reference.index_error(context)),
-        None => None,
+        Some(reference) => reference.state(context),
+        None => ReferenceState::Absent,
     }
-}
-
-/// Whether nothing is wrong with a reference.
-pub(crate) fn is_reference_quiet(fault: Option<Option<Error>>) -> bool
-    ensures { result ≡ true → IsQuiet (reference_outline fault) }
-{
-    match fault {
-        Some(error) => error.is_none(),
-        None => true,
-    }
-}
-
-/// A reference as a value of a document.
-fn reference_ref<'a>(fault: Option<Option<Error>>) -> ValueRef<'a>
-    ensures { (context : MathematicalContext)
-        → outline_of context result ≡ reference_outline fault }
-{
-    match fault {
-        Some(error) => ValueRef::TextureReference(error),
-        None => ValueRef::Leaf(None),
-    }
-}
-
-/// The event of a member that is a reference.
-pub(crate) fn at_reference<'a>(name: &'static str, fault: Option<Option<Error>>) -> Event<'a>
-    ensures comes { (context : MathematicalContext)
-        → IsGiven context (down (field name.now) (reference_outline fault)) result }
-{
-    Event::Enter(Step::Field(name), reference_ref(fault))
 }
 
 /// The event at a number of a reference.
-#[tactic(auto, using(crate::proofs::Past::past))]
-pub(crate) fn in_reference<'a>(error: Option<Error>, number: usize) -> Event<'a>
-    ensures comes { (context : MathematicalContext)
-        → IsGiven context (move_at (reference_outline (Some error)) number) result }
-    ensures small { IsMore result → number + 1 < 2 ^ 64 }
+pub(crate) fn in_reference<'a, E: EventBuilder<'a>>(state: ReferenceState, number: usize) -> E
+    ensures comes { (context : _)
+        → E.gives context (move_at (reference_outline state) number) result }
+    ensures small { E.is_more result → number + 1 < 2 ^ 64 }
 {
-    match number {
-        0 => Event::Enter(Step::Field("index"), ValueRef::Leaf(error)),
-        _ => Event::End,
+    match (number, state) {
+        (0, ReferenceState::Resolved) => E::fault_at("index", None),
+        (0, ReferenceState::OutOfBounds) => E::fault_at("index", Some(Error::IndexOutOfBounds)),
+        _ => E::end(),
     }
 }
 
 /// The event at a number of an object in which one reference can be wrong.
-#[tactic(auto, using(crate::proofs::Past::past))]
-pub(crate) fn in_one_texture<'a>(member: TextureMember, number: usize) -> Event<'a>
+pub(crate) fn in_one_texture<'a>(
+    state: ReferenceState,
+    name: MemberName,
+    number: usize,
+) -> Event<'a>
     ensures comes { (context : MathematicalContext)
-        → IsGiven context (move_at (one_texture member) number) result }
+        → IsGiven context (move_at (one_texture state name) number) result }
     ensures small { IsMore result → number + 1 < 2 ^ 64 }
 {
     match number {
-        0 => at_reference(member.name, member.fault),
+        0 => Event::reference_at(name.text(), state),
         _ => Event::End,
     }
 }
 
 /// The event at a number of an object in which two references can be wrong.
-#[tactic(auto, using(crate::proofs::Past::past))]
 pub(crate) fn in_two_textures<'a>(
-    first: TextureMember,
-    second: TextureMember,
+    first: ReferenceState,
+    second: ReferenceState,
+    first_name: MemberName,
+    second_name: MemberName,
     number: usize,
 ) -> Event<'a>
-    ensures comes { (context : MathematicalContext)
-        → IsGiven context (move_at (two_textures first second) number) result }
+    ensures comes { (context : MathematicalContext) → IsGiven context
+        (move_at (two_textures first second first_name second_name) number) result }
     ensures small { IsMore result → number + 1 < 2 ^ 64 }
 {
     match number {
-        0 => at_reference(first.name, first.fault),
-        1 => at_reference(second.name, second.fault),
+        0 => Event::reference_at(first_name.text(), first),
+        1 => Event::reference_at(second_name.text(), second),
         _ => Event::End,
     }
 }

@@ -9,7 +9,7 @@ use crate::always_valid::AlwaysValid;
 use crate::event::EventBuilder;
 use crate::events::Events;
 use crate::quiet::{Quiet, is_found_quiet, is_object_quiet};
-use crate::references::{TextureMember, reference_fault};
+use crate::references::{MemberName, member_state};
 use crate::value_ref::ValueRef;
 use crate::visitable::Visitable;
 use gltf_faults::{Context, HasContext};
@@ -27,7 +27,7 @@ impl Visitable for extensions::Material {
     ghost tree = { material_extensions };
 
     fn value_ref<'a>(&'a self, _context: &Context<'_>) -> ValueRef<'a> {
-        ValueRef::Material(None, Some(self))
+        ValueRef::Material(None, self)
     }
 }
 
@@ -62,14 +62,10 @@ impl Visitable for PbrSpecularGlossiness {
     #[tactic(auto, unfolding(gltf_shading::specs::MaterialExtension::pbr_specular_glossiness_rows, gltf_textures::specs::Texture::info_rows, gltf_shading::specs::MaterialExtension::pbr_specular_glossiness_members))]
     fn value_ref<'a>(&'a self, context: &Context<'_>) -> ValueRef<'a> {
         ValueRef::TwoTextures(
-            TextureMember {
-                name: "diffuseTexture",
-                fault: reference_fault(&self.diffuse_texture, context),
-            },
-            TextureMember {
-                name: "specularGlossinessTexture",
-                fault: reference_fault(&self.specular_glossiness_texture, context),
-            },
+            member_state(&self.diffuse_texture, context),
+            member_state(&self.specular_glossiness_texture, context),
+            MemberName(&"diffuseTexture"),
+            MemberName(&"specularGlossinessTexture"),
         )
     }
 }
@@ -87,10 +83,10 @@ impl Visitable for Transmission {
 
     #[tactic(auto, unfolding(gltf_shading::specs::MaterialExtension::transmission_rows, gltf_textures::specs::Texture::info_rows, gltf_shading::specs::MaterialExtension::transmission_members))]
     fn value_ref<'a>(&'a self, context: &Context<'_>) -> ValueRef<'a> {
-        ValueRef::OneTexture(TextureMember {
-            name: "transmissionTexture",
-            fault: reference_fault(&self.transmission_texture, context),
-        })
+        ValueRef::OneTexture(
+            member_state(&self.transmission_texture, context),
+            MemberName(&"transmissionTexture"),
+        )
     }
 }
 
@@ -107,10 +103,10 @@ impl Visitable for Volume {
 
     #[tactic(auto, unfolding(gltf_shading::specs::MaterialExtension::volume_rows, gltf_textures::specs::Texture::info_rows, gltf_shading::specs::MaterialExtension::volume_members))]
     fn value_ref<'a>(&'a self, context: &Context<'_>) -> ValueRef<'a> {
-        ValueRef::OneTexture(TextureMember {
-            name: "thicknessTexture",
-            fault: reference_fault(&self.thickness_texture, context),
-        })
+        ValueRef::OneTexture(
+            member_state(&self.thickness_texture, context),
+            MemberName(&"thicknessTexture"),
+        )
     }
 }
 
@@ -128,14 +124,10 @@ impl Visitable for Specular {
     #[tactic(auto, unfolding(gltf_shading::specs::MaterialExtension::specular_rows, gltf_textures::specs::Texture::info_rows, gltf_shading::specs::MaterialExtension::specular_members))]
     fn value_ref<'a>(&'a self, context: &Context<'_>) -> ValueRef<'a> {
         ValueRef::TwoTextures(
-            TextureMember {
-                name: "specularTexture",
-                fault: reference_fault(&self.specular_texture, context),
-            },
-            TextureMember {
-                name: "specularColorTexture",
-                fault: reference_fault(&self.specular_color_texture, context),
-            },
+            member_state(&self.specular_texture, context),
+            member_state(&self.specular_color_texture, context),
+            MemberName(&"specularTexture"),
+            MemberName(&"specularColorTexture"),
         )
     }
 }

@@ -9,11 +9,10 @@ use crate::always_valid::AlwaysValid;
 use crate::event::EventBuilder;
 use crate::events::Events;
 use crate::quiet::{Quiet, are_quiet, is_found_quiet, is_object_quiet};
-use crate::references::TextureReference;
+use crate::references::{ReferenceState, TextureReference, index_state};
 use crate::value_ref::ValueRef;
 use crate::visitable::Visitable;
-use gltf_base::validation::Error;
-use gltf_faults::{Context, HasContext, index_fault, source_fault};
+use gltf_faults::{Context, HasContext, source_fault};
 use gltf_textures::extensions::texture as extensions;
 use gltf_textures::extensions::texture::{
     TextureTransform, TextureTransformOffset, TextureTransformRotation, TextureTransformScale,
@@ -114,14 +113,14 @@ impl Visitable for Info {
     ghost tree = { λ v. closed_object (info_members v) };
 
     fn value_ref<'a>(&'a self, context: &Context<'_>) -> ValueRef<'a> {
-        ValueRef::TextureReference(self.index_error(context))
+        ValueRef::TextureReference(self.state(context))
     }
 }
 
 impl TextureReference for Info {
     #[tactic(auto, unfolding(gltf_textures::specs::Texture::info_rows, gltf_textures::specs::Texture::info_extension_rows, gltf_textures::specs::Texture::texture_transform_rows, gltf_textures::specs::Texture::info_members))]
-    fn index_error(&self, context: &Context<'_>) -> Option<Error> {
-        index_fault(&self.index, context.root)
+    fn state(&self, context: &Context<'_>) -> ReferenceState {
+        index_state(&self.index, context)
     }
 }
 

@@ -15,7 +15,7 @@ use crate::lists::{
 use crate::material::{MaterialFaults, in_material, is_material_quiet};
 use crate::quiet::Quiet;
 use crate::references::{
-    TextureMember, in_one_texture, in_reference, in_two_textures, is_reference_quiet,
+    MemberName, ReferenceState, in_one_texture, in_reference, in_two_textures,
 };
 use gltf_animations::animation::{Animation, Channel, Sampler as AnimationSampler, Target};
 use gltf_base::Index;
@@ -75,12 +75,13 @@ pub enum ValueRef<'a> {
     Materials(&'a Vec<Material>),
     /// What is wrong in the members of a material, with its extensions; or extensions alone. One
     /// variant for both: the compiler limits what references reach (docs/DECISIONS.md).
-    Material(Option<MaterialFaults>, Option<&'a MaterialExtensions>),
-    /// A reference to a texture, and the error of its index.
-    TextureReference(Option<Error>),
-    /// An object in which only references to textures can be wrong, in one member or in two.
-    OneTexture(TextureMember),
-    TwoTextures(TextureMember, TextureMember),
+    Material(Option<MaterialFaults>, &'a MaterialExtensions),
+    /// What is wrong in the members of a material without extensions.
+    PlainMaterial(MaterialFaults),
+    TextureReference(ReferenceState),
+    /// An object in which only references to textures can be wrong: one or two, with their names.
+    OneTexture(ReferenceState, MemberName),
+    TwoTextures(ReferenceState, ReferenceState, MemberName, MemberName),
     Meshes(&'a Vec<Mesh>),
     Mesh(&'a Mesh),
     Primitives(&'a Vec<Primitive>),
@@ -143,12 +144,23 @@ impl<'a> ValueRef<'a> {
             ValueRef::Textures(items) => item_at(items, number, context),
             ValueRef::Texture(object) => object.event(number, context),
             ValueRef::Materials(items) => item_at(items, number, context),
-            ValueRef::Material(faults, extensions) => in_material(
-                faults, extensions, number, context,
+            ValueRef::Material(Some(faults), extensions) => in_material(
+                faults,
+                Some(extensions),
+                number,
+                context,
             ),
-            ValueRef::TextureReference(error) => in_reference(error, number),
-            ValueRef::OneTexture(member) => in_one_texture(member, number),
-            ValueRef::TwoTextures(first, second) => in_two_textures(first, second, number),
+            ValueRef::Material(None, extensions) => extensions.event(number, context),
+            ValueRef::PlainMaterial(faults) => in_material(faults, None, number, context),
+            ValueRef::TextureReference(state) => in_reference(state, number),
+            ValueRef::OneTexture(state, name) => in_one_texture(state, name, number),
+            ValueRef::TwoTextures(first, second, first_name, second_name) => in_two_textures(
+                first,
+                second,
+                first_name,
+                second_name,
+                number,
+            ),
             ValueRef::Meshes(items) => item_at(items, number, context),
             ValueRef::Mesh(object) => object.event(number, context),
             ValueRef::Primitives(items) => item_at(items, number, context),
@@ -192,9 +204,10 @@ impl<'a> ValueRef<'a> {
             ValueRef::Texture(item) => item.is_quiet(context),
             ValueRef::Material(Some(faults), extensions) => is_material_quiet(
                 faults,
-                *extensions,
+                Some(*extensions),
                 context,
             ),
+            ValueRef::PlainMaterial(faults) => is_material_quiet(faults, None, context),
             ValueRef::Mesh(item) => item.is_quiet(context),
             ValueRef::Primitive(item) => item.is_quiet(context),
             ValueRef::MorphTarget(item) => item.is_quiet(context),
@@ -218,11 +231,9 @@ impl<'a> ValueRef<'a> {
         match self {
             ValueRef::Leaf(fault) => fault.is_none(),
             ValueRef::Attribute(key, index) => key.is_none() && index.is_none(),
-            ValueRef::TextureReference(error) => error.is_none(),
-            ValueRef::OneTexture(member) => is_reference_quiet(member.fault),
-            ValueRef::TwoTextures(first, second) => {
-                is_reference_quiet(first.fault) && is_reference_quiet(second.fault)
-            }
+            ValueRef::TextureReference(state) => state.is_quiet(),
+            ValueRef::OneTexture(state, _) => state.is_quiet(),
+            ValueRef::TwoTextures(first, second, ..) => first.is_quiet() && second.is_quiet(),
             _ => false,
         }
     }

@@ -3,9 +3,17 @@
 
 mod clean;
 mod fault;
+mod held;
 mod item;
 mod push;
+mod refused;
+mod replace;
+mod report;
+mod reported;
+mod set;
 
 pub use clean::Clean;
 pub use item::Item;
 pub use push::CleanError;
+pub use refused::Refused;
+pub use report::Report;

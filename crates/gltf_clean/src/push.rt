@@ -112,7 +112,7 @@ fn push_clean<T: Item>(
 }
 
 /// Takes the last item out of its list again, and with it what was missing by the mark.
-fn taken_back<T: Item>(root: &mut Root, mark: Mark) -> T
+pub(crate) fn taken_back<T: Item>(root: &mut Root, mark: Mark) -> T
     requires { (T.items root.old ≡ []) → ⊥ }
     ensures item { last_or None (T.items root.old) ≡ Some result }
     ensures document { root_tree root.new ≡ undone T.list mark (root_tree root.old) }

@@ -1,10 +1,10 @@
 -- What a run wrote, from how its document was read and what the writer took.
-use Rattle.std.proofs.Common.{◌≡◌, ◌⊎◌, inl, inr, ℕ, List, Bool, true, Option, None, IfSome, IsSomeAnd, Result, Ok, Err, refl, sym, ◌∙◌, subst}
+use Rattle.std.proofs.Common.{◌≡◌, ◌⊎◌, inl, inr, ℕ, List, Bool, true, Option, None, Some, IfSome, IsSomeAnd, Result, Ok, Err, refl, sym, ◌∙◌, subst}
 use Rattle.std.proofs.lemmas.Bool.{true≢false}
 use Rattle.gltf_paths.specs.declared.error.Error.{Error}
 use Rattle.gltf_paths.specs.declared.error.Error.TheVariants.{Json, Schema, InvalidItem, Read, Write, Memory, TooLong}
 use Rattle.gltf_root.specs.Answer.{no_json, no_document, document, answer, IsReadAnswer, IsReading}
-use Rattle.gltf_devices.specs.Device.{Seen, IsWithin}
+use Rattle.gltf_devices.specs.Device.{Seen, IsWithin, AppendsFront}
 use Rattle.gltf_faults.specs.Context.{Rules}
 use Rattle.gltf_root.specs.Root.{root_tree}
 use Rattle.gltf_root.specs.declared.root.Root.{Root}
@@ -41,14 +41,23 @@ none-or-read rules bytes calls seen (Err Write) h = inl refl
 none-or-read rules bytes calls seen (Err TooLong) h = inl refl
 none-or-read rules bytes calls seen (Err InvalidItem) h = inl refl
 
--- what holds of the output of a reading that is known
-pub output-known : (rules : Rules) (r known : Result Root Error) (P : Output → Type 0) → r ≡ known → IsSomeAnd (reading_output rules known) P → IsSomeAnd (reading_output rules r) P
-output-known rules r known P is h = subst (λ (x : Result Root Error). IsSomeAnd (reading_output rules x) P) (sym is) h
+-- what was done with what an outcome says was done with the refusal, or with the output of its reading
+pub said-either : (P : Output → Type 0) (due : Option Output) (said : Output) → (due ≡ Some said) ⊎ (said ≡ refusal) → P said → P refusal ⊎ IsSomeAnd due P
+said-either P due said (inl is) h = inr (subst (λ (x : Option Output). IsSomeAnd x P) (sym is) h)
+said-either P due said (inr is) h = inl (subst P is h)
 
 -- the same either way
 pub same-either : {A : Type 0} → A ⊎ A → A
 same-either (inl a) = a
 same-either (inr a) = a
+
+-- what was written of an outcome that is the refusal
+pub said-refusal : (old new : Option (List ℕ)) (status : ℕ) (said : Output) → said ≡ refusal → (status ≡ said.status) ⊎ (status ≡ 4) → AppendsFront old new said.text
+    → (status ≡ 4) × AppendsFront old new refusal.text
+said-refusal old new status said is either front = (
+  same-either (subst (λ (x : Output). (status ≡ x.status) ⊎ (status ≡ 4)) is either),
+  subst (λ (x : Output). AppendsFront old new x.text) is front,
+)
 
 -- of two things one of which holds, the one holds where the other doesn't
 first-of : {A B : Type 0} → A ⊎ B → (B → ⊥) → A

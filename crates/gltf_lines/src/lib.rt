@@ -14,12 +14,11 @@ use gltf_schema::Error;
 use std::alloc::Global;
 
 mod lines;
+mod outcome;
 mod writing;
 
-use lines::lines_of;
-use writing::write_output;
-
-const REFUSAL: &str = "refused: input or output\n";
+pub use outcome::Outcome;
+use writing::write_outcome;
 
 /// Reads a document to its end and writes a line for each report, `clean` if there is none, or why
 /// the document was refused. It returns the exit status:
@@ -83,14 +82,6 @@ fn answer<W: ByteOut>(
         IsWritten due (W.taken writer.old) (W.taken writer.new)
         (W.has_failed writer.old) (W.has_failed writer.new) result) }
 {
-    match reading {
-        Ok(root) => match lines_of(alloc, rules, root) {
-            Ok(lines) if lines.is_empty() => write_output(writer, "clean\n", 0),
-            Ok(lines) => write_output(writer, &lines, 1),
-            Err(_) => write_output(writer, REFUSAL, 4),
-        },
-        Err(Error::Json) => write_output(writer, "refused: not JSON\n", 2),
-        Err(Error::Schema) => write_output(writer, "refused: not a glTF document\n", 3),
-        Err(_) => write_output(writer, REFUSAL, 4),
-    }
+    let outcome = Outcome::of_reading(alloc, rules, reading);
+    write_outcome(writer, &outcome)
 }

@@ -1,0 +1,55 @@
+/* glTF 2.0 documents, checked and written anew. The calls are proved; docs/C.md says what of them,
+ * how a program is linked, and what it owes them.
+ *
+ * All calls: a pointer is never NULL, also where its length is 0. `output` overlaps no other
+ * argument. A call keeps no pointer and no memory after it returns. */
+#ifndef GLTF_C_H
+#define GLTF_C_H
+
+#include <stdbool.h>
+#include <stddef.h>
+#include <stdint.h>
+
+#ifdef __cplusplus
+extern "C" {
+#endif
+
+/* The statuses. Each call says which of them it returns. */
+enum {
+    GLTF_C_OK = 0,           /* no report, or written */
+    GLTF_C_REPORTS = 1,      /* the document has reports */
+    GLTF_C_NOT_JSON = 2,     /* the bytes are no JSON */
+    GLTF_C_NOT_GLTF = 3,     /* the JSON is no glTF document */
+    GLTF_C_NO_MEMORY = 4,    /* memory was refused */
+    GLTF_C_INVALID_ITEM = 5, /* a choice or the name of an attribute is invalid */
+    GLTF_C_NOT_TEXT = 6      /* the names of extensions are no UTF-8 */
+};
+
+/* What a call returns beside its output. The first bytes of the output are in the buffer, as many
+ * as it has room for, and what lies behind them is as it was. No zero is added. */
+typedef struct gltf_c_returned {
+    uint8_t status;
+    size_t needed; /* how many bytes the whole output has */
+} gltf_c_returned;
+
+/* Checks a document. The output is what `gltf_report` prints: `clean` (status 0), a line for each
+ * report (1), or why the document was refused (2, 3, 4). */
+gltf_c_returned gltf_c_check(const uint8_t *document, size_t document_len,
+                             uint8_t *output, size_t output_len);
+
+/* Checks a document by rules: the names of the extensions that it may require, one a line, and
+ * whether a texture may be without an image. The status is also 6, without output. */
+gltf_c_returned gltf_c_check_by(const uint8_t *document, size_t document_len,
+                                const uint8_t *names, size_t names_len,
+                                bool empty_texture,
+                                uint8_t *output, size_t output_len);
+
+/* Writes a document anew, in one line (status 0). Without output the status is 2, 3, 4 or 5. */
+gltf_c_returned gltf_c_rewrite(const uint8_t *document, size_t document_len,
+                               uint8_t *output, size_t output_len);
+
+#ifdef __cplusplus
+}
+#endif
+
+#endif

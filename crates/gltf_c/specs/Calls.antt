@@ -1,0 +1,49 @@
+-- What the calls return.
+use Rattle.std.specs.Prelude.{◌≡◌, ◌⊎◌, true, ℕ, Bool, List, Result, Ok, Err, ⊤}
+use Rattle.std.specs.Str.Lines.{lines}
+use Rattle.std.specs.Global.{Vec}
+use Rattle.gltf_schema.specs.Invalid.{holds_invalid}
+use Rattle.gltf_schema.specs.Tree.{Tree}
+use Rattle.gltf_paths.specs.declared.error.Error.{Error}
+use Rattle.gltf_paths.specs.declared.error.Error.TheVariants as errors
+use Rattle.gltf_root.specs.Answer.{Answer, no_json, no_document, document}
+use Rattle.gltf_root.specs.Written.{IsCompactOf, IsReadBack}
+use Rattle.gltf_faults.specs.Context.{Rules}
+use Rattle.gltf_lines.specs.Output.{Output, output, refusal}
+use Rattle.gltf_c.specs.Filled.{IsFilled}
+use Rattle.gltf_c.specs.declared.returned.Returned.{Returned}
+
+-- rules of a caller in C: whether a texture may be without an image, and the names of the
+-- extensions that a document may require, one a line
+abbrev pub given_rules : Bool → List ℕ → Rules
+given_rules empty_texture names = record { empty_texture = empty_texture; enabled = lines names }
+
+-- a call returned an output: its text in the buffer, with its length, and its status
+abbrev pub IsGiven : Output → List ℕ → List ℕ → Returned → Type 0
+IsGiven due old new returned = (returned.status ≡ due.status) × IsFilled due.text old new returned.needed
+
+-- a call returned what a run writes for a document, or that memory was refused
+abbrev pub IsChecked : Rules → List ℕ → List ℕ → List ℕ → Returned → Type 0
+IsChecked rules bytes old new returned =
+    IsGiven (output rules bytes) old new returned ⊎ IsGiven refusal old new returned
+
+-- a document was written, with these bytes
+abbrev pub IsWritingOf : Answer → List ℕ → Type 0
+IsWritingOf due bytes = (t : Tree) × (due ≡ document t) × IsCompactOf t bytes × IsReadBack t bytes
+
+-- a document was read in which something is invalid, so that it can't be written
+abbrev pub IsUnwritable : Answer → Type 0
+IsUnwritable due = (t : Tree) × (due ≡ document t) × (holds_invalid t ≡ true)
+
+-- a document was read and written, or why not
+abbrev pub IsRewriting : Answer → Result (Vec ℕ) Error → Type 0
+IsRewriting due (Ok bytes) = IsWritingOf due bytes.items
+IsRewriting due (Err errors.Json) = due ≡ no_json
+IsRewriting due (Err errors.Schema) = due ≡ no_document
+IsRewriting due (Err errors.InvalidItem) = IsUnwritable due
+IsRewriting due (Err (errors.Memory e)) = ⊤
+IsRewriting due (Err _) = ⊥
+
+-- a call wrote a document anew, as far as the buffer has room
+abbrev pub IsRewritten : Answer → List ℕ → List ℕ → ℕ → Type 0
+IsRewritten due old new needed = (bytes : List ℕ) × IsWritingOf due bytes × IsFilled bytes old new needed

@@ -1,0 +1,120 @@
+//! glTF documents for programs in C and in languages that call C: checked, and written anew.
+//! `include/gltf_c.h` declares the calls for C, and `docs/C.md` says how a program is linked.
+//!
+//! A slice is a pointer and then a length to a caller in C, and an allocator is no argument. Each
+//! call returns its status, and how many bytes its output has. It writes as much of the output as
+//! there is room for to the front of the caller's buffer, and leaves the rest as it was.
+#![tactic(auto)]
+
+ghost use Rattle.std.specs.Prelude.{◌≡◌, ◌≢◌, ◌≤◌, [], IsUtf8};
+ghost use Rattle.gltf_root.specs.Answer.{answer, no_json, no_document};
+ghost use Rattle.gltf_faults.specs.Context.{standard_rules};
+ghost use Rattle.gltf_c.specs.Calls.{IsChecked, IsRewritten, IsUnwritable, given_rules};
+ghost use Rattle.gltf_c.specs.Filled.{IsFilled};
+
+use gltf_faults::Rules;
+use gltf_lines::Outcome;
+use gltf_schema::Error;
+use std::alloc::Global;
+use std::str::from_utf8;
+
+mod returned;
+#[cfg(test)]
+mod tests;
+mod work;
+
+pub use returned::Returned;
+use returned::{fill, refuse, tell};
+use work::{check, lines_in, rewritten};
+
+const WRITTEN: u8 = 0;
+
+const NOT_JSON: u8 = 2;
+
+const NOT_DOCUMENT: u8 = 3;
+
+const NO_MEMORY: u8 = 4;
+
+const INVALID_ITEM: u8 = 5;
+
+const NOT_TEXT: u8 = 6;
+
+/// Checks a document, and puts out what `gltf_report` prints for it.
+///
+/// | Status | Output |
+/// |---|---|
+/// | 0 | `clean` |
+/// | 1 | a line `path: error` for each report, in order |
+/// | 2 | `refused: not JSON` |
+/// | 3 | `refused: not a glTF document` |
+/// | 4 | `refused: input or output`, if memory was refused |
+#[unsafe(no_mangle)]
+pub extern "C" fn gltf_c_check(alloc: Global, document: &[u8], output: &mut [u8]) -> Returned
+    ensures { IsChecked standard_rules document.now output.old output.new result }
+{
+    check(alloc, &Rules::new(), document, output)
+}
+
+/// Checks a document by the caller's rules: whether a texture may be without an image, and the
+/// names of the extensions that a document may require, one a line. A newline at the end of the
+/// names adds no name. The status 6 and no output come if and only if the names are no UTF-8; other
+/// results are those of [`gltf_c_check`].
+#[unsafe(no_mangle)]
+pub extern "C" fn gltf_c_check_by(
+    alloc: Global,
+    document: &[u8],
+    names: &[u8],
+    empty_texture: bool,
+    output: &mut [u8],
+) -> Returned
+    ensures checked { IsUtf8 names.now → IsChecked (given_rules empty_texture names.now)
+        document.now output.old output.new result }
+    ensures no_names { ¬ (IsUtf8 names.now) → (result.status ≡ 6)
+        × IsFilled [] output.old output.new result.needed }
+{
+    let Ok(names) = from_utf8(names) else {
+        return refuse(NOT_TEXT);
+    };
+    match lines_in(alloc, names) {
+        Ok(enabled) => {
+            let rules = Rules {
+                empty_texture,
+                enabled: &enabled,
+            };
+            check(alloc, &rules, document, output)
+        }
+        Err(_) => tell(&Outcome::GivenUp, output),
+    }
+}
+
+/// Writes a document anew: in one line, without blanks between its tokens, and with each default of
+/// the format left out or put in as `Root::to_vec` does. Output comes with the status 0 alone.
+///
+/// | Status | Meaning |
+/// |---|---|
+/// | 0 | the document was written |
+/// | 2 | the bytes are no JSON |
+/// | 3 | the JSON is no glTF document |
+/// | 4 | memory was refused |
+/// | 5 | a choice or the name of an attribute is invalid |
+#[unsafe(no_mangle)]
+pub extern "C" fn gltf_c_rewrite(alloc: Global, document: &[u8], output: &mut [u8]) -> Returned
+    ensures written { result.status ≡ 0
+        → IsRewritten (answer document.now) output.old output.new result.needed }
+    ensures nothing { result.status ≢ 0 → IsFilled [] output.old output.new result.needed }
+    ensures not_json { result.status ≡ 2 → answer document.now ≡ no_json }
+    ensures not_document { result.status ≡ 3 → answer document.now ≡ no_document }
+    ensures invalid { result.status ≡ 5 → IsUnwritable (answer document.now) }
+    ensures status { (result.status ≢ 1) × (result.status ≤ 5) }
+{
+    match rewritten(alloc, document) {
+        Ok(bytes) => Returned {
+            status: WRITTEN,
+            needed: fill(output, &bytes),
+        },
+        Err(Error::Json) => refuse(NOT_JSON),
+        Err(Error::Schema) => refuse(NOT_DOCUMENT),
+        Err(Error::InvalidItem) => refuse(INVALID_ITEM),
+        Err(_) => refuse(NO_MEMORY),
+    }
+}

@@ -1,0 +1,111 @@
+//! That the calls succeed with ample memory, and what buffers with little room hold then.
+
+use crate::returned::Returned;
+use crate::{gltf_c_check, gltf_c_check_by, gltf_c_rewrite};
+use std::alloc::Global;
+
+const CLEAN: &[u8] = b"{\"asset\": {\"version\": \"2.0\"}, \"nodes\": []}\n";
+
+const REWRITTEN: &str = "{\"asset\":{\"version\":\"2.0\"}}";
+
+const LIGHTS: &[u8] =
+    b"{\"asset\":{\"version\":\"2.0\"},\"extensionsRequired\":[\"KHR_lights_punctual\"]}";
+
+const UNSUPPORTED: &str =
+    "extensionsRequired[0] = \"KHR_lights_punctual\": Unsupported extension\n";
+
+const INVALID: &[u8] =
+    b"{\"asset\":{\"version\":\"2.0\"},\"accessors\":[{\"count\":1,\"componentType\":5126,\"type\":\"VEC5\"}]}";
+
+const FAULTS: &str = "accessors[0].type: Invalid value\naccessors[0].bufferView: Missing data\n";
+
+const ROOM: usize = 100;
+
+/// Whether a call returned a status and the length of a text, and wrote the text to the front of a
+/// buffer of points, as far as there is room.
+fn is_put(returned: Returned, status: u8, buffer: &[u8], text: &str) -> bool {
+    let bytes = text.as_bytes();
+    let count = bytes.len().min(buffer.len());
+    returned.status == status
+        && returned.needed == bytes.len()
+        && buffer[..count] == bytes[..count]
+        && buffer[count..].iter().all(|byte| *byte == b'.')
+}
+
+fn checks_as(alloc: Global, document: &[u8], room: usize, status: u8, text: &str) -> bool {
+    let mut buffer = [b'.'; ROOM];
+    let Some(output) = buffer.get_mut(..room) else {
+        return false;
+    };
+    let returned = gltf_c_check(alloc, document, output);
+    is_put(returned, status, output, text)
+}
+
+fn checks_by(alloc: Global, names: &[u8], status: u8, text: &str) -> bool {
+    let mut buffer = [b'.'; ROOM];
+    let returned = gltf_c_check_by(alloc, LIGHTS, names, false, &mut buffer);
+    is_put(returned, status, &buffer, text)
+}
+
+fn rewrites_as(alloc: Global, document: &[u8], room: usize, status: u8, text: &str) -> bool {
+    let mut buffer = [b'.'; ROOM];
+    let Some(output) = buffer.get_mut(..room) else {
+        return false;
+    };
+    let returned = gltf_c_rewrite(alloc, document, output);
+    is_put(returned, status, output, text)
+}
+
+#[test]
+fn documents_are_checked(rt: HostRuntime) {
+    let alloc = rt.alloc();
+    assert!(rt; checks_as(alloc, CLEAN, ROOM, 0, "clean\n"));
+    assert!(rt; checks_as(alloc, LIGHTS, ROOM, 0, "clean\n"));
+    assert!(rt; checks_as(alloc, INVALID, ROOM, 1, FAULTS));
+    assert!(rt; checks_as(alloc, b"", ROOM, 2, "refused: not JSON\n"));
+    assert!(rt; checks_as(alloc, b"{}", ROOM, 3, "refused: not a glTF document\n"));
+}
+
+#[test]
+fn names_decide(rt: HostRuntime) {
+    let alloc = rt.alloc();
+    assert!(rt; checks_by(alloc, b"", 1, UNSUPPORTED));
+    assert!(rt;
+        checks_by(
+            alloc,
+            b"KHR_materials_ior\nKHR_lights_punctual",
+            0,
+            "clean\n"
+        )
+    );
+    assert!(rt; checks_by(alloc, b"KHR_lights_punctual\n", 0, "clean\n"));
+    assert!(rt;
+        checks_by(
+            alloc,
+            b"KHR_lights_punctual KHR_materials_ior",
+            1,
+            UNSUPPORTED
+        )
+    );
+    assert!(rt; checks_by(alloc, b"\xff", 6, ""));
+}
+
+#[test]
+fn documents_are_written_anew(rt: HostRuntime) {
+    let alloc = rt.alloc();
+    assert!(rt; rewrites_as(alloc, CLEAN, ROOM, 0, REWRITTEN));
+    assert!(rt; rewrites_as(alloc, b"", ROOM, 2, ""));
+    assert!(rt; rewrites_as(alloc, b"{}", ROOM, 3, ""));
+    assert!(rt; rewrites_as(alloc, INVALID, ROOM, 5, ""));
+}
+
+#[test]
+fn little_room_takes_the_first_bytes(rt: HostRuntime) {
+    let alloc = rt.alloc();
+    for room in 0..7 {
+        assert!(rt; checks_as(alloc, CLEAN, room, 0, "clean\n"), "{room}");
+    }
+    for room in [0, 1, REWRITTEN.len() - 1, REWRITTEN.len()] {
+        assert!(rt; rewrites_as(alloc, CLEAN, room, 0, REWRITTEN), "{room}");
+    }
+}

@@ -1,0 +1,84 @@
+/* Checks a glTF document, or writes it anew.
+ *
+ *   check FILE          prints what is wrong in a document
+ *   check FILE NAMES    the same, if it may require the extensions NAMES alone, one a line
+ *   check -w FILE       writes the document anew
+ *
+ * The exit status is that of the call. tools/run_c.py builds and runs this program. */
+#include "gltf_c.h"
+
+#include <stdio.h>
+#include <stdlib.h>
+#include <string.h>
+
+/* Room for most outputs. A longer one is asked for again, with as much room as it needs. */
+#define ROOM 80
+
+typedef struct {
+    uint8_t *document;
+    size_t len;
+    const char *names; /* NULL for the standard rules */
+    bool rewrites;
+} Request;
+
+static gltf_c_returned ask(const Request *request, uint8_t *output, size_t room)
+{
+    if (request->rewrites)
+        return gltf_c_rewrite(request->document, request->len, output, room);
+    if (request->names)
+        return gltf_c_check_by(request->document, request->len, (const uint8_t *)request->names,
+                               strlen(request->names), false, output, room);
+    return gltf_c_check(request->document, request->len, output, room);
+}
+
+/* Reads a whole file. The result is not NULL if the file is empty. */
+static uint8_t *read_file(const char *path, size_t *len)
+{
+    FILE *file = fopen(path, "rb");
+    uint8_t *bytes = NULL;
+    size_t room = 0;
+    *len = 0;
+    while (file && !ferror(file) && !feof(file)) {
+        if (*len == room) {
+            room = room ? 2 * room : 4096;
+            uint8_t *longer = realloc(bytes, room);
+            if (!longer)
+                break;
+            bytes = longer;
+        }
+        *len += fread(bytes + *len, 1, room - *len, file);
+    }
+    if (!file || !feof(file)) {
+        fprintf(stderr, "%s can't be read\n", path);
+        exit(7);
+    }
+    fclose(file);
+    return bytes;
+}
+
+int main(int argc, char **argv)
+{
+    if (argc < 2 || argc > 3) {
+        fputs("check FILE, check FILE NAMES or check -w FILE\n", stderr);
+        return 7;
+    }
+    Request request = { .rewrites = argc == 3 && strcmp(argv[1], "-w") == 0 };
+    request.names = argc == 3 && !request.rewrites ? argv[2] : NULL;
+    request.document = read_file(argv[request.rewrites ? 2 : 1], &request.len);
+
+    uint8_t first[ROOM];
+    uint8_t *output = first;
+    gltf_c_returned returned = ask(&request, first, ROOM);
+    if (returned.needed > ROOM) {
+        size_t room = returned.needed;
+        output = malloc(room);
+        if (!output)
+            return GLTF_C_NO_MEMORY;
+        returned = ask(&request, output, room);
+    }
+    fwrite(output, 1, returned.needed, stdout);
+    if (output != first)
+        free(output);
+    free(request.document);
+    return returned.status;
+}

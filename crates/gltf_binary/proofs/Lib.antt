@@ -1,0 +1,4 @@
+pub mod Steps
+pub mod Others
+pub mod Takes
+pub mod Again

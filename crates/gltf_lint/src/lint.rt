@@ -1,0 +1,98 @@
+//! One file after the other.
+
+use crate::arguments::Options;
+use crate::document::document_of;
+use crate::files::{Entries, Kind, read};
+use crate::lines::{Found, found_in};
+use crate::messages::{refusal_line, summary_line};
+use crate::refusal::Refusal;
+use crate::tally::Tally;
+use anyhow::Result;
+
+/// What is still to be checked, and what was found so far.
+#[derive(Drop)]
+pub struct Linter<'a> {
+    rt: &'a HostRuntime,
+    options: Options<'a>,
+    /// Paths, of which the first one is at the end.
+    waiting: Vec<(String, Kind)>,
+    tally: Tally,
+}
+
+impl<'a> Linter<'a> {
+    pub fn new(rt: &'a HostRuntime, options: Options<'a>) -> Linter<'a> {
+        Linter {
+            rt,
+            options,
+            waiting: Vec::new(rt.alloc()),
+            tally: Tally::new(),
+        }
+    }
+
+    /// Checks what these arguments name, in their order, and prints the reports.
+    pub fn check_all(&mut self, names: &[&str]) -> Result<()> {
+        for name in names.iter().rev() {
+            let path = String::from_str(self.rt.alloc(), name)?;
+            self.waiting.push((path, Kind::of_argument(self.rt, name)))?;
+        }
+        for _ in 0..u64::MAX {
+            match self.waiting.pop() {
+                Some((path, Kind::File)) => self.check(&path)?,
+                Some((path, Kind::Folder)) => self.expand(&path)?,
+                None => break,
+            }
+        }
+        Ok(())
+    }
+
+    /// Prints the summary, and returns the exit status.
+    pub fn finish(&self) -> Result<u8> {
+        let line = summary_line(self.rt.alloc(), self.options.format, &self.tally)?;
+        self.rt.print(line.as_str())?;
+        Ok(self.tally.status())
+    }
+
+    /// Puts what is in a folder in front, in order of names.
+    fn expand(&mut self, folder: &str) -> Result<()> {
+        match Entries::of(self.rt, folder) {
+            Ok(entries) => {
+                for error in entries.errors {
+                    self.refuse(folder, &Refusal::Unreadable(error))?;
+                }
+                for entry in entries.found.into_iter().rev() {
+                    self.waiting.push(entry)?;
+                }
+                Ok(())
+            }
+            Err(error) => self.refuse(folder, &Refusal::Unreadable(error)),
+        }
+    }
+
+    /// Checks a file, and prints its reports.
+    fn check(&mut self, path: &str) -> Result<()> {
+        match self.found(path) {
+            Ok(found) => {
+                self.rt.print(found.lines.as_str())?;
+                self.tally.add_checked(found.faults);
+                Ok(())
+            }
+            Err(refusal) => self.refuse(path, &refusal),
+        }
+    }
+
+    /// What is wrong in a file.
+    fn found(&self, path: &str) -> Result<Found, Refusal> {
+        let alloc = self.rt.alloc();
+        let bytes = read(self.rt, path)?;
+        let root = document_of(alloc, path, &bytes)?;
+        Ok(found_in(alloc, &self.options, path, &root)?)
+    }
+
+    /// Prints why a path is refused.
+    fn refuse(&mut self, path: &str, refusal: &Refusal) -> Result<()> {
+        let line = refusal_line(self.rt.alloc(), self.options.format, path, refusal)?;
+        self.rt.print(line.as_str())?;
+        self.tally.add_refused();
+        Ok(())
+    }
+}

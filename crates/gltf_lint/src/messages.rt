@@ -1,0 +1,56 @@
+//! The lines that are no reports.
+
+use crate::arguments::Format;
+use crate::refusal::Refusal;
+use crate::reports::push_value;
+use crate::tally::Tally;
+use serde_json::{Value, json};
+use std::alloc::{AllocError, Global};
+use std::fmt::Write;
+
+/// A refusal as a JSON object. The line and the column are null if no place is known.
+fn refusal_value(alloc: Global, file: &str, refusal: &Refusal) -> Result<Value, AllocError> {
+    let (line, column) = refusal.place().unzip();
+    json!(in alloc; {
+        "code": refusal.code(),
+        "column": column,
+        "file": file,
+        "line": line,
+        "message": refusal.to_string(alloc)?
+    })
+}
+
+/// The line for a file that is refused.
+pub fn refusal_line(
+    alloc: Global,
+    format: Format,
+    file: &str,
+    refusal: &Refusal,
+) -> Result<String, AllocError> {
+    let mut line = String::new(alloc);
+    match format {
+        Format::Text => writeln!(line, "{file}: refused: {refusal}")?,
+        Format::Json => push_value(alloc, &mut line, &refusal_value(alloc, file, refusal)?)?,
+    }
+    Ok(line)
+}
+
+/// The counts as a JSON object.
+fn summary_value(alloc: Global, tally: &Tally) -> Result<Value, AllocError> {
+    json!(in alloc; {
+        "faults": tally.faults,
+        "files": tally.files,
+        "refused": tally.refused
+    })
+}
+
+/// The line behind those of all files.
+pub fn summary_line(alloc: Global, format: Format, tally: &Tally) -> Result<String, AllocError> {
+    let mut line = String::new(alloc);
+    let (files, faults, refused) = (tally.files, tally.faults, tally.refused);
+    match format {
+        Format::Text => writeln!(line, "files: {files}, faults: {faults}, refused: {refused}")?,
+        Format::Json => push_value(alloc, &mut line, &summary_value(alloc, tally)?)?,
+    }
+    Ok(line)
+}

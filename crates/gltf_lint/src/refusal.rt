@@ -1,0 +1,56 @@
+//! Why a file is refused.
+
+use gltf_schema::Error as DocumentError;
+use std::alloc::AllocError;
+use std::io;
+use thiserror::Error;
+
+/// Why a file is refused.
+#[derive(Debug, Drop, Error)]
+pub enum Refusal {
+    /// It can't be opened, or it is a folder that can't be read.
+    #[error("{0}")]
+    Unreadable(io::Error),
+    /// It could be opened, but reading it failed or did not come to an end.
+    #[error("{0}")]
+    Unread(DocumentError),
+    /// It is no container of binary glTF.
+    #[error("not binary glTF: {0}")]
+    Container(gltf_binary::Error),
+    /// Its text is no JSON.
+    #[error("not JSON: {0}")]
+    Json(serde_json::Error),
+    /// Its JSON is no glTF document.
+    #[error("JSON, but not a glTF document")]
+    Schema,
+    /// Memory was refused.
+    #[error("out of memory")]
+    Memory,
+}
+
+impl Refusal {
+    /// A name of the refusal for machines, in lowercase letters and hyphens.
+    pub fn code(&self) -> &'static str {
+        match self {
+            Refusal::Unreadable(_) | Refusal::Unread(_) => "unreadable",
+            Refusal::Container(_) => "not-glb",
+            Refusal::Json(_) => "not-json",
+            Refusal::Schema => "not-gltf",
+            Refusal::Memory => "out-of-memory",
+        }
+    }
+
+    /// The line and the column at which the text is no JSON.
+    pub fn place(&self) -> Option<(usize, usize)> {
+        match self {
+            Refusal::Json(error) => Some((error.line(), error.column())),
+            _ => None,
+        }
+    }
+}
+
+impl From<AllocError> for Refusal {
+    fn from(_refused: AllocError) -> Refusal {
+        Refusal::Memory
+    }
+}

@@ -248,6 +248,9 @@ class Reader:
         """Goes past the words before `fn`, `impl` or `trait`."""
         while scanner.word() in ("unsafe", "extern", "const") and self.is_modifier(scanner):
             scanner.take(scanner.word())
+            if scanner.text[scanner.at] == '"':  # the "C" of `extern "C"`
+                scanner.at = scanner.text.index('"', scanner.at + 1) + 1
+                scanner.blanks()
 
     def is_modifier(self, scanner):
         return re.match(r"\w+ (\"\w+\" )?(fn|impl|trait|unsafe|extern|const)\b",

@@ -1,9 +1,13 @@
 //! Prints for each document of `data/documents.jsonl`, below its title: the exit status and the
 //! output of a run over it, and what it is written as. `stdout` has what must be printed
 //! (docs/DECISIONS.md says from where). Then it prints where an object of the format differs from
-//! what the data expects of it (`objects.rt`).
+//! what the data expects of it (`objects.rt`), and last where the two ways of reading and writing
+//! differ (`cases.rt`).
 #![tactic(auto)]
 
+mod both;
+mod cases;
+mod kept;
 mod objects;
 
 use anyhow::Result;
@@ -71,5 +75,6 @@ fn print_documents(rt: &HostRuntime) -> Result<()> {
 
 fn main(rt: HostRuntime) -> Result<()> {
     print_documents(&rt)?;
-    objects::print_objects(&rt)
+    objects::print_objects(&rt)?;
+    cases::print_cases(&rt)
 }

@@ -35,7 +35,7 @@ fn set_member(
 }
 
 /// A document with a value, or none, as a member of the object at a place.
-fn with_member(
+pub fn with_member(
     alloc: Global,
     document: &Value,
     place: &str,
@@ -129,7 +129,7 @@ fn line_of(
 }
 
 /// Whether a text is the expected one. Prints both below a title if it isn't.
-fn is_text(
+pub fn is_text(
     rt: &HostRuntime,
     (place, name): (&str, &str),
     expected: &str,
@@ -197,7 +197,7 @@ fn are_same(
 }
 
 /// The object at a place.
-fn object_at<'a>(document: &'a Value, place: &str) -> Result<&'a Map<String, Value>> {
+pub fn object_at<'a>(document: &'a Value, place: &str) -> Result<&'a Map<String, Value>> {
     let object = document.pointer(place).and_then(Value::as_object);
     object.context("no object")
 }
@@ -278,7 +278,7 @@ fn are_fields_expected(rt: &HostRuntime, data: &Value) -> Result<bool> {
 }
 
 /// The list that is a member of a value.
-fn list_of<'a>(value: &'a Value, name: &str) -> Result<&'a [Value]> {
+pub fn list_of<'a>(value: &'a Value, name: &str) -> Result<&'a [Value]> {
     let list = value.get(name).and_then(Value::as_array);
     Ok(list.context("no list")?.as_slice())
 }

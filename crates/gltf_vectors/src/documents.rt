@@ -4,6 +4,7 @@
 mod built;
 mod clean;
 mod example;
+mod finished;
 mod hostile;
 mod lists;
 mod made;

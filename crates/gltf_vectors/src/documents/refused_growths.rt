@@ -2,8 +2,9 @@
 
 use super::{SIX, SIX_LINES, WRONG_LIGHTS};
 use crate::lines::hog::{End, Tried, refusal_count};
-use crate::writing::{Layout, bytes_of, is_line};
+use crate::writing::{Layout, bytes_of, is_line, write_into};
 use gltf_base::Steps;
+use gltf_json::root::Watched;
 use gltf_json::validation::{self, Collect, Stop, Validate};
 use gltf_json::{Error, Path, Root};
 use std::alloc::Global;
@@ -11,6 +12,13 @@ use std::test::Fail;
 
 const LIT_IN_LINES: &str =
     "{\n  \"asset\": {\n    \"version\": \"2.0\"\n  },\n  \"extensions\": {\n    \"KHR_lights_punctual\": {\n      \"lights\": [\n        {\n          \"type\": \"spot\"\n        }\n      ]\n    }\n  },\n  \"nodes\": [\n    {\n      \"extensions\": {\n        \"KHR_lights_punctual\": {\n          \"light\": 1\n        }\n      }\n    }\n  ]\n}";
+
+/// A document with objects that keep members before, between and behind those of their rows.
+const KEPT: &str =
+    r#"{"asset":{"version":"2.0"},"extensions":{"A":["x",{"y":0.5}],"KHR_lights_punctual":{"lights":[{"type":"spot"}]},"Z":-1},"materials":[{"alphaMode":"OPAQUE","doubleSided":false,"emissiveTexture":{"extensions":{"KHR_texture_transform":{"texCoord":null},"a":"é"},"index":0,"texCoord":0},"pbrMetallicRoughness":{}}],"nodes":[{"extensions":{"K":null,"KHR_lights_punctual":{"light":1}}}]}"#;
+
+const KEPT_IN_LINES: &str =
+    "{\n  \"asset\": {\n    \"version\": \"2.0\"\n  },\n  \"extensions\": {\n    \"A\": [\n      \"x\",\n      {\n        \"y\": 0.5\n      }\n    ],\n    \"KHR_lights_punctual\": {\n      \"lights\": [\n        {\n          \"type\": \"spot\"\n        }\n      ]\n    },\n    \"Z\": -1\n  },\n  \"materials\": [\n    {\n      \"alphaMode\": \"OPAQUE\",\n      \"doubleSided\": false,\n      \"emissiveTexture\": {\n        \"extensions\": {\n          \"KHR_texture_transform\": {\n            \"texCoord\": null\n          },\n          \"a\": \"é\"\n        },\n        \"index\": 0,\n        \"texCoord\": 0\n      },\n      \"pbrMetallicRoughness\": {}\n    }\n  ],\n  \"nodes\": [\n    {\n      \"extensions\": {\n        \"K\": null,\n        \"KHR_lights_punctual\": {\n          \"light\": 1\n        }\n      }\n    }\n  ]\n}";
 
 /// Reading a document from bytes, and what was read at last.
 #[derive(Drop)]
@@ -86,34 +94,84 @@ fn clones_without_memory(rt: HostRuntime) -> Result<(), Fail> {
     Ok(())
 }
 
-/// Writing a document as bytes, and the text that is due.
+/// How many bytes a writer has room for.
+const ROOM: usize = 4096;
+
+/// Writing a document as bytes and into a writer that has room for it, and the text that is due.
 #[derive(Drop)]
 struct Writing {
     root: Root,
     layout: Layout,
     due: &'static str,
+    taken: Option<Vec<u8>>,
 }
 
-impl Tried for Writing {
-    fn attempt(&mut self, alloc: Global) -> End {
+impl Writing {
+    /// How writing the document as bytes ends.
+    fn bytes_end(&self, alloc: Global) -> End {
         match bytes_of(alloc, &self.root, self.layout) {
             Ok(bytes) if bytes.as_slice() == self.due.as_bytes() => End::Whole,
             Err(Error::Memory(_)) => End::Refused,
             _ => End::Wrong,
         }
     }
+
+    /// How writing the document into the writer ends, which takes nothing if that is refused.
+    fn writer_end(&mut self, alloc: Global) -> End {
+        let Some(mut taken) = self.taken.take() else {
+            return End::Wrong;
+        };
+        taken.clear();
+        let mut writer = Watched::new(taken);
+        let ended = write_into(alloc, &self.root, self.layout, &mut writer);
+        let taken = writer.into_inner();
+        let end = match ended {
+            Ok(()) if taken.as_slice() == self.due.as_bytes() => End::Whole,
+            Err(Error::Memory(_)) if taken.is_empty() => End::Refused,
+            _ => End::Wrong,
+        };
+        self.taken = Some(taken);
+        end
+    }
 }
 
-/// How often writing the document in a layout is refused.
-fn refused_writings(alloc: Global, layout: Layout, due: &'static str) -> Result<usize, Fail> {
-    let root = Root::from_str(alloc, WRONG_LIGHTS)?;
-    refusal_count(alloc, &mut Writing { root, layout, due })
+impl Tried for Writing {
+    fn attempt(&mut self, alloc: Global) -> End {
+        match (self.bytes_end(alloc), self.writer_end(alloc)) {
+            (End::Whole, End::Whole) => End::Whole,
+            (End::Wrong, _) | (_, End::Wrong) => End::Wrong,
+            _ => End::Refused,
+        }
+    }
+}
+
+/// How often writing a document in a layout is refused.
+fn refused_writings(
+    alloc: Global,
+    line: &str,
+    layout: Layout,
+    due: &'static str,
+) -> Result<usize, Fail> {
+    let mut writing = Writing {
+        root: Root::from_str(alloc, line)?,
+        layout,
+        due,
+        taken: Some(Vec::with_capacity(alloc, ROOM)?),
+    };
+    refusal_count(alloc, &mut writing)
 }
 
 #[test]
 fn writings_without_memory(rt: HostRuntime) -> Result<(), Fail> {
-    assert!(rt; refused_writings(rt.alloc(), Layout::InOneLine, WRONG_LIGHTS)? > 0);
-    assert!(rt; refused_writings(rt.alloc(), Layout::InLines, LIT_IN_LINES)? > 0);
+    assert!(rt; refused_writings(rt.alloc(), WRONG_LIGHTS, Layout::InOneLine, WRONG_LIGHTS)? > 0);
+    assert!(rt; refused_writings(rt.alloc(), WRONG_LIGHTS, Layout::InLines, LIT_IN_LINES)? > 0);
+    Ok(())
+}
+
+#[test]
+fn writings_of_kept_members_without_memory(rt: HostRuntime) -> Result<(), Fail> {
+    assert!(rt; refused_writings(rt.alloc(), KEPT, Layout::InOneLine, KEPT)? > 0);
+    assert!(rt; refused_writings(rt.alloc(), KEPT, Layout::InLines, KEPT_IN_LINES)? > 0);
     Ok(())
 }
 

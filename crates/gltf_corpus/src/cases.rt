@@ -1,0 +1,155 @@
+//! Reads and writes documents in both ways (`both.rt`): those of `data/documents.jsonl`, those of
+//! `data/objects.json`, and the cases of `data/cases.jsonl`, which say what becomes of them.
+//! `tools/gen_cases.py` writes the cases. Only what differs is printed, and last how many
+//! cases there are.
+
+use crate::both::{difference, writing_difference};
+use crate::kept::keep_in_document;
+use crate::objects::{is_text, list_of, object_at, with_member};
+use anyhow::{Context, Result};
+use gltf_json::{Root, Value};
+use std::alloc::Global;
+use std::fs;
+
+/// Whether both ways agree on a text. Prints what differs, and the text, if they don't.
+fn is_alike(rt: &HostRuntime, text: &[u8]) -> Result<bool> {
+    match difference(rt.alloc(), text)? {
+        None => Ok(true),
+        Some(what) => {
+            let text = String::from_utf8_lossy(rt.alloc(), text)?;
+            println!(rt; "{what}: {text}")?;
+            Ok(false)
+        }
+    }
+}
+
+/// Whether both ways agree on each document of `data/documents.jsonl`.
+fn are_documents_alike(rt: &HostRuntime) -> Result<bool> {
+    let text = fs::read_to_string(rt, "documents.jsonl")?;
+    let mut well = true;
+    for line in text.as_str().split('\n') {
+        if !line.is_empty() && !line.starts_with("# ") {
+            well = is_alike(rt, line.as_bytes())? && well;
+        }
+    }
+    Ok(well)
+}
+
+/// Whether both ways agree on a document with a value, or none, as a member of the object at a
+/// place.
+fn is_member_alike(
+    rt: &HostRuntime,
+    whole: &Value,
+    (place, name): (&str, &str),
+    value: Option<&Value>,
+) -> Result<bool> {
+    let document = with_member(rt.alloc(), whole, place, name, value)?;
+    is_alike(rt, document.to_vec(rt.alloc())?.as_slice())
+}
+
+/// Whether both ways agree on each document of `data/objects.json`, whole, without each member of
+/// its object, and with null in its place.
+fn are_objects_alike(rt: &HostRuntime) -> Result<bool> {
+    let bytes = fs::read(rt, "objects.json")?;
+    let data = Value::from_slice(rt.alloc(), bytes.as_slice())?;
+    let mut well = true;
+    for object in list_of(&data, "objects")? {
+        let whole = object.get("in").context("no document")?;
+        let place = object.get("at").and_then(Value::as_str);
+        let place = place.context("no place")?;
+        well = is_alike(rt, whole.to_vec(rt.alloc())?.as_slice())? && well;
+        for (name, _) in object_at(object, "/members")?.iter() {
+            let title = (place, name.as_str());
+            well = is_member_alike(rt, whole, title, None)? && well;
+            well = is_member_alike(rt, whole, title, Some(&Value::Null))? && well;
+        }
+    }
+    Ok(well)
+}
+
+/// The bytes of a case: a text, or numbers.
+fn bytes_of(alloc: Global, case: &Value) -> Result<Vec<u8>> {
+    let mut bytes = Vec::new(alloc);
+    match case.get("text").and_then(Value::as_str) {
+        Some(text) => bytes.extend_from_slice(text.as_bytes())?,
+        None => {
+            for number in list_of(case, "bytes")? {
+                let number = number.as_u64().context("no number")?;
+                bytes.push(u8::try_from(number).ok().context("no byte")?)?;
+            }
+        }
+    }
+    Ok(bytes)
+}
+
+/// What becomes of a document to which a case adds members: its line, its error, or what differs
+/// between the ways of writing it.
+fn become_of(alloc: Global, mut root: Root, case: &Value) -> Result<String> {
+    if let Some(listed) = case.get("others") {
+        keep_in_document(&mut root, listed)?;
+    }
+    if let Some(extras) = case.get("extras") {
+        root.extras = Some(extras.clone()?);
+    }
+    if let Some(what) = writing_difference(alloc, &root, &root)? {
+        return Ok(String::from_str(alloc, what)?);
+    }
+    match root.to_string(alloc) {
+        Ok(line) => Ok(line),
+        Err(error) => Ok(format!(in alloc; "{error}")?),
+    }
+}
+
+/// What becomes of a case.
+fn outcome(alloc: Global, case: &Value) -> Result<String> {
+    let bytes = bytes_of(alloc, case)?;
+    if let Some(what) = difference(alloc, bytes.as_slice())? {
+        return Ok(String::from_str(alloc, what)?);
+    }
+    match Root::from_slice(alloc, bytes.as_slice()) {
+        Ok(root) => become_of(alloc, root, case),
+        Err(error) => Ok(format!(in alloc; "{error}")?),
+    }
+}
+
+/// Whether a case becomes what it says.
+fn is_case_expected(rt: &HostRuntime, case: &Value) -> Result<bool> {
+    let title = case.get("title").and_then(Value::as_str);
+    let due = case.get("becomes").and_then(Value::as_str);
+    let found = outcome(rt.alloc(), case)?;
+    is_text(
+        rt,
+        ("cases", title.context("no title")?),
+        due.context("no expected outcome")?,
+        found.as_str(),
+    )
+}
+
+/// How many cases `data/cases.jsonl` has, and whether each becomes what it says.
+fn compare_cases(rt: &HostRuntime) -> Result<(u64, bool)> {
+    let text = fs::read_to_string(rt, "cases.jsonl")?;
+    let mut count: u64 = 0;
+    let mut well = true;
+    for line in text.as_str().split('\n') {
+        if !line.is_empty() {
+            let case = Value::from_str(rt.alloc(), line)?;
+            well = is_case_expected(rt, &case)? && well;
+            count = count.saturating_add(1);
+        }
+    }
+    Ok((count, well))
+}
+
+/// Prints what differs between the two ways, and last the number of cases.
+pub fn print_cases(rt: &HostRuntime) -> Result<()> {
+    let mut well = are_documents_alike(rt)?;
+    well = are_objects_alike(rt)? && well;
+    let (count, are_expected) = compare_cases(rt)?;
+    let verdict = if well && are_expected {
+        "as expected"
+    } else {
+        "not as expected"
+    };
+    println!(rt; "# both ways, and {count} cases: {verdict}")?;
+    Ok(())
+}

@@ -1,6 +1,6 @@
 //! The steps from a root to a place in a document, and their text.
 
-ghost use Rattle.std.specs.Prelude.{◌≡◌, List, [], ℕ, IfOk, OnOk};
+ghost use Rattle.std.specs.Prelude.{◌≡◌, List, [], ℕ, IfOk, OnOk, map};
 ghost use Rattle.std.specs.String.{string_bytes};
 ghost use Rattle.gltf_paths.specs.Steps.{field, item, key, value, steps_of, step_of};
 ghost use Rattle.gltf_paths.specs.Text.{path_text, text_with};
@@ -79,8 +79,15 @@ impl Path {
     pub fn of(alloc: Global, steps: &Steps<'_>) -> Result<Path, AllocError>
         ensures { IfOk result (λ path. string_bytes path.0 ≡ path_text (steps_of steps.now)) }
     {
+        Path::of_steps(alloc, steps.as_slice())
+    }
+
+    /// The text of steps in a slice, as [`Path::of`].
+    pub fn of_steps(alloc: Global, steps: &[Step<'_>]) -> Result<Path, AllocError>
+        ensures { IfOk result (λ path. string_bytes path.0 ≡ path_text (map step_of steps.now)) }
+    {
         let mut written = String::new(alloc);
-        for step in steps.as_slice() {
+        for step in steps {
             write_step(&mut written, *step)?;
         }
         Ok(Path(written))

@@ -1,6 +1,6 @@
 //! The text of a path as a JSON pointer (RFC 6901).
 
-ghost use Rattle.std.specs.Prelude.{◌≡◌, ◌++◌, codes, encode_utf8, IfOk, OnOk};
+ghost use Rattle.std.specs.Prelude.{◌≡◌, ◌++◌, codes, encode_utf8, IfOk, OnOk, map};
 ghost use Rattle.std.specs.String.{string_bytes};
 ghost use Rattle.gltf_paths.specs.Steps.{steps_of, step_of};
 ghost use Rattle.gltf_paths.specs.Pointers.{escaped, pointer_part, pointer_text};
@@ -18,8 +18,16 @@ impl Path {
         ensures { IfOk result (λ pointer. string_bytes pointer
             ≡ pointer_text (steps_of steps.now)) }
     {
+        Path::pointer_of_steps(alloc, steps.as_slice())
+    }
+
+    /// Returns the JSON pointer of steps in a slice, as [`Path::pointer_of`].
+    pub fn pointer_of_steps(alloc: Global, steps: &[Step<'_>]) -> Result<String, AllocError>
+        ensures { IfOk result (λ pointer. string_bytes pointer
+            ≡ pointer_text (map step_of steps.now)) }
+    {
         let mut pointer = String::new(alloc);
-        for step in steps.as_slice() {
+        for step in steps {
             write_part(alloc, &mut pointer, *step)?;
         }
         Ok(pointer)

@@ -9,7 +9,7 @@ use gltf_base::validation::Error;
 use gltf_base::{Path, Steps};
 use std::alloc::{AllocError, Global};
 
-/// A sink that collects reports. It refuses a report only for want of memory.
+/// A sink that collects reports. It refuses a report only if a growth was refused.
 #[derive(Clone, Debug, Drop)]
 pub struct Collect {
     alloc: Global,

@@ -18,7 +18,7 @@ use gltf_base::{Index, Listed};
 use gltf_data::accessor::Accessor;
 use gltf_data::extras::Extras;
 use gltf_nodes::scene::Node;
-use gltf_schema::{Blank, Error, Object, Reading, Source, WriteRows};
+use gltf_schema::{Blank, Object, ReadRows, WriteRows};
 use std::alloc::Global;
 
 /// What moves nodes over time.
@@ -91,20 +91,19 @@ impl Object for Animation {
 
     ghost low = { (animation_height.1, lit≤ tt) };
 
-    fn decode_members<S: Source>(alloc: Global, found: S::Fields) -> Result<Animation, Error> {
-        let mut reading = Reading::<S>::from_members(alloc, found);
-        let samplers = reading.list("samplers");
-        let channels = reading.list("channels");
-        let name = reading.optional("name");
-        let extensions = reading.optional("extensions");
-        let extras = reading.optional("extras");
-        reading.finish(Animation {
+    fn read_members<R: ReadRows>(from: &mut R) -> Animation {
+        let samplers = from.list("samplers");
+        let channels = from.list("channels");
+        let name = from.optional("name");
+        let extensions = from.optional("extensions");
+        let extras = from.optional("extras");
+        Animation {
             samplers,
             channels,
             name,
             extensions,
             extras,
-        })
+        }
     }
 
     fn write_members<W: WriteRows>(&self, to: &mut W) {
@@ -160,18 +159,17 @@ impl Object for Channel {
 
     ghost low = { (animation_channel_height.1, lit≤ tt) };
 
-    fn decode_members<S: Source>(alloc: Global, found: S::Fields) -> Result<Channel, Error> {
-        let mut reading = Reading::<S>::from_members(alloc, found);
-        let sampler: u32 = reading.required("sampler");
-        let target = reading.required("target");
-        let extensions = reading.optional("extensions");
-        let extras = reading.optional("extras");
-        reading.finish(Channel {
+    fn read_members<R: ReadRows>(from: &mut R) -> Channel {
+        let sampler: u32 = from.required("sampler");
+        let target = from.required("target");
+        let extensions = from.optional("extensions");
+        let extras = from.optional("extras");
+        Channel {
             sampler: Index::new(sampler),
             target,
             extensions,
             extras,
-        })
+        }
     }
 
     fn write_members<W: WriteRows>(&self, to: &mut W) {
@@ -225,18 +223,17 @@ impl Object for Target {
 
     ghost low = { (animation_target_height.1, lit≤ tt) };
 
-    fn decode_members<S: Source>(alloc: Global, found: S::Fields) -> Result<Target, Error> {
-        let mut reading = Reading::<S>::from_members(alloc, found);
-        let node = reading.required("node");
-        let path = reading.required("path");
-        let extensions = reading.optional("extensions");
-        let extras = reading.optional("extras");
-        reading.finish(Target {
+    fn read_members<R: ReadRows>(from: &mut R) -> Target {
+        let node = from.required("node");
+        let path = from.required("path");
+        let extensions = from.optional("extensions");
+        let extras = from.optional("extras");
+        Target {
             node,
             path,
             extensions,
             extras,
-        })
+        }
     }
 
     fn write_members<W: WriteRows>(&self, to: &mut W) {
@@ -305,23 +302,19 @@ impl Object for Sampler {
 
     ghost low = { (animation_sampler_height.1, lit≤ tt) };
 
-    fn decode_members<S: Source>(alloc: Global, found: S::Fields) -> Result<Sampler, Error> {
-        let mut reading = Reading::<S>::from_members(alloc, found);
-        let input = reading.required("input");
-        let interpolation = reading.or_default(
-            "interpolation",
-            Checked::Valid(Interpolation::Linear),
-        );
-        let output = reading.required("output");
-        let extensions = reading.optional("extensions");
-        let extras = reading.optional("extras");
-        reading.finish(Sampler {
+    fn read_members<R: ReadRows>(from: &mut R) -> Sampler {
+        let input = from.required("input");
+        let interpolation = from.or_default("interpolation", Checked::Valid(Interpolation::Linear));
+        let output = from.required("output");
+        let extensions = from.optional("extensions");
+        let extras = from.optional("extras");
+        Sampler {
             input,
             interpolation,
             output,
             extensions,
             extras,
-        })
+        }
     }
 
     fn write_members<W: WriteRows>(&self, to: &mut W) {

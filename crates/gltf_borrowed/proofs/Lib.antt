@@ -1,4 +1,6 @@
-mod Levels
+pub mod Levels
 mod Turns
 mod Ordered
 mod Listed
+mod Named
+pub mod RowsApart

@@ -34,7 +34,7 @@ or_assoc : (a b c : Option Data) → or_else a (or_else b c) ≡ or_else (or_els
 or_assoc None b c = refl
 or_assoc (Some d) b c = refl
 
-found_after_put : (t : Bool) (n k : List ℕ) (d : Data) (ms : Members) → bytes_eq k n ≡ t → get_member n (put k d ms) ≡ or_else (cond t (Some d) None) (get_member n ms)
+pub found_after_put : (t : Bool) (n k : List ℕ) (d : Data) (ms : Members) → bytes_eq k n ≡ t → get_member n (put k d ms) ≡ or_else (cond t (Some d) None) (get_member n ms)
 found_after_put true n k d ms e = subst (λ x. get_member x (put k d ms) ≡ Some d) (same k n e) (get_member-put k d ms)
 found_after_put false n k d ms e = get_member-put_other n k d ms (other n k (flipped k n e))
 

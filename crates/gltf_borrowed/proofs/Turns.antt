@@ -1,10 +1,10 @@
 -- The grammar's loops, a turn at a time, under the conversion to data.
-use Rattle.std.proofs.Common.{◌≡◌, ℕ, zero, suc, ◌-◌, ◌<◌, ◌≤◌, List, [], ◌∷◌, length, Option, Some, None, option_map, option_and_then, refl, ap, ◌∙◌}
+use Rattle.std.proofs.Common.{◌≡◌, ℕ, zero, suc, ◌-◌, ◌<◌, ◌≤◌, List, [], ◌∷◌, length, Option, Some, None, option_map, option_and_then, refl, ap, ◌∙◌, arith}
 use Rattle.json.specs.Token.{Token}
 use Rattle.json.specs.Json as json
 use Rattle.json.specs.Json.{Parse, parse_map, after_end_array, read_key, items_step, items, members, if_last}
 use Rattle.json.proofs.Grammar.{items_end, items_more, members_end, members_no_key, members_more}
-use Rattle.serde_json.specs.Data.{Data, array, object, no_items, item, Members, no_members, put}
+use Rattle.serde_json.specs.Data.{Data, array, object, Items, no_items, item, Members, no_members, put}
 use Rattle.serde_json.specs.Read.{of_json, of_items, of_members, converted}
 
 abbrev pick : {A : Type 0} → A → Option A → A
@@ -92,6 +92,35 @@ module _ (p : Parse json.Json) where
 
     pub members_over : (n : ℕ) (ts r : List Token) → length ts ≤ n → read_key ts ≡ Some (None, r) → converted (λ ms. of_members ms old) (members p n ts) ≡ Some (old, r)
     members_over n ts r enough e = ap (converted (λ ms. of_members ms old)) (members_end p n ts r enough e)
+
+-- ---- an array's items, where those that were read are not kept
+
+none_before : (r : Option (Items × List Token)) → r ≡ parse_map (λ ds. ds) r
+none_before None = refl
+none_before (Some p) = refl
+
+later_before : (f g : Items → Items) (r : Option (Items × List Token)) → parse_map f (parse_map g r) ≡ parse_map (λ ds. f (g ds)) r
+later_before f g None = refl
+later_before f g (Some p) = refl
+
+module _ (p : Parse json.Json) (start : List Token) where
+  -- the items at the start are those that before puts in front of the items at ts
+  abbrev pub IsFurther : List Token → ℕ → (Items → Items) → Type 0
+  IsFurther ts n before = (length ts ≤ n) × (length ts ≤ length start) × (converted of_items (items p (length start) start) ≡ parse_map before (converted of_items (items p n ts)))
+
+  pub further-none : IsFurther start (length start) (λ ds. ds)
+  further-none = (omega arith, omega arith, none_before (converted of_items (items p (length start) start)))
+
+  pub further-item : (ts r : List Token) (n : ℕ) (before : Items → Items) (d : Data) → IsFurther ts n before → after_end_array ts ≡ None → converted of_json (p ts) ≡ Some (d, r) → length r < length ts
+      → IsFurther r (n - 1) (λ ds. before (item d ds))
+  further-item ts r n before d h going e less = (
+    omega (arith, h.0, less),
+    omega (arith, h.1, less),
+    h.2 ∙ ap (parse_map before) (item_read p n ts r d (omega (arith, h.0, less)) going e) ∙ later_before before (item d) (converted of_items (items p (n - 1) r)),
+  )
+
+  pub further-end : (ts r : List Token) (n : ℕ) (before : Items → Items) → IsFurther ts n before → after_end_array ts ≡ Some r → converted of_items (items p (length start) start) ≡ Some (before no_items, r)
+  further-end ts r n before h over = h.2 ∙ ap (parse_map before) (items_over p n ts r h.0 over)
 
 -- ---- the whole text
 

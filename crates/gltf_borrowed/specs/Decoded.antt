@@ -1,4 +1,4 @@
--- What decoding a text gives, want of memory aside.
+-- What decoding a text gives; a growth may also be refused.
 use Rattle.std.specs.Prelude.{Option, Some, None, Result, Err, ⊤}
 use Rattle.gltf_paths.specs.declared.error.Error.{Error}
 use Rattle.gltf_paths.specs.declared.error.Error.TheVariants as errors

@@ -1,7 +1,8 @@
 //! From tokens to a value, in one pass.
 
-ghost use Rattle.std.specs.Prelude.{◌≡◌, ◌<◌, length, Some, None, Err, IfOk, OnOk};
+ghost use Rattle.std.specs.Prelude.{◌≡◌, ◌<◌, ◌≤◌, ◌∷◌, length, Some, None, Err, IfOk, OnOk};
 ghost use Rattle.json.specs.Json.{value, items, members};
+ghost use Rattle.json.specs.Reads.{token_of};
 ghost use Rattle.serde_json.specs.Data.{no_members};
 ghost use Rattle.serde_json.specs.Read.{of_json, of_items, of_members, converted};
 ghost use Rattle.gltf_borrowed.specs.Borrowed.{data_of, items_data, members_data};
@@ -10,6 +11,9 @@ use crate::numeral;
 use crate::value::Borrowed;
 use json::{Invalid, Reader, Token};
 use std::alloc::Global;
+
+/// How many members an object mostly has at most: memory for them is asked for at once.
+const FEW: usize = 8;
 
 /// Why no value was read.
 #[derive(Clone, Copy, Debug, Drop)]
@@ -49,6 +53,24 @@ pub fn read_value<'a>(
     let Some(token) = reader.next() else {
         return Err(NoValue::Refused);
     };
+    read_after(alloc, token, reader, depth)
+}
+
+/// Returns the value that begins with a token, which was taken from the text, as [`read_value`].
+#[cycle(read_value)]
+#[inline(always)]
+pub(crate) fn read_after<'a>(
+    alloc: Global,
+    token: Token<'a>,
+    reader: &mut Reader<'a>,
+    depth: usize,
+) -> Result<Borrowed<'a>, NoValue>
+    ensures ok { IfOk result (λ v. converted of_json (value depth (token_of token.entry ∷ reader.old))
+        ≡ Some (data_of v, reader.new)) }
+    ensures no_longer { OnOk result (length reader.new ≤ length reader.old) }
+    ensures refused { result ≡ Err NoValue.Refused
+        → converted of_json (value depth (token_of token.entry ∷ reader.old)) ≡ None }
+{
     match token {
         Token::String(text) => Ok(Borrowed::Text(text)),
         Token::Number(text) => match numeral::parse(text) {
@@ -113,7 +135,9 @@ fn read_members<'a>(
         → converted (λ ms. of_members ms no_members)
         (members (value depth) (length reader.old) reader.old) ≡ None }
 {
-    let mut entries = Vec::new(alloc);
+    let Ok(mut entries) = Vec::with_capacity(alloc, FEW) else {
+        return Err(NoValue::Memory);
+    };
     'members: while let Some(name) = reader.next_key()? {
         let member = read_value(alloc, reader, depth)?;
         let Ok(()) = entries.push((name, member)) else {

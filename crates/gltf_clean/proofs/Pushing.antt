@@ -1,4 +1,4 @@
--- Items that are pushed onto a list, and what is told of them.
+-- Items that are pushed onto a list, and what is reported of them.
 use Rattle.std.proofs.Common.{◌≡◌, ℕ, ◌-◌, ◌<◌, ◌≤◌, ◌↔◌, List, [], ◌∷◌, ◌++◌, length, Option, Some, Result, Ok, Err, refl, sym, ◌∙◌, ap, subst, arith}
 use Rattle.std.specs.List.{slice_get}
 use Rattle.std.proofs.lemmas.Grind.{common_steps}
@@ -29,7 +29,7 @@ use Rattle.gltf_clean.proofs.Sinking.{same_first}
 
 -- ---- whether there was room
 
--- a push that is told otherwise than as full had room
+-- each push that doesn't fail with Full had room
 abbrev IsMade : {A B : Type 0} → Result A B → Type 0
 IsMade (Ok a) = Unit {0}
 IsMade (Err e) = ⊥
@@ -57,7 +57,7 @@ is_last before list x last whole found =
     let n : length (before ++ x ∷ []) - 1 ≡ length before = grind (arith, common_steps) in
     same_Some last x (found ∙ ap (λ xs. slice_get xs (length xs - 1)) whole ∙ ap (slice_get (before ++ x ∷ [])) n ∙ at_end before x)
 
--- ---- what is told of an item
+-- ---- what is reported of an item
 
 -- by its type, as by the table
 pub reported_by_table : (of : Option Kind) (kind : Kind) (s t : Tree) (own : Context → From) (context : Context) (base : List Step) → of ≡ Some kind → s ≡ t

@@ -1,4 +1,4 @@
--- What a sink is told that refuses its first report.
+-- What a sink that refuses its first report was given.
 use Rattle.std.proofs.Common.{◌≡◌, ℕ, suc, ◌≤◌, List, [], ◌∷◌, ◌++◌, map, Some, None, Err, refl, sym, ◌∙◌, ap, subst, arith}
 use Rattle.arrayvec.specs.ArrayVec.{ArrayVec}
 use Rattle.gltf_paths.specs.Steps.{Step, step_of, steps_of}

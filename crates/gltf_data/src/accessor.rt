@@ -16,9 +16,8 @@ use crate::extras::Extras;
 use gltf_base::accessor::{AccessorType, ComponentType, GenericComponentType};
 use gltf_base::validation::{Checked, USize64};
 use gltf_base::{Index, Listed};
-use gltf_schema::{Error, Object, Reading, Source, WriteRows};
+use gltf_schema::{Object, ReadRows, WriteRows};
 use serde_json::Value;
-use std::alloc::Global;
 
 pub mod sparse;
 
@@ -118,21 +117,20 @@ impl Object for Accessor {
 
     ghost low = { (accessor_height.1, lit≤ tt) };
 
-    fn decode_members<S: Source>(alloc: Global, found: S::Fields) -> Result<Accessor, Error> {
-        let mut reading = Reading::<S>::from_members(alloc, found);
-        let buffer_view = reading.optional("bufferView");
-        let byte_offset = reading.optional("byteOffset");
-        let count = reading.required("count");
-        let component_type = reading.required("componentType");
-        let type_ = reading.required("type");
-        let min = reading.optional("min");
-        let max = reading.optional("max");
-        let name = reading.optional("name");
-        let normalized = reading.or_default("normalized", false);
-        let sparse = reading.optional("sparse");
-        let extensions = reading.optional("extensions");
-        let extras = reading.optional("extras");
-        reading.finish(Accessor {
+    fn read_members<R: ReadRows>(from: &mut R) -> Accessor {
+        let buffer_view = from.optional("bufferView");
+        let byte_offset = from.optional("byteOffset");
+        let count = from.required("count");
+        let component_type = from.required("componentType");
+        let type_ = from.required("type");
+        let min = from.optional("min");
+        let max = from.optional("max");
+        let name = from.optional("name");
+        let normalized = from.or_default("normalized", false);
+        let sparse = from.optional("sparse");
+        let extensions = from.optional("extensions");
+        let extras = from.optional("extras");
+        Accessor {
             buffer_view,
             byte_offset,
             count,
@@ -145,7 +143,7 @@ impl Object for Accessor {
             sparse,
             extensions,
             extras,
-        })
+        }
     }
 
     fn write_members<W: WriteRows>(&self, to: &mut W) {

@@ -15,7 +15,7 @@ use crate::extras::Extras;
 use gltf_base::buffer::Target;
 use gltf_base::validation::{Checked, USize64};
 use gltf_base::{Index, Listed};
-use gltf_schema::{Error, Object, Reading, Schema, Source, Tabled, WriteRows};
+use gltf_schema::{Error, Object, ReadRows, Schema, Source, Tabled, WriteRows};
 use serde_json::Value;
 use std::alloc::Global;
 
@@ -102,20 +102,19 @@ impl Object for Buffer {
 
     ghost low = { (buffer_height.1, lit≤ tt) };
 
-    fn decode_members<S: Source>(alloc: Global, found: S::Fields) -> Result<Buffer, Error> {
-        let mut reading = Reading::<S>::from_members(alloc, found);
-        let byte_length = reading.or_default("byteLength", USize64(0));
-        let name = reading.optional("name");
-        let uri = reading.optional("uri");
-        let extensions = reading.optional("extensions");
-        let extras = reading.optional("extras");
-        reading.finish(Buffer {
+    fn read_members<R: ReadRows>(from: &mut R) -> Buffer {
+        let byte_length = from.or_default("byteLength", USize64(0));
+        let name = from.optional("name");
+        let uri = from.optional("uri");
+        let extensions = from.optional("extensions");
+        let extras = from.optional("extras");
+        Buffer {
             byte_length,
             name,
             uri,
             extensions,
             extras,
-        })
+        }
     }
 
     fn write_members<W: WriteRows>(&self, to: &mut W) {
@@ -205,17 +204,16 @@ impl Object for View {
 
     ghost low = { (view_height.1, lit≤ tt) };
 
-    fn decode_members<S: Source>(alloc: Global, found: S::Fields) -> Result<View, Error> {
-        let mut reading = Reading::<S>::from_members(alloc, found);
-        let buffer = reading.required("buffer");
-        let byte_length = reading.required("byteLength");
-        let byte_offset = reading.optional("byteOffset");
-        let byte_stride = reading.optional("byteStride");
-        let name = reading.optional("name");
-        let target = reading.optional("target");
-        let extensions = reading.optional("extensions");
-        let extras = reading.optional("extras");
-        reading.finish(View {
+    fn read_members<R: ReadRows>(from: &mut R) -> View {
+        let buffer = from.required("buffer");
+        let byte_length = from.required("byteLength");
+        let byte_offset = from.optional("byteOffset");
+        let byte_stride = from.optional("byteStride");
+        let name = from.optional("name");
+        let target = from.optional("target");
+        let extensions = from.optional("extensions");
+        let extras = from.optional("extras");
+        View {
             buffer,
             byte_length,
             byte_offset,
@@ -224,7 +222,7 @@ impl Object for View {
             target,
             extensions,
             extras,
-        })
+        }
     }
 
     fn write_members<W: WriteRows>(&self, to: &mut W) {

@@ -14,7 +14,7 @@ use crate::buffer::View;
 use crate::extensions;
 use crate::extras::Extras;
 use gltf_base::{Index, Listed};
-use gltf_schema::{Error, Object, Reading, Schema, Source, Tabled, WriteRows};
+use gltf_schema::{Error, Object, ReadRows, Schema, Source, Tabled, WriteRows};
 use serde_json::Value;
 use std::alloc::Global;
 
@@ -139,22 +139,21 @@ impl Object for Image {
 
     ghost low = { (image_height.1, lit≤ tt) };
 
-    fn decode_members<S: Source>(alloc: Global, found: S::Fields) -> Result<Image, Error> {
-        let mut reading = Reading::<S>::from_members(alloc, found);
-        let buffer_view = reading.optional("bufferView");
-        let mime_type = reading.optional("mimeType");
-        let name = reading.optional("name");
-        let uri = reading.optional("uri");
-        let extensions = reading.optional("extensions");
-        let extras = reading.optional("extras");
-        reading.finish(Image {
+    fn read_members<R: ReadRows>(from: &mut R) -> Image {
+        let buffer_view = from.optional("bufferView");
+        let mime_type = from.optional("mimeType");
+        let name = from.optional("name");
+        let uri = from.optional("uri");
+        let extensions = from.optional("extensions");
+        let extras = from.optional("extras");
+        Image {
             buffer_view,
             mime_type,
             name,
             uri,
             extensions,
             extras,
-        })
+        }
     }
 
     fn write_members<W: WriteRows>(&self, to: &mut W) {

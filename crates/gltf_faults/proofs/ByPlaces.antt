@@ -25,7 +25,7 @@ leaf : (kind : Kind) (t : Tree) (context : Context) (animation : Tree) (base : L
 leaf kind absent context animation base none = sym none
 leaf kind t context animation base none = append-nil _
 
--- a key is told as a choice is
+-- a key is reported as a choice is
 key_told : (k : Key) (base : List Step) → choice_faults (key_tree k) base ≡ key_faults k base
 key_told keys.unknown base = refl
 key_told k base = refl

@@ -58,7 +58,7 @@ pub mod laws {
 pub mod root {
     pub use gltf_base::{Index, PushError};
     pub use gltf_devices::{ByteIn, ByteOut, Failed, Watched};
-    pub use gltf_root::root::{Get, Mark, Root, RootItem};
+    pub use gltf_root::root::{Get, Mark, Place, Root, RootItem};
 }
 
 /// What is wrong in a document, place by place.

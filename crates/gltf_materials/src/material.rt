@@ -16,7 +16,7 @@ use gltf_base::material::AlphaMode;
 use gltf_base::validation::Checked;
 use gltf_base::{Index, Listed, Real};
 use gltf_data::extras::Extras;
-use gltf_schema::{Blank, Error, Object, Reading, Schema, Source, Tabled, WriteRows};
+use gltf_schema::{Blank, Error, Object, ReadRows, Schema, Source, Tabled, WriteRows};
 use gltf_shading::extensions;
 use gltf_shading::material::StrengthFactor;
 use gltf_textures::texture::{Info, Texture};
@@ -118,23 +118,22 @@ impl Object for Material {
 
     ghost low = { (material_height.1, lit≤ tt) };
 
-    fn decode_members<S: Source>(alloc: Global, found: S::Fields) -> Result<Material, Error> {
-        let mut reading = Reading::<S>::from_members(alloc, found);
-        let alpha_cutoff = reading.optional("alphaCutoff");
-        let alpha_mode = reading.or_default("alphaMode", Checked::Valid(AlphaMode::Opaque));
-        let double_sided = reading.or_default("doubleSided", false);
-        let name = reading.optional("name");
-        let pbr_metallic_roughness = reading.or_default(
+    fn read_members<R: ReadRows>(from: &mut R) -> Material {
+        let alpha_cutoff = from.optional("alphaCutoff");
+        let alpha_mode = from.or_default("alphaMode", Checked::Valid(AlphaMode::Opaque));
+        let double_sided = from.or_default("doubleSided", false);
+        let name = from.optional("name");
+        let pbr_metallic_roughness = from.or_default(
             "pbrMetallicRoughness",
             PbrMetallicRoughness::new(),
         );
-        let normal_texture = reading.optional("normalTexture");
-        let occlusion_texture = reading.optional("occlusionTexture");
-        let emissive_texture = reading.optional("emissiveTexture");
-        let emissive_factor = reading.sometimes("emissiveFactor");
-        let extensions = reading.optional("extensions");
-        let extras = reading.optional("extras");
-        reading.finish(Material {
+        let normal_texture = from.optional("normalTexture");
+        let occlusion_texture = from.optional("occlusionTexture");
+        let emissive_texture = from.optional("emissiveTexture");
+        let emissive_factor = from.sometimes("emissiveFactor");
+        let extensions = from.optional("extensions");
+        let extras = from.optional("extras");
+        Material {
             alpha_cutoff,
             alpha_mode,
             double_sided,
@@ -146,7 +145,7 @@ impl Object for Material {
             emissive_factor: EmissiveFactor(emissive_factor),
             extensions,
             extras,
-        })
+        }
     }
 
     fn write_members<W: WriteRows>(&self, to: &mut W) {
@@ -229,19 +228,15 @@ impl Object for PbrMetallicRoughness {
 
     ghost low = { (pbr_metallic_roughness_height.1, lit≤ tt) };
 
-    fn decode_members<S: Source>(
-        alloc: Global,
-        found: S::Fields,
-    ) -> Result<PbrMetallicRoughness, Error> {
-        let mut reading = Reading::<S>::from_members(alloc, found);
-        let base_color_factor = reading.sometimes("baseColorFactor");
-        let base_color_texture = reading.optional("baseColorTexture");
-        let metallic_factor = reading.sometimes("metallicFactor");
-        let roughness_factor = reading.sometimes("roughnessFactor");
-        let metallic_roughness_texture = reading.optional("metallicRoughnessTexture");
-        let extensions = reading.optional("extensions");
-        let extras = reading.optional("extras");
-        reading.finish(PbrMetallicRoughness {
+    fn read_members<R: ReadRows>(from: &mut R) -> PbrMetallicRoughness {
+        let base_color_factor = from.sometimes("baseColorFactor");
+        let base_color_texture = from.optional("baseColorTexture");
+        let metallic_factor = from.sometimes("metallicFactor");
+        let roughness_factor = from.sometimes("roughnessFactor");
+        let metallic_roughness_texture = from.optional("metallicRoughnessTexture");
+        let extensions = from.optional("extensions");
+        let extras = from.optional("extras");
+        PbrMetallicRoughness {
             base_color_factor: PbrBaseColorFactor(base_color_factor),
             base_color_texture,
             metallic_factor: StrengthFactor(metallic_factor),
@@ -249,7 +244,7 @@ impl Object for PbrMetallicRoughness {
             metallic_roughness_texture,
             extensions,
             extras,
-        })
+        }
     }
 
     fn write_members<W: WriteRows>(&self, to: &mut W) {
@@ -341,20 +336,19 @@ impl Object for NormalTexture {
 
     ghost low = { (normal_texture_height.1, lit≤ tt) };
 
-    fn decode_members<S: Source>(alloc: Global, found: S::Fields) -> Result<NormalTexture, Error> {
-        let mut reading = Reading::<S>::from_members(alloc, found);
-        let index = reading.required("index");
-        let scale = reading.sometimes("scale");
-        let tex_coord = reading.or_default("texCoord", 0);
-        let extensions = reading.optional("extensions");
-        let extras = reading.optional("extras");
-        reading.finish(NormalTexture {
+    fn read_members<R: ReadRows>(from: &mut R) -> NormalTexture {
+        let index = from.required("index");
+        let scale = from.sometimes("scale");
+        let tex_coord = from.or_default("texCoord", 0);
+        let extensions = from.optional("extensions");
+        let extras = from.optional("extras");
+        NormalTexture {
             index,
             scale,
             tex_coord,
             extensions,
             extras,
-        })
+        }
     }
 
     fn write_members<W: WriteRows>(&self, to: &mut W) {
@@ -425,23 +419,19 @@ impl Object for OcclusionTexture {
 
     ghost low = { (occlusion_texture_height.1, lit≤ tt) };
 
-    fn decode_members<S: Source>(
-        alloc: Global,
-        found: S::Fields,
-    ) -> Result<OcclusionTexture, Error> {
-        let mut reading = Reading::<S>::from_members(alloc, found);
-        let index = reading.required("index");
-        let strength = reading.sometimes("strength");
-        let tex_coord = reading.or_default("texCoord", 0);
-        let extensions = reading.optional("extensions");
-        let extras = reading.optional("extras");
-        reading.finish(OcclusionTexture {
+    fn read_members<R: ReadRows>(from: &mut R) -> OcclusionTexture {
+        let index = from.required("index");
+        let strength = from.sometimes("strength");
+        let tex_coord = from.or_default("texCoord", 0);
+        let extensions = from.optional("extensions");
+        let extras = from.optional("extras");
+        OcclusionTexture {
             index,
             strength: StrengthFactor(strength),
             tex_coord,
             extensions,
             extras,
-        })
+        }
     }
 
     fn write_members<W: WriteRows>(&self, to: &mut W) {

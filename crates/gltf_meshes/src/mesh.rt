@@ -17,8 +17,7 @@ use gltf_base::{Index, Listed, Real};
 use gltf_data::accessor::Accessor;
 use gltf_data::extras::Extras;
 use gltf_materials::material::Material;
-use gltf_schema::{Error, Object, Reading, Source, WriteRows};
-use std::alloc::Global;
+use gltf_schema::{Object, ReadRows, WriteRows};
 use std::collections::BTreeMap;
 
 /// Geometry that nodes place in a scene.
@@ -86,20 +85,19 @@ impl Object for Mesh {
 
     ghost low = { (mesh_height.1, lit≤ tt) };
 
-    fn decode_members<S: Source>(alloc: Global, found: S::Fields) -> Result<Mesh, Error> {
-        let mut reading = Reading::<S>::from_members(alloc, found);
-        let extensions = reading.optional("extensions");
-        let extras = reading.optional("extras");
-        let name = reading.optional("name");
-        let primitives = reading.required("primitives");
-        let weights = reading.optional("weights");
-        reading.finish(Mesh {
+    fn read_members<R: ReadRows>(from: &mut R) -> Mesh {
+        let extensions = from.optional("extensions");
+        let extras = from.optional("extras");
+        let name = from.optional("name");
+        let primitives = from.required("primitives");
+        let weights = from.optional("weights");
+        Mesh {
             extensions,
             extras,
             name,
             primitives,
             weights,
-        })
+        }
     }
 
     fn write_members<W: WriteRows>(&self, to: &mut W) {
@@ -166,16 +164,15 @@ impl Object for Primitive {
 
     ghost low = { (primitive_height.1, lit≤ tt) };
 
-    fn decode_members<S: Source>(alloc: Global, found: S::Fields) -> Result<Primitive, Error> {
-        let mut reading = Reading::<S>::from_members(alloc, found);
-        let attributes = reading.required("attributes");
-        let extensions = reading.optional("extensions");
-        let extras = reading.optional("extras");
-        let indices = reading.optional("indices");
-        let material = reading.optional("material");
-        let mode = reading.or_default("mode", Checked::Valid(Mode::Triangles));
-        let targets = reading.optional("targets");
-        reading.finish(Primitive {
+    fn read_members<R: ReadRows>(from: &mut R) -> Primitive {
+        let attributes = from.required("attributes");
+        let extensions = from.optional("extensions");
+        let extras = from.optional("extras");
+        let indices = from.optional("indices");
+        let material = from.optional("material");
+        let mode = from.or_default("mode", Checked::Valid(Mode::Triangles));
+        let targets = from.optional("targets");
+        Primitive {
             attributes,
             extensions,
             extras,
@@ -183,7 +180,7 @@ impl Object for Primitive {
             material,
             mode,
             targets,
-        })
+        }
     }
 
     fn write_members<W: WriteRows>(&self, to: &mut W) {
@@ -237,16 +234,15 @@ impl Object for MorphTarget {
 
     ghost low = { (morph_target_height.1, lit≤ tt) };
 
-    fn decode_members<S: Source>(alloc: Global, found: S::Fields) -> Result<MorphTarget, Error> {
-        let mut reading = Reading::<S>::from_members(alloc, found);
-        let positions = reading.optional("POSITION");
-        let normals = reading.optional("NORMAL");
-        let tangents = reading.optional("TANGENT");
-        reading.finish(MorphTarget {
+    fn read_members<R: ReadRows>(from: &mut R) -> MorphTarget {
+        let positions = from.optional("POSITION");
+        let normals = from.optional("NORMAL");
+        let tangents = from.optional("TANGENT");
+        MorphTarget {
             positions,
             normals,
             tangents,
-        })
+        }
     }
 
     fn write_members<W: WriteRows>(&self, to: &mut W) {

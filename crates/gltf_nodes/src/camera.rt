@@ -16,8 +16,7 @@ use gltf_base::camera::CameraType;
 use gltf_base::validation::Checked;
 use gltf_base::{Listed, Real};
 use gltf_data::extras::Extras;
-use gltf_schema::{Error, Object, Reading, Source, WriteRows};
-use std::alloc::Global;
+use gltf_schema::{Object, ReadRows, WriteRows};
 
 /// How a scene is seen from a node.
 // What takes longest to drop comes last (docs/DECISIONS.md).
@@ -107,22 +106,21 @@ impl Object for Camera {
 
     ghost low = { (camera_height.1, lit≤ tt) };
 
-    fn decode_members<S: Source>(alloc: Global, found: S::Fields) -> Result<Camera, Error> {
-        let mut reading = Reading::<S>::from_members(alloc, found);
-        let name = reading.optional("name");
-        let orthographic = reading.optional("orthographic");
-        let perspective = reading.optional("perspective");
-        let type_ = reading.required("type");
-        let extensions = reading.optional("extensions");
-        let extras = reading.optional("extras");
-        reading.finish(Camera {
+    fn read_members<R: ReadRows>(from: &mut R) -> Camera {
+        let name = from.optional("name");
+        let orthographic = from.optional("orthographic");
+        let perspective = from.optional("perspective");
+        let type_ = from.required("type");
+        let extensions = from.optional("extensions");
+        let extras = from.optional("extras");
+        Camera {
             name,
             orthographic,
             perspective,
             type_,
             extensions,
             extras,
-        })
+        }
     }
 
     fn write_members<W: WriteRows>(&self, to: &mut W) {
@@ -187,22 +185,21 @@ impl Object for Orthographic {
 
     ghost low = { (orthographic_height.1, lit≤ tt) };
 
-    fn decode_members<S: Source>(alloc: Global, found: S::Fields) -> Result<Orthographic, Error> {
-        let mut reading = Reading::<S>::from_members(alloc, found);
-        let xmag = reading.required("xmag");
-        let ymag = reading.required("ymag");
-        let zfar = reading.required("zfar");
-        let znear = reading.required("znear");
-        let extensions = reading.optional("extensions");
-        let extras = reading.optional("extras");
-        reading.finish(Orthographic {
+    fn read_members<R: ReadRows>(from: &mut R) -> Orthographic {
+        let xmag = from.required("xmag");
+        let ymag = from.required("ymag");
+        let zfar = from.required("zfar");
+        let znear = from.required("znear");
+        let extensions = from.optional("extensions");
+        let extras = from.optional("extras");
+        Orthographic {
             xmag,
             ymag,
             zfar,
             znear,
             extensions,
             extras,
-        })
+        }
     }
 
     fn write_members<W: WriteRows>(&self, to: &mut W) {
@@ -265,22 +262,21 @@ impl Object for Perspective {
 
     ghost low = { (perspective_height.1, lit≤ tt) };
 
-    fn decode_members<S: Source>(alloc: Global, found: S::Fields) -> Result<Perspective, Error> {
-        let mut reading = Reading::<S>::from_members(alloc, found);
-        let aspect_ratio = reading.optional("aspectRatio");
-        let yfov = reading.required("yfov");
-        let zfar = reading.optional("zfar");
-        let znear = reading.required("znear");
-        let extensions = reading.optional("extensions");
-        let extras = reading.optional("extras");
-        reading.finish(Perspective {
+    fn read_members<R: ReadRows>(from: &mut R) -> Perspective {
+        let aspect_ratio = from.optional("aspectRatio");
+        let yfov = from.required("yfov");
+        let zfar = from.optional("zfar");
+        let znear = from.required("znear");
+        let extensions = from.optional("extensions");
+        let extras = from.optional("extras");
+        Perspective {
             aspect_ratio,
             yfov,
             zfar,
             znear,
             extensions,
             extras,
-        })
+        }
     }
 
     fn write_members<W: WriteRows>(&self, to: &mut W) {

@@ -17,7 +17,7 @@ use crate::skin::Skin;
 use gltf_base::{Index, Listed, Real};
 use gltf_data::extras::Extras;
 use gltf_meshes::mesh::Mesh;
-use gltf_schema::{Error, Object, Reading, Schema, Source, Tabled, WriteRows};
+use gltf_schema::{Error, Object, ReadRows, Schema, Source, Tabled, WriteRows};
 use serde_json::Value;
 use std::alloc::Global;
 
@@ -148,21 +148,20 @@ impl Object for Node {
 
     ghost low = { (node_height.1, lit≤ tt) };
 
-    fn decode_members<S: Source>(alloc: Global, found: S::Fields) -> Result<Node, Error> {
-        let mut reading = Reading::<S>::from_members(alloc, found);
-        let camera = reading.optional("camera");
-        let children = reading.optional("children");
-        let extensions = reading.optional("extensions");
-        let extras = reading.optional("extras");
-        let matrix = reading.optional("matrix");
-        let mesh = reading.optional("mesh");
-        let name = reading.optional("name");
-        let rotation = reading.optional("rotation");
-        let scale = reading.optional("scale");
-        let translation = reading.optional("translation");
-        let skin = reading.optional("skin");
-        let weights = reading.optional("weights");
-        reading.finish(Node {
+    fn read_members<R: ReadRows>(from: &mut R) -> Node {
+        let camera = from.optional("camera");
+        let children = from.optional("children");
+        let extensions = from.optional("extensions");
+        let extras = from.optional("extras");
+        let matrix = from.optional("matrix");
+        let mesh = from.optional("mesh");
+        let name = from.optional("name");
+        let rotation = from.optional("rotation");
+        let scale = from.optional("scale");
+        let translation = from.optional("translation");
+        let skin = from.optional("skin");
+        let weights = from.optional("weights");
+        Node {
             camera,
             children,
             extensions,
@@ -175,7 +174,7 @@ impl Object for Node {
             translation,
             skin,
             weights,
-        })
+        }
     }
 
     fn write_members<W: WriteRows>(&self, to: &mut W) {
@@ -253,18 +252,17 @@ impl Object for Scene {
 
     ghost low = { (scene_height.1, lit≤ tt) };
 
-    fn decode_members<S: Source>(alloc: Global, found: S::Fields) -> Result<Scene, Error> {
-        let mut reading = Reading::<S>::from_members(alloc, found);
-        let extensions = reading.optional("extensions");
-        let extras = reading.optional("extras");
-        let name = reading.optional("name");
-        let nodes = reading.list("nodes");
-        reading.finish(Scene {
+    fn read_members<R: ReadRows>(from: &mut R) -> Scene {
+        let extensions = from.optional("extensions");
+        let extras = from.optional("extras");
+        let name = from.optional("name");
+        let nodes = from.list("nodes");
+        Scene {
             extensions,
             extras,
             name,
             nodes,
-        })
+        }
     }
 
     fn write_members<W: WriteRows>(&self, to: &mut W) {

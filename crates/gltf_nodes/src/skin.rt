@@ -13,8 +13,7 @@ use crate::scene::Node;
 use gltf_base::{Index, Listed};
 use gltf_data::accessor::Accessor;
 use gltf_data::extras::Extras;
-use gltf_schema::{Error, Object, Reading, Source, WriteRows};
-use std::alloc::Global;
+use gltf_schema::{Object, ReadRows, WriteRows};
 
 /// The joints that the vertices of a mesh follow.
 // What takes longest to drop comes last (docs/DECISIONS.md).
@@ -84,22 +83,21 @@ impl Object for Skin {
 
     ghost low = { (skin_height.1, lit≤ tt) };
 
-    fn decode_members<S: Source>(alloc: Global, found: S::Fields) -> Result<Skin, Error> {
-        let mut reading = Reading::<S>::from_members(alloc, found);
-        let extensions = reading.optional("extensions");
-        let extras = reading.optional("extras");
-        let inverse_bind_matrices = reading.optional("inverseBindMatrices");
-        let joints = reading.list("joints");
-        let name = reading.optional("name");
-        let skeleton = reading.optional("skeleton");
-        reading.finish(Skin {
+    fn read_members<R: ReadRows>(from: &mut R) -> Skin {
+        let extensions = from.optional("extensions");
+        let extras = from.optional("extras");
+        let inverse_bind_matrices = from.optional("inverseBindMatrices");
+        let joints = from.list("joints");
+        let name = from.optional("name");
+        let skeleton = from.optional("skeleton");
+        Skin {
             extensions,
             extras,
             inverse_bind_matrices,
             joints,
             name,
             skeleton,
-        })
+        }
     }
 
     fn write_members<W: WriteRows>(&self, to: &mut W) {

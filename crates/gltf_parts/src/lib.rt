@@ -4,8 +4,8 @@
 #![tactic(auto)]
 
 pub use gltf_schema::{
-    Blank, DroppedExtensions, Error, KeptExtensions, Object, Omittable, Printing, Reading, Schema,
-    Source, Tabled, Tokens, Unlisted, WriteRows, Writing,
+    Blank, DroppedExtensions, Error, KeptExtensions, Object, Omittable, OwnedStep, Printing,
+    ReadRows, Reading, Refusal, Schema, Source, Tabled, Tokens, Unlisted, WriteRows, Writing,
 };
 
 /// Accessors: how the data of a view is read as elements.

@@ -1,5 +1,5 @@
 -- What bytes are read as, from what is known of their text and of their reader.
-use Rattle.std.proofs.Common.{◌≡◌, ℕ, true, false, List, Option, Some, None, IsUtf8, ⊎_elim, Result, Ok, Err, IfErr, IfSome}
+use Rattle.std.proofs.Common.{◌≡◌, ℕ, true, false, List, Option, Some, None, option_map, IsUtf8, ⊎_elim, Result, Ok, Err, IfOk, IfErr, IfSome, refl}
 use Rattle.std.specs.Str.{is_utf8}
 use Rattle.std.proofs.lemmas.Bool.{cases_Bool}
 use Rattle.std.proofs.lemmas.Str.{IsUtf8-from_is_utf8, is_utf8-from_IsUtf8}
@@ -7,13 +7,16 @@ use Rattle.std.proofs.KnownBytes.{Consumes-whole}
 use Rattle.serde_json.specs.Data.{Data}
 use Rattle.serde_json.specs.Read.{read as read_json}
 use Rattle.gltf_schema.specs.Outcome.{Reads}
+use Rattle.gltf_schema.specs.Plain.{is_plain}
+use Rattle.gltf_schema.proofs.ReadPlain.{decoded_plain}
+use Rattle.gltf_borrowed.specs.Decoded.{IsDecoded}
 use Rattle.gltf_schema.specs.Read.{read}
 use Rattle.gltf_schema.specs.Tree.{Tree}
 use Rattle.gltf_paths.specs.declared.error.Error.{Error}
 use Rattle.gltf_paths.specs.declared.error.Error.TheVariants.{Json, Schema, InvalidItem, Read, Write, Memory, TooLong}
 use Rattle.gltf_root.specs.Answer.{Answer, no_json, tree_answer, answer, IsAnswer, IsReadAnswer, IsReading, IsRefusal}
 use Rattle.gltf_devices.specs.Device.{Seen, IsWithin, IsCause, IsReadError, IsReadToEnd}
-use Rattle.gltf_root.specs.Root.{root_kind, root_tree}
+use Rattle.gltf_root.specs.Root.{root_kind, root_tree, root_sound}
 use Rattle.gltf_root.specs.declared.root.Root.{Root}
 
 -- bytes of a JSON value are answered by the table
@@ -44,6 +47,31 @@ pub IsAnswer-json : (bytes : List ℕ) (d : Data) (r : Result Root Error) → Is
 IsAnswer-json bytes d r utf8 is h = rw (answer-json bytes d utf8 is) (IsAnswer-tree r (read root_kind d) h)
 
 pub ruleset answers = (IsAnswer-json, answer-no_json)
+
+undecoded : (r : Result Root Error) → IsDecoded {X = Root} {Y = Tree} root_tree None r → IsAnswer no_json r
+undecoded (Ok root) h = absurd h
+undecoded (Err Json) h = refl
+undecoded (Err Schema) h = absurd h
+undecoded (Err (Memory e)) h = tt
+undecoded (Err Read) h = absurd h
+undecoded (Err Write) h = absurd h
+undecoded (Err TooLong) h = absurd h
+undecoded (Err InvalidItem) h = absurd h
+
+decoded_answer : (bytes : List ℕ) (o : Option Data) (r : Result Root Error) → IsUtf8 bytes → read_json bytes ≡ o
+    → IsDecoded root_tree (option_map (read root_kind) o) r → IsAnswer (answer bytes) r
+decoded_answer bytes None r utf8 is h = rw (answer-no_json bytes (λ _. is)) (undecoded r h)
+decoded_answer bytes (Some d) r utf8 is h = IsAnswer-json bytes d r utf8 is h
+
+-- what is decoded from a text is the answer of its bytes
+pub IsAnswer-decoded : (bytes : List ℕ) (r : Result Root Error) → IsUtf8 bytes → IsDecoded root_tree (option_map (read root_kind) (read_json bytes)) r → IsAnswer (answer bytes) r
+IsAnswer-decoded bytes r utf8 h = decoded_answer bytes (read_json bytes) r utf8 refl h
+
+-- and plain
+pub decoded_is_plain : (o : Option Data) (r : Result Root Error) → IsDecoded root_tree (option_map (read root_kind) o) r → IfOk r (λ root. is_plain root_kind (root_tree root) ≡ true)
+decoded_is_plain None (Ok root) h = absurd h
+decoded_is_plain None (Err e) h = tt
+decoded_is_plain (Some d) r h = decoded_plain root_kind root_tree r d root_sound h
 
 IsReadAnswer-answer : (due : Answer) (r : Result Root Error) → IsAnswer due r → IsReadAnswer due r
 IsReadAnswer-answer due (Ok root) h = h

@@ -3,6 +3,7 @@ pub mod Root
 pub mod RootExtension
 pub mod Named
 pub mod Lists
+pub mod Apart
 pub mod Lending
 pub mod Pushed
 pub mod Undone

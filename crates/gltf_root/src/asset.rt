@@ -7,7 +7,7 @@ ghost use Rattle.gltf_root.specs.Asset.{asset_rows, asset_sound, asset_height, a
 
 use crate::extensions;
 use gltf_data::extras::Extras;
-use gltf_schema::{Blank, Error, Object, Reading, Source, WriteRows};
+use gltf_schema::{Blank, Object, ReadRows, WriteRows};
 use std::alloc::{AllocError, Global};
 
 /// What a document says of itself.
@@ -79,22 +79,21 @@ impl Object for Asset {
 
     ghost low = { (asset_height.1, lit≤ tt) };
 
-    fn decode_members<S: Source>(alloc: Global, found: S::Fields) -> Result<Asset, Error> {
-        let mut reading = Reading::<S>::from_members(alloc, found);
-        let copyright = reading.optional("copyright");
-        let generator = reading.optional("generator");
-        let min_version = reading.optional("minVersion");
-        let version = reading.required("version");
-        let extensions = reading.optional("extensions");
-        let extras = reading.optional("extras");
-        reading.finish(Asset {
+    fn read_members<R: ReadRows>(from: &mut R) -> Asset {
+        let copyright = from.optional("copyright");
+        let generator = from.optional("generator");
+        let min_version = from.optional("minVersion");
+        let version = from.required("version");
+        let extensions = from.optional("extensions");
+        let extras = from.optional("extras");
+        Asset {
             copyright,
             generator,
             min_version,
             version,
             extensions,
             extras,
-        })
+        }
     }
 
     fn write_members<W: WriteRows>(&self, to: &mut W) {

@@ -20,19 +20,22 @@ use gltf_meshes::mesh::Mesh;
 use gltf_nodes::camera::Camera;
 use gltf_nodes::scene::{Node, Scene};
 use gltf_nodes::skin::Skin;
-use gltf_schema::{Error, Object, Reading, Source, WriteRows};
+use gltf_schema::{Object, ReadRows, WriteRows};
 use gltf_textures::texture::{self, Texture};
 use std::alloc::{AllocError, Global};
 
 mod extended;
 mod get;
 mod items;
+mod lists;
 mod mark;
 mod parse;
 mod print;
+mod refused;
 mod top_level;
 
 pub use get::{Get, RootItem};
+pub use gltf_borrowed::Place;
 pub use mark::Mark;
 pub use top_level::TopLevel;
 
@@ -143,28 +146,27 @@ impl Object for Root {
 
     ghost low = { (root_height.1, lit≤ tt) };
 
-    fn decode_members<S: Source>(alloc: Global, found: S::Fields) -> Result<Root, Error> {
-        let mut reading = Reading::<S>::from_members(alloc, found);
-        let accessors = reading.list("accessors");
-        let animations = reading.list("animations");
-        let asset = reading.required("asset");
-        let buffers = reading.list("buffers");
-        let buffer_views = reading.list("bufferViews");
-        let scene = reading.optional("scene");
-        let extensions = reading.optional("extensions");
-        let extras = reading.optional("extras");
-        let extensions_used = reading.list("extensionsUsed");
-        let extensions_required = reading.list("extensionsRequired");
-        let cameras = reading.list("cameras");
-        let images = reading.list("images");
-        let materials = reading.list("materials");
-        let meshes = reading.list("meshes");
-        let nodes = reading.list("nodes");
-        let samplers = reading.list("samplers");
-        let scenes = reading.list("scenes");
-        let skins = reading.list("skins");
-        let textures = reading.list("textures");
-        reading.finish(Root {
+    fn read_members<R: ReadRows>(from: &mut R) -> Root {
+        let accessors = from.list("accessors");
+        let animations = from.list("animations");
+        let asset = from.required("asset");
+        let buffers = from.list("buffers");
+        let buffer_views = from.list("bufferViews");
+        let scene = from.optional("scene");
+        let extensions = from.optional("extensions");
+        let extras = from.optional("extras");
+        let extensions_used = from.list("extensionsUsed");
+        let extensions_required = from.list("extensionsRequired");
+        let cameras = from.list("cameras");
+        let images = from.list("images");
+        let materials = from.list("materials");
+        let meshes = from.list("meshes");
+        let nodes = from.list("nodes");
+        let samplers = from.list("samplers");
+        let scenes = from.list("scenes");
+        let skins = from.list("skins");
+        let textures = from.list("textures");
+        Root {
             accessors,
             animations,
             asset,
@@ -184,7 +186,7 @@ impl Object for Root {
             scenes,
             skins,
             textures,
-        })
+        }
     }
 
     fn write_members<W: WriteRows>(&self, to: &mut W) {

@@ -81,7 +81,7 @@ pub none_invalid : (xs : List Real) → any_holds_invalid (trees (map real_tree 
 none_invalid [] = refl
 none_invalid (x ∷ xs) = none_invalid xs
 
--- so reals are withheld for want of memory alone
+-- only a refused growth withholds reals
 pub reals_withheld : {B : Type 0} (e : Error) (xs : List Real) (written : Option B) (b : Bool)
     → Withholds e (write_items (write Number) (trees (map real_tree xs))) (any_holds_invalid (trees (map real_tree xs))) → Withholds e written b
 reals_withheld e xs written b h =

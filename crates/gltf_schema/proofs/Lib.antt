@@ -2,6 +2,9 @@ pub mod TakingOut
 pub mod Items
 pub mod Choosing
 pub mod RowByRow
+pub mod OneRow
+pub mod Placed
+pub mod OneRowPlaced
 pub mod Putting
 pub mod RowsPut
 pub mod RowsWritten

@@ -38,7 +38,7 @@ withheld_then e f written b c wider h = withheld_through e written (written >>= 
 pub withheld : {A B : Type 0} (e : Error) (f : A → B) (written : Option A) (b : Bool) → Withholds e written b → Withholds e (option_map f written) b
 withheld e f written b h = withheld_through e written (option_map f written) b b (λ g. (ap (option_map f) g.0, g.1)) h
 
--- what nothing is invalid in is withheld for want of memory alone
+-- if nothing is invalid, only a refused growth withholds what is put
 pub withheld_anyway : {A B : Type 0} (e : Error) (v : Option A) (written : Option B) (b : Bool) → Withholds e v false → Withholds e written b
 withheld_anyway e v written b h = withheld_through e v written false b (λ g. absurd (false≢true g.1)) h
 

@@ -1,7 +1,7 @@
--- Rows read one after another, by a state that goes on or stays failed.
-use Rattle.std.proofs.Common.{◌≡◌, ℕ, List, Option, Some, None, option_map, Bool, true, false, Result, Ok, Err, refl, sym, ap, ◌∙◌, subst}
-use Rattle.serde_json.specs.Data.{Data, Members, no_members}
-use Rattle.serde_json.specs.Find.{get_member}
+-- Rows read one after another, whatever they are read from; and members taken out of a map by a
+-- state that goes on or stays failed.
+use Rattle.std.proofs.Common.{◌≡◌, ℕ, List, Option, Some, None, Bool, true, false, Result, Ok, Err, refl, sym, ap, subst}
+use Rattle.serde_json.specs.Data.{Members, no_members}
 use Rattle.gltf_paths.specs.declared.error.Error.{Error}
 use Rattle.gltf_paths.specs.declared.error.Error.TheVariants as errors
 use Rattle.gltf_schema.specs.Outcome.{Reads, Refuses}
@@ -9,10 +9,52 @@ use Rattle.gltf_schema.specs.Maybe.{◌>>=◌}
 use Rattle.gltf_schema.specs.Tree.{Tree, whole, index, Trees, end, with_tree}
 use Rattle.gltf_paths.specs.Lists.{images}
 use Rattle.gltf_schema.specs.Kind.{Mark, required, Kind, IndexInto, SourceImage, ChannelSampler, U32, Rows, no_rows, row}
-use Rattle.gltf_schema.specs.Read.{read, read_member, small_number, left}
-use Rattle.gltf_schema.specs.Taken.{without, take_member, take_rows, take_all}
-use Rattle.gltf_schema.specs.Readings.{MemberFrom, OthersFrom, FinishFrom, ReadsMember, TakesOthers, Finishes}
+use Rattle.gltf_schema.specs.Read.{left}
+use Rattle.gltf_schema.specs.Taken.{take_member, take_rows, take_all}
+use Rattle.gltf_schema.specs.Readings.{ReadsRow, ReadsOthers, RowsFrom, OthersFrom, ReadsMembers, TakesSource, TakesSampler, TakesMember, TakesOthers, ended}
 use Rattle.gltf_schema.proofs.TakingOut.{refused_through, refused}
+
+-- ---- rows, whatever they are read from
+
+-- each row was read, in the rows' order
+pub record ReadsRows {S : Type 0} (Takes : S → List ℕ → Mark → Kind → Tree → S → Type 0) (old : S) (rows : Rows) (ts : Trees) (new : S) : Type 0 where
+  pub is : RowsFrom Takes old rows ts new
+
+-- no row is left to read
+pub read_none : {S : Type 0} {Takes : S → List ℕ → Mark → Kind → Tree → S → Type 0} {s : S} → ReadsRows Takes s no_rows end s
+read_none {S} {Takes} {s} = record { is = refl }
+
+-- one row, and those after it
+pub read_row : {S : Type 0} {Takes : S → List ℕ → Mark → Kind → Tree → S → Type 0} {old mid new : S} {n : List ℕ} {mark : Mark} {kind : Kind} {rows : Rows} {t : Tree} {ts : Trees}
+    → ReadsRow Takes old n mark kind t mid → ReadsRows Takes mid rows ts new → ReadsRows Takes old (row n mark kind rows) (with_tree t ts) new
+read_row {S} {Takes} {old} {mid} {new} {n} {mark} {kind} {rows} {t} {ts} h k = record { is = (mid, h.is, k.is) }
+
+-- each row of an object that keeps no unknown members
+pub all_read : {S : Type 0} {Takes : S → List ℕ → Mark → Kind → Tree → S → Type 0} {Leaves : S → Members → S → Type 0} {rows : Rows} {ts : Trees} {old new : S}
+    → ReadsRows Takes old rows ts new → ReadsMembers Takes Leaves rows false ts no_members old new
+all_read {S} {Takes} {Leaves} {rows} {ts} {old} {new} h = record { mid = new; rows_from = h.is; others_from = (refl, refl) }
+
+-- each row of one that keeps them
+pub all_kept : {S : Type 0} {Takes : S → List ℕ → Mark → Kind → Tree → S → Type 0} {Leaves : S → Members → S → Type 0} {rows : Rows} {ts : Trees} {unknown : Members} {old mid new : S}
+    → ReadsRows Takes old rows ts mid → ReadsOthers Leaves mid unknown new → ReadsMembers Takes Leaves rows true ts unknown old new
+all_kept {S} {Takes} {Leaves} {rows} {ts} {unknown} {old} {mid} {new} h k = record { mid = mid; rows_from = h.is; others_from = k.is }
+
+-- a row's mark said in another way
+pub marked : {S : Type 0} {Takes : S → List ℕ → Mark → Kind → Tree → S → Type 0} {old new : S} {n : List ℕ} {mark mark' : Mark} {kind : Kind} {t : Tree}
+    → mark ≡ mark' → ReadsRow Takes old n mark kind t new → ReadsRow Takes old n mark' kind t new
+marked {S} {Takes} {old} {new} {n} {mark} {mark'} {kind} {t} is h = subst (λ m. ReadsRow Takes old n m kind t new) is h
+
+-- the image of a texture is read as an index into the images
+pub source_read : {S : Type 0} {Takes : S → List ℕ → Mark → Kind → Tree → S → Type 0} {old new : S} {n : List ℕ} {mark : Mark} {t : Tree}
+    → TakesSource Takes → ReadsRow Takes old n mark (IndexInto images) t new → ReadsRow Takes old n mark SourceImage t new
+source_read {S} {Takes} {old} {new} {n} {mark} {t} law h = record { is = law old new n mark t h.is }
+
+-- the sampler of a channel is read as the number that its index is
+pub sampler_read : {S : Type 0} {Takes : S → List ℕ → Mark → Kind → Tree → S → Type 0} {old new : S} {n : List ℕ} {i number : ℕ}
+    → TakesSampler Takes → i ≡ number → ReadsRow Takes old n required U32 (whole number) new → ReadsRow Takes old n required ChannelSampler (index i) new
+sampler_read {S} {Takes} {old} {new} {n} {i} {number} law e h = rw e (record { is = law old new n number h.is })
+
+-- ---- members taken out of a map
 
 -- a step that is refused refuses what comes after it
 pub refused_then : {A B : Type 0} (e : Error) (f : A → Option B) (read : Option A) → Refuses e read → Refuses e (read >>= f)
@@ -22,7 +64,7 @@ none_taken : (ms : Members) → take_rows no_rows ms ≡ Some (end, ms)
 unfolding take_rows
 none_taken ms = refl
 
-row_taken : (n : List ℕ) (mark : Mark) (kind : Kind) (rows : Rows) (ms ms' rest : Members) (t : Tree) (ts : Trees)
+pub row_taken : (n : List ℕ) (mark : Mark) (kind : Kind) (rows : Rows) (ms ms' rest : Members) (t : Tree) (ts : Trees)
     → take_member n mark kind ms ≡ Some (t, ms') → take_rows rows ms' ≡ Some (ts, rest) → take_rows (row n mark kind rows) ms ≡ Some (with_tree t ts, rest)
 unfolding take_rows
 row_taken n mark kind rows ms ms' rest t ts e h = rw (e, h) refl
@@ -37,51 +79,40 @@ row_refused : (e : Error) (n : List ℕ) (mark : Mark) (kind : Kind) (rows : Row
 unfolding take_rows
 row_refused e n mark kind rows ms h = refused_then e _ (take_member n mark kind ms) h
 
--- rows read from members that are under way, or that failed
-abbrev pub RowsFrom : Result Members Error → Rows → Trees → Result Members Error → Type 0
-RowsFrom (Ok ms) rows ts after = Reads (λ left. (ts, left)) after (take_rows rows ms)
-RowsFrom (Err e) rows ts after = after ≡ Err e
+-- rows taken out of members that are under way, or of a state that failed
+abbrev RowsTaken : Result Members Error → Rows → Trees → Result Members Error → Type 0
+RowsTaken (Ok ms) rows ts new = Reads (λ left. (ts, left)) new (take_rows rows ms)
+RowsTaken (Err e) rows ts new = new ≡ Err e
 
--- each row was read
-pub record ReadsRows (before : Result Members Error) (rows : Rows) (ts : Trees) (after : Result Members Error) : Type 0 where
-  pub is : RowsFrom before rows ts after
+none_from : (s new : Result Members Error) → new ≡ s → RowsTaken s no_rows end new
+none_from (Ok ms) new h = rw h (none_taken ms)
+none_from (Err e) new h = h
 
-none_from : (s : Result Members Error) → RowsFrom s no_rows end s
-none_from (Ok ms) = none_taken ms
-none_from (Err e) = refl
-
--- no row is left to read
-pub read_none : {s : Result Members Error} → ReadsRows s no_rows end s
-read_none {s} = record { is = none_from s }
-
-later : (after : Result Members Error) (n : List ℕ) (mark : Mark) (kind : Kind) (rows : Rows) (t : Tree) (ts : Trees) (ms ms' : Members)
-    → take_member n mark kind ms ≡ Some (t, ms') → Reads (λ left. (ts, left)) after (take_rows rows ms') → Reads (λ left. (with_tree t ts, left)) after (take_rows (row n mark kind rows) ms)
+later : (new : Result Members Error) (n : List ℕ) (mark : Mark) (kind : Kind) (rows : Rows) (t : Tree) (ts : Trees) (ms ms' : Members)
+    → take_member n mark kind ms ≡ Some (t, ms') → Reads (λ left. (ts, left)) new (take_rows rows ms') → Reads (λ left. (with_tree t ts, left)) new (take_rows (row n mark kind rows) ms)
 later (Ok rest) n mark kind rows t ts ms ms' e h = row_taken n mark kind rows ms ms' rest t ts e h
 later (Err x) n mark kind rows t ts ms ms' e h = later_refused x n mark kind rows ms ms' t e h
 
-both_from : (before mid after : Result Members Error) (n : List ℕ) (mark : Mark) (kind : Kind) (rows : Rows) (t : Tree) (ts : Trees)
-    → MemberFrom before n mark kind t mid → RowsFrom mid rows ts after → RowsFrom before (row n mark kind rows) (with_tree t ts) after
-both_from (Ok ms) (Ok ms') after n mark kind rows t ts h k = later after n mark kind rows t ts ms ms' h k
-both_from (Ok ms) (Err e) after n mark kind rows t ts h k =
+both_from : (old mid new : Result Members Error) (n : List ℕ) (mark : Mark) (kind : Kind) (rows : Rows) (t : Tree) (ts : Trees)
+    → TakesMember old n mark kind t mid → RowsTaken mid rows ts new → RowsTaken old (row n mark kind rows) (with_tree t ts) new
+both_from (Ok ms) (Ok ms') new n mark kind rows t ts h k = later new n mark kind rows t ts ms ms' h k
+both_from (Ok ms) (Err e) new n mark kind rows t ts h k =
     subst (λ r. Reads (λ left. (with_tree t ts, left)) r (take_rows (row n mark kind rows) ms)) (sym k) (row_refused e n mark kind rows ms h)
-both_from (Err e) mid after n mark kind rows t ts h k = subst (λ (r : Result Members Error). RowsFrom r rows ts after) h k
+both_from (Err e) mid new n mark kind rows t ts h k = subst (λ (r : Result Members Error). RowsTaken r rows ts new) h k
 
--- one row, and those after it
-pub read_row : {before mid after : Result Members Error} {n : List ℕ} {mark : Mark} {kind : Kind} {rows : Rows} {t : Tree} {ts : Trees}
-    → ReadsMember before n mark kind t mid → ReadsRows mid rows ts after → ReadsRows before (row n mark kind rows) (with_tree t ts) after
-read_row {before} {mid} {after} {n} {mark} {kind} {rows} {t} {ts} h k =
-    record { is = both_from before mid after n mark kind rows t ts h.is k.is }
+rows_taken : (old : Result Members Error) (rows : Rows) (ts : Trees) (new : Result Members Error) → RowsFrom TakesMember old rows ts new → RowsTaken old rows ts new
+rows_taken old no_rows end new h = none_from old new h
+rows_taken old no_rows (with_tree t ts) new h = absurd h
+rows_taken old (row n mark kind rows) end new h = absurd h
+rows_taken old (row n mark kind rows) (with_tree t ts) new h = both_from old h.0 new n mark kind rows t ts h.1 (rows_taken h.0 rows ts new h.2)
 
-all_taken : (rows : Rows) (keeps : Bool) (ms rest : Members) (ts : Trees) → take_rows rows ms ≡ Some (ts, rest) → take_all rows keeps ms ≡ Some (ts, left keeps rest)
+pub all_taken : (rows : Rows) (keeps : Bool) (ms rest : Members) (ts : Trees) → take_rows rows ms ≡ Some (ts, rest) → take_all rows keeps ms ≡ Some (ts, left keeps rest)
 unfolding take_all
 all_taken rows keeps ms rest ts h = rw h refl
 
 all_refused : (e : Error) (rows : Rows) (keeps : Bool) (ms : Members) → Refuses e (take_rows rows ms) → Refuses e (take_all rows keeps ms)
 unfolding take_all
 all_refused e rows keeps ms h = refused e _ (take_rows rows ms) h
-
-rows_read : (s s' : Result Members Error) (rows : Rows) (ts : Trees) (ms : Members) → s ≡ Ok ms → RowsFrom s rows ts s' → Reads (λ left. (ts, left)) s' (take_rows rows ms)
-rows_read s s' rows ts ms is h = subst (λ (r : Result Members Error). RowsFrom r rows ts s') is h
 
 abbrev first_of : Option (Members × Members) → Members
 first_of None = no_members
@@ -97,73 +128,50 @@ memory_only errors.Read a read h = absurd h
 memory_only errors.Write a read h = absurd h
 memory_only errors.TooLong a read h = absurd h
 
-closed : {X : Type 0} (members : X → Trees) (x : X) (r : Result X Error) (rows : Rows) (ms : Members) (s : Result Members Error)
-    → Reads (λ left. (members x, left)) s (take_rows rows ms) → FinishFrom s x r → Reads (λ y. (members y, no_members)) r (take_all rows false ms)
-closed {X} members x r rows ms (Ok rest) h is = rw is (all_taken rows false ms rest (members x) h)
-closed {X} members x r rows ms (Err e) h is = rw is (all_refused e rows false ms h)
+-- the rows' trees and the other members, unless reading failed
+abbrev AllTaken : Result Members Error → Rows → Bool → Trees → Members → Members → Type 0
+AllTaken new rows keeps ts unknown ms = Reads {X = Members} (λ _. (ts, unknown)) new (take_all rows keeps ms)
 
-kept : {X : Type 0} (members : X → Trees) (unknown : X → Members) (x : X) (r : Result X Error) (rows : Rows) (ms : Members) (s s' : Result Members Error)
-    → Reads (λ left. (members x, left)) s (take_rows rows ms) → OthersFrom s (unknown x) s' → FinishFrom s' x r → Reads (λ y. (members y, unknown y)) r (take_all rows true ms)
-kept {X} members unknown x r rows ms (Ok rest) (Ok after) h taken is =
-    let same : unknown x ≡ rest = sym (ap first_of taken) in
-    rw (is, same) (all_taken rows true ms rest (members x) h)
-kept {X} members unknown x r rows ms (Ok rest) (Err e) h taken is = rw is (memory_only e _ _ taken)
-kept {X} members unknown x r rows ms (Err e) s' h taken is =
-    rw (subst (λ (o : Result Members Error). FinishFrom o x r) taken is) (all_refused e rows true ms h)
+closed : (s : Result Members Error) (rows : Rows) (ts : Trees) (ms : Members) → Reads (λ left. (ts, left)) s (take_rows rows ms) → AllTaken s rows false ts no_members ms
+closed (Ok rest) rows ts ms h = all_taken rows false ms rest ts h
+closed (Err e) rows ts ms h = all_refused e rows false ms h
 
--- each row was read, and what else there was is dropped
-pub all_read : {X : Type 0} {s s' : Result Members Error} {rows : Rows} {ms : Members} {x : X} {r : Result X Error} (members : X → Trees)
-    → s ≡ Ok ms → ReadsRows s rows (members x) s' → Finishes s' x r → Reads (λ y. (members y, no_members)) r (take_all rows false ms)
-all_read {X} {s} {s'} {rows} {ms} {x} {r} members begun h ended =
-    closed members x r rows ms s' (rows_read s s' rows (members x) ms begun h.is) ended.is
+kept : (s new : Result Members Error) (rows : Rows) (ts : Trees) (unknown ms : Members)
+    → Reads (λ left. (ts, left)) s (take_rows rows ms) → TakesOthers s unknown new → AllTaken new rows true ts unknown ms
+kept (Ok rest) (Ok after) rows ts unknown ms h taken =
+    let same : unknown ≡ rest = sym (ap first_of taken) in
+    rw same (all_taken rows true ms rest ts h)
+kept (Ok rest) (Err e) rows ts unknown ms h taken = memory_only e _ _ taken
+kept (Err e) new rows ts unknown ms h taken = subst (λ (s : Result Members Error). AllTaken s rows true ts unknown ms) (sym taken) (all_refused e rows true ms h)
 
--- each row was read, and what else there was is kept
-pub all_kept : {X : Type 0} {s s' s'' : Result Members Error} {rows : Rows} {ms : Members} {x : X} {r : Result X Error} (members : X → Trees) (unknown : X → Members)
-    → s ≡ Ok ms → ReadsRows s rows (members x) s' → TakesOthers s' (unknown x) s'' → Finishes s'' x r → Reads (λ y. (members y, unknown y)) r (take_all rows true ms)
-all_kept {X} {s} {s'} {s''} {rows} {ms} {x} {r} members unknown begun h taken ended =
-    kept members unknown x r rows ms s' s'' (rows_read s s' rows (members x) ms begun h.is) taken.is ended.is
+others_taken : (keeps : Bool) (s new : Result Members Error) (rows : Rows) (ts : Trees) (unknown ms : Members)
+    → Reads (λ left. (ts, left)) s (take_rows rows ms) → OthersFrom TakesOthers keeps s unknown new → AllTaken new rows keeps ts unknown ms
+others_taken true s new rows ts unknown ms h taken = kept s new rows ts unknown ms h taken
+others_taken false s new rows ts unknown ms h taken = rw (taken.0, taken.1) (closed s rows ts ms h)
 
--- a row's mark said in another way
-pub marked : {before after : Result Members Error} {n : List ℕ} {mark mark' : Mark} {kind : Kind} {t : Tree}
-    → mark ≡ mark' → ReadsMember before n mark kind t after → ReadsMember before n mark' kind t after
-marked {before} {after} {n} {mark} {mark'} {kind} {t} is h = subst (λ m. ReadsMember before n m kind t after) is h
+members_taken : (keeps : Bool) (s mid new : Result Members Error) (rows : Rows) (ts : Trees) (unknown ms : Members)
+    → s ≡ Ok ms → RowsFrom TakesMember s rows ts mid → OthersFrom TakesOthers keeps mid unknown new → AllTaken new rows keeps ts unknown ms
+members_taken keeps s mid new rows ts unknown ms is h taken =
+    others_taken keeps mid new rows ts unknown ms (rows_taken (Ok ms) rows ts mid (subst (λ (r : Result Members Error). RowsFrom TakesMember r rows ts mid) is h)) taken
 
-source_from : (before after : Result Members Error) (n : List ℕ) (mark : Mark) (t : Tree)
-    → MemberFrom before n mark (IndexInto images) t after → MemberFrom before n mark SourceImage t after
-unfolding take_member
-source_from (Ok ms) after n mark t h = h
-source_from (Err e) after n mark t h = h
+read_well : (s : Result Members Error) (rows : Rows) (keeps : Bool) (ts : Trees) (unknown ms : Members)
+    → Ok tt ≡ ended s → AllTaken s rows keeps ts unknown ms → take_all rows keeps ms ≡ Some (ts, unknown)
+read_well (Ok rest) rows keeps ts unknown ms well h = h
+read_well (Err e) rows keeps ts unknown ms well h = absurd cc
 
--- the image of a texture is read as an index into the images
-pub source_read : {before after : Result Members Error} {n : List ℕ} {mark : Mark} {t : Tree}
-    → ReadsMember before n mark (IndexInto images) t after → ReadsMember before n mark SourceImage t after
-source_read {before} {after} {n} {mark} {t} h = record { is = source_from before after n mark t h.is }
+read_ill : (s : Result Members Error) (rows : Rows) (keeps : Bool) (ts : Trees) (unknown ms : Members) (e : Error)
+    → Err e ≡ ended s → AllTaken s rows keeps ts unknown ms → Refuses e (take_all rows keeps ms)
+read_ill (Ok rest) rows keeps ts unknown ms e ill h = absurd cc
+read_ill (Err e') rows keeps ts unknown ms e ill h = let same : e' ≡ e = cc in subst (λ x. Refuses x (take_all rows keeps ms)) same h
 
--- a row's number as an index
-abbrev with_index : Tree × Members → Tree × Members
-with_index (whole n, left) = (index n, left)
-with_index r = r
+-- ---- an object of what was read
 
-index_taken : (r : Option ℕ) (left : Members) → option_map (λ t. (t, left)) (option_map index r) ≡ option_map with_index (option_map (λ t. (t, left)) (option_map whole r))
-index_taken None left = refl
-index_taken (Some n) left = refl
+-- each row was read
+pub object_read : {s new : Result Members Error} {rows : Rows} {keeps : Bool} {ts : Trees} {unknown ms : Members}
+    → s ≡ Ok ms → ReadsMembers TakesMember TakesOthers rows keeps ts unknown s new → Ok tt ≡ ended new → take_all rows keeps ms ≡ Some (ts, unknown)
+object_read {s} {new} {rows} {keeps} {ts} {unknown} {ms} is h well = read_well new rows keeps ts unknown ms well (members_taken keeps s h.mid new rows ts unknown ms is h.rows_from h.others_from)
 
-sampler_in : (m : Option Data) (left : Members)
-    → option_map (λ t. (t, left)) (read_member required (read ChannelSampler) m) ≡ option_map with_index (option_map (λ t. (t, left)) (read_member required (read U32) m))
-sampler_in None left = refl
-sampler_in (Some d) left = index_taken (small_number d) left
-
-sampler_taken : (n : List ℕ) (ms : Members) → take_member n required ChannelSampler ms ≡ option_map with_index (take_member n required U32 ms)
-unfolding take_member
-sampler_taken n ms = sampler_in (get_member n ms) (without n ms)
-
-sampler_from : (before after : Result Members Error) (n : List ℕ) (number : ℕ)
-    → MemberFrom before n required U32 (whole number) after → MemberFrom before n required ChannelSampler (index number) after
-sampler_from (Ok ms) (Ok left) n number h = sampler_taken n ms ∙ ap (option_map with_index) h
-sampler_from (Ok ms) (Err e) n number h = rw (sampler_taken n ms) (refused e with_index (take_member n required U32 ms) h)
-sampler_from (Err e) after n number h = h
-
--- the sampler of a channel is read as the number that its index is
-pub sampler_read : {before after : Result Members Error} {n : List ℕ} {i number : ℕ} → i ≡ number
-    → ReadsMember before n required U32 (whole number) after → ReadsMember before n required ChannelSampler (index i) after
-sampler_read {before} {after} {n} {i} {number} e h = rw e (record { is = sampler_from before after n number h.is })
+-- a row was refused
+pub object_refused : {s new : Result Members Error} {rows : Rows} {keeps : Bool} {ts : Trees} {unknown ms : Members} {e : Error}
+    → s ≡ Ok ms → ReadsMembers TakesMember TakesOthers rows keeps ts unknown s new → Err e ≡ ended new → Refuses e (take_all rows keeps ms)
+object_refused {s} {new} {rows} {keeps} {ts} {unknown} {ms} {e} is h ill = read_ill new rows keeps ts unknown ms e ill (members_taken keeps s h.mid new rows ts unknown ms is h.rows_from h.others_from)

@@ -76,7 +76,7 @@ get_without_at true q n m d ms is apart later =
     later ∙ sym (skips q m d ms (rw (← same) apart))
 get_without_at false q n m d ms is apart later = ap (λ r. match_ordering (slice_cmp nat_cmp q m) r (Some d) r) later
 
-get_without : (q n : List ℕ) (ms : Members) → bytes_eq q n ≡ false → get_member q (without n ms) ≡ get_member q ms
+pub get_without : (q n : List ℕ) (ms : Members) → bytes_eq q n ≡ false → get_member q (without n ms) ≡ get_member q ms
 get_without q n no_members apart = refl
 get_without q n (member m d ms) apart = get_without_at _ q n m d ms refl apart (get_without q n ms apart)
 

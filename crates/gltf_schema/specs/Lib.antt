@@ -14,6 +14,7 @@ pub mod Outcome
 pub mod Attributes
 pub mod Taken
 pub mod Readings
+pub mod ReadAs
 pub mod Writings
 pub mod ByName
 pub mod Rowwise
@@ -24,3 +25,6 @@ pub mod Given
 pub mod Floats
 pub mod Extensions
 pub mod Printings
+pub mod Refused
+pub mod Placings
+pub mod PlacedAs

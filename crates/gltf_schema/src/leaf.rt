@@ -1,18 +1,21 @@
 //! Kinds without rows.
 
-ghost use Rattle.std.specs.Prelude.{◌≡◌, map, option_map, refl};
+ghost use Rattle.std.specs.Prelude.{◌≡◌, map, option_map, refl, is_some, IfErr, IsTrue};
+ghost use Rattle.serde_json.specs.Find.{as_array};
 ghost use Rattle.serde_json.specs.Data.{array};
 ghost use Rattle.serde_json.specs.View.{view, items_view};
-ghost use Rattle.gltf_schema.specs.Tree.{whole, truth, trees};
-ghost use Rattle.gltf_schema.specs.Kind.{IndexInto, U32, U64, Number, Numbers, Text, Truth, Any};
+ghost use Rattle.gltf_schema.specs.Tree.{whole, truth, trees, list};
+ghost use Rattle.gltf_schema.specs.Kind.{IndexInto, U32, U64, Number, Numbers, Text, Truth, Any, ListOf};
 ghost use Rattle.gltf_schema.specs.Read.{read, read_items, small_number as number_of_32_bits};
 ghost use Rattle.gltf_schema.specs.Fields.{any_tree, index_tree, real_tree, reals_tree, size_tree, text_tree};
 ghost use Rattle.gltf_schema.specs.Write.{write, write_items};
 ghost use Rattle.gltf_schema.specs.Invalid.{any_holds_invalid};
 ghost use Rattle.gltf_schema.specs.Outcome.{Reads, Writes};
+ghost use Rattle.gltf_schema.specs.Placings.{place_of, IsInside, ReadsOrPlaces};
 ghost use Rattle.gltf_schema.specs.Printings.{printing_state, PrintsValue};
 ghost use Rattle.gltf_schema.specs.Leaves.{checked_tree, choice_of, checked_tree-present};
 
+use crate::placing::{OwnedStep, Refusal};
 use crate::printing::Printing;
 use crate::schema::Schema;
 use crate::source::Source;
@@ -232,6 +235,13 @@ impl<T: Choice> Schema for Checked<T> {
         Self::decode_from(alloc, value)
     }
 
+    fn decode_or_place<S: Source>(alloc: Global, source: S) -> Result<Checked<T>, Refusal> {
+        match Self::decode_from(alloc, source) {
+            Ok(value) => Ok(value),
+            Err(e) => Err(Refusal::here(alloc, e)),
+        }
+    }
+
     fn encode(&self, alloc: Global) -> Result<Value, Error> {
         let Checked::Valid(item) = self else {
             return Err(Error::InvalidItem);
@@ -264,6 +274,19 @@ impl<T: Schema> Schema for Vec<T> {
         decode_items::<S, T>(alloc, items)
     }
 
+    fn decode_or_place<S: Source>(alloc: Global, source: S) -> Result<Vec<T>, Refusal>
+        ensures by_table { ReadsOrPlaces (λ v. list (trees (map T.tree v.items))) result
+            (ListOf T.kind) (S.given source) }
+        // An array is refused at one of its items.
+        ensures inside { IfErr result (λ r. IsTrue (is_some (as_array (S.given source)))
+            → IsInside (place_of r)) }
+    {
+        match source.into_items() {
+            Some(items) => place_items::<S, T>(alloc, items),
+            None => Err(Refusal::here(alloc, Error::Schema)),
+        }
+    }
+
     fn encode(&self, alloc: Global) -> Result<Value, Error> {
         Ok(Value::Array(encode_items(alloc, self)?))
     }
@@ -289,6 +312,23 @@ fn decode_items<S: Source, T: Schema>(alloc: Global, items: S::Items) -> Result<
     let mut rest = items;
     'items: while let Some(item) = S::next(&mut rest) {
         found.push(T::decode_from(alloc, item)?)?;
+    }
+    Ok(found)
+}
+
+/// Each item, in order. Fails with the place of the first item that is refused.
+fn place_items<S: Source, T: Schema>(alloc: Global, items: S::Items) -> Result<Vec<T>, Refusal>
+    ensures by_table { ReadsOrPlaces (λ v. list (trees (map T.tree v.items))) result (ListOf T.kind)
+        (array (S.items items)) }
+    ensures inside { IfErr result (λ r. IsInside (place_of r)) }
+{
+    let mut found = Vec::with_capacity(alloc, S::room(&items))?;
+    let mut rest = items;
+    'items: while let Some(item) = S::next(&mut rest) {
+        match T::decode_or_place(alloc, item) {
+            Ok(value) => found.push(value)?,
+            Err(refusal) => return Err(refusal.within(OwnedStep::Index(found.len()))),
+        }
     }
     Ok(found)
 }

@@ -1,13 +1,15 @@
 //! An object's members as they are read, row by row.
 
-ghost use Rattle.std.specs.Prelude.{◌≡◌, Ok, map};
+ghost use Rattle.std.specs.Prelude.{◌≡◌, ℕ, List, Ok, Result, map};
+ghost use Rattle.serde_json.specs.Data.{Members};
 ghost use Rattle.serde_json.specs.View.{members_view};
-ghost use Rattle.gltf_schema.specs.Tree.{tree_or_absent, trees, list as list_tree, end};
-ghost use Rattle.gltf_schema.specs.Kind.{required as is_required, optional as is_optional, always, unless, sometimes as is_sometimes, or_null, ListOf};
-ghost use Rattle.gltf_schema.specs.Readings.{members_or_error, ReadsMember, TakesOthers, Finishes};
+ghost use Rattle.gltf_paths.specs.declared.error.Error.{Error as AnError};
+ghost use Rattle.gltf_schema.specs.Tree.{Tree, tree_or_absent, trees, list as list_tree, end};
+ghost use Rattle.gltf_schema.specs.Kind.{Kind, Mark, required as is_required, optional as is_optional, always, unless, sometimes as is_sometimes, or_null, ListOf};
+ghost use Rattle.gltf_schema.specs.Readings.{ReadsRow, ReadsOthers, TakesSource, TakesSampler, members_or_error, TakesMember, TakesOut, ReadsValue, refused_by, TakesOthers, ended};
+ghost use Rattle.gltf_schema.specs.ReadAs.{source_taken, sampler_taken};
 
 use crate::blank::Blank;
-use crate::members::{optional, or_default, required, sometimes};
 use crate::schema::Schema;
 use crate::source::Source;
 use gltf_base::Error;
@@ -15,30 +17,68 @@ use serde_json::{Map, Value};
 use std::alloc::Global;
 use std::mem;
 
+/// What the rows of an object are read from.
+///
+/// Each method reads one row of the table. Once a row was refused, what the methods return means
+/// nothing.
+pub trait ReadRows: Drop {
+    /// What is left to read, or why it is not read.
+    ghost State: { Type 0 };
+
+    ghost state: { Self → State };
+
+    ghost Takes: { State → List ℕ → Mark → Kind → Tree → State → Type 0 };
+
+    ghost Leaves: { State → Members → State → Type 0 };
+
+    /// The members that no row took.
+    fn others(&mut self) -> Map<String, Value>
+        ensures { ReadsOthers Leaves (state self.old) (members_view result.entries)
+            (state self.new) };
+
+    /// A member that has to be there.
+    fn required<T: Schema + Blank>(&mut self, name: &'static str) -> T
+        ensures { ReadsRow Takes (state self.old) name.now is_required T.kind (T.tree result)
+            (state self.new) };
+
+    /// A member that is absent where it is missing or null.
+    fn optional<T: Schema>(&mut self, name: &'static str) -> Option<T>
+        ensures left_out { ReadsRow Takes (state self.old) name.now is_optional T.kind
+            (tree_or_absent T.tree result) (state self.new) }
+        ensures or_null { ReadsRow Takes (state self.old) name.now or_null T.kind
+            (tree_or_absent T.tree result) (state self.new) };
+
+    /// A member that is absent where it is missing; null is refused.
+    fn sometimes<T: Schema>(&mut self, name: &'static str) -> Option<T>
+        ensures { ReadsRow Takes (state self.old) name.now is_sometimes T.kind
+            (tree_or_absent T.tree result) (state self.new) };
+
+    /// A list that is empty where its member is missing.
+    fn list<T: Schema>(&mut self, name: &'static str) -> Vec<T>
+        ensures { ReadsRow Takes (state self.old) name.now (unless (list_tree end)) (ListOf T.kind)
+            (list_tree (trees (map T.tree result.items))) (state self.new) };
+
+    /// A member that is the default where it is missing, whether or not it is written then.
+    fn or_default<T: Schema + Blank>(&mut self, name: &'static str, default: T) -> T
+        ensures always { ReadsRow Takes (state self.old) name.now (always (T.tree default)) T.kind
+            (T.tree result) (state self.new) }
+        ensures unless { ReadsRow Takes (state self.old) name.now (unless (T.tree default)) T.kind
+            (T.tree result) (state self.new) };
+
+    // The image of a texture is read as an index into the images.
+    ghost as_source: { TakesSource Takes };
+
+    // The sampler of a channel is read as the number that its index is.
+    ghost as_sampler: { TakesSampler Takes };
+}
+
 /// The members of an object that are not read yet, or why they are not read.
 ///
-/// Each method reads one row of the table. Once a row was refused, the methods return blank values,
-/// and [`Reading::finish`] drops them and fails with the error.
+/// [`Reading::end`] fails with the error of the row that was refused.
 #[derive(Drop)]
 pub struct Reading<S: Source> {
     alloc: Global,
     state: Result<S::Fields, Error>,
-}
-
-/// Reads one row on by a call, or leaves a blank value.
-macro_rules! read_on {
-    ($self:ident, $read:ident($($argument:expr),*), $blank:expr) => {
-        match &mut $self.state {
-            Ok(members) => match $read::<S, _>($self.alloc, members, $($argument),*) {
-                Ok(value) => value,
-                Err(e) => {
-                    $self.state = Err(e);
-                    $blank
-                }
-            },
-            Err(_) => $blank,
-        }
-    };
 }
 
 impl<S: Source> Reading<S> {
@@ -52,11 +92,68 @@ impl<S: Source> Reading<S> {
         }
     }
 
-    /// The members that no row took.
-    pub fn others(&mut self) -> Map<String, Value>
-        ensures { TakesOthers (members_or_error S.members self.old.state) (members_view result.entries)
+    /// The member of this name, if there is one and no row was refused before.
+    #[inline(always)]
+    fn take(&mut self, name: &str) -> Option<S>
+        ensures { TakesOut S.given (members_or_error S.members self.old.state) name.now result
             (members_or_error S.members self.new.state) }
     {
+        match &mut self.state {
+            Ok(members) => S::take(members, name),
+            Err(_) => None,
+        }
+    }
+
+    /// What the table reads of a member's value; if it refuses the value, it refuses the row.
+    ///
+    /// Whether the member is there is found out before, on the small `Option<S>`: the `None` of a
+    /// large type is as large, and each function that passes it on copies it.
+    #[inline(always)]
+    fn decode<T: Schema>(&mut self, value: S) -> Option<T>
+        ensures { ReadsValue T.tree (members_or_error S.members self.old.state) result T.kind
+            (S.given value) (members_or_error S.members self.new.state) }
+    {
+        match T::decode_from(self.alloc, value) {
+            Ok(x) => Some(x),
+            Err(e) => {
+                self.state = Err(e);
+                None
+            }
+        }
+    }
+
+    /// Refuses a row, unless one was refused before.
+    fn refuse(&mut self, e: Error)
+        ensures { members_or_error S.members self.new.state
+            ≡ refused_by e (members_or_error S.members self.old.state) }
+    {
+        if self.state.is_ok() {
+            self.state = Err(e);
+        }
+    }
+
+    /// Succeeds if each row was read.
+    pub fn end(self) -> Result<(), Error>
+        ensures { result ≡ ended (members_or_error S.members self.state) }
+    {
+        self.state.map(|_| ())
+    }
+}
+
+impl<S: Source> ReadRows for Reading<S> {
+    ghost State = { Result Members AnError };
+
+    ghost state = { λ r. members_or_error S.members r.state };
+
+    ghost Takes = { TakesMember };
+
+    ghost Leaves = { TakesOthers };
+
+    ghost as_source = { source_taken };
+
+    ghost as_sampler = { sampler_taken };
+
+    fn others(&mut self) -> Map<String, Value> {
         let empty = S::no_fields(self.alloc);
         match mem::replace(&mut self.state, Ok(empty)) {
             Ok(members) => match S::into_others(members, self.alloc) {
@@ -73,55 +170,44 @@ impl<S: Source> Reading<S> {
         }
     }
 
-    /// The object that was made of what was read, or why it could not be read.
-    pub fn finish<T: Drop>(self, object: T) -> Result<T, Error>
-        ensures { Finishes (members_or_error S.members self.state) object result }
-    {
-        self.state.map(|_| object)
+    fn required<T: Schema + Blank>(&mut self, name: &'static str) -> T {
+        match self.take(name) {
+            Some(value) => match self.decode(value) {
+                Some(x) => x,
+                None => T::blank(self.alloc),
+            },
+            None => {
+                self.refuse(Error::Schema);
+                T::blank(self.alloc)
+            }
+        }
     }
 
-    /// A member that has to be there.
-    pub fn required<T: Schema + Blank>(&mut self, name: &str) -> T
-        ensures { ReadsMember (members_or_error S.members self.old.state) name.now is_required T.kind
-            (T.tree result) (members_or_error S.members self.new.state) }
-    {
-        read_on!(self, required(name), T::blank(self.alloc))
+    fn optional<T: Schema>(&mut self, name: &'static str) -> Option<T> {
+        let value = self.take(name)?;
+        if value.is_null() {
+            return None;
+        }
+        self.decode(value)
     }
 
-    /// A member that is absent where it is missing or null.
-    pub fn optional<T: Schema>(&mut self, name: &str) -> Option<T>
-        ensures left_out { ReadsMember (members_or_error S.members self.old.state) name.now is_optional T.kind
-            (tree_or_absent T.tree result) (members_or_error S.members self.new.state) }
-        ensures or_null { ReadsMember (members_or_error S.members self.old.state) name.now or_null T.kind
-            (tree_or_absent T.tree result) (members_or_error S.members self.new.state) }
-    {
-        read_on!(self, optional(name), None)
+    fn sometimes<T: Schema>(&mut self, name: &'static str) -> Option<T> {
+        let value = self.take(name)?;
+        self.decode(value)
     }
 
-    /// A member that is absent where it is missing; null is refused.
-    pub fn sometimes<T: Schema>(&mut self, name: &str) -> Option<T>
-        ensures { ReadsMember (members_or_error S.members self.old.state) name.now is_sometimes T.kind
-            (tree_or_absent T.tree result) (members_or_error S.members self.new.state) }
-    {
-        read_on!(self, sometimes(name), None)
-    }
-
-    /// A list that is empty where its member is missing.
-    pub fn list<T: Schema>(&mut self, name: &str) -> Vec<T>
-        ensures { ReadsMember (members_or_error S.members self.old.state) name.now (unless (list_tree end))
-            (ListOf T.kind) (list_tree (trees (map T.tree result.items))) (members_or_error S.members self.new.state) }
-    {
+    fn list<T: Schema>(&mut self, name: &'static str) -> Vec<T> {
         let empty: Vec<T> = Vec::new(self.alloc);
         self.or_default(name, empty)
     }
 
-    /// A member that is the default where it is missing, whether or not it is written then.
-    pub fn or_default<T: Schema + Blank>(&mut self, name: &str, default: T) -> T
-        ensures always { ReadsMember (members_or_error S.members self.old.state) name.now
-            (always (T.tree default)) T.kind (T.tree result) (members_or_error S.members self.new.state) }
-        ensures unless { ReadsMember (members_or_error S.members self.old.state) name.now
-            (unless (T.tree default)) T.kind (T.tree result) (members_or_error S.members self.new.state) }
-    {
-        read_on!(self, or_default(name, default), T::blank(self.alloc))
+    fn or_default<T: Schema + Blank>(&mut self, name: &'static str, default: T) -> T {
+        match self.take(name) {
+            Some(value) => match self.decode(value) {
+                Some(x) => x,
+                None => T::blank(self.alloc),
+            },
+            None => default,
+        }
     }
 }

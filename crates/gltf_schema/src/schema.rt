@@ -1,6 +1,7 @@
 //! What is read and written by the table.
 
-ghost use Rattle.std.specs.Prelude.{◌≡◌, ◌≤◌, ℕ, Bool, true, false, IsTrue, IfOk, OnOk, Some, Err, refl};
+ghost use Rattle.std.specs.Prelude.{◌≡◌, ◌≤◌, ℕ, Bool, true, false, IsTrue, IfOk, IfErr, OnOk, Some, Err, is_some, refl};
+ghost use Rattle.serde_json.specs.Find.{as_object};
 ghost use Rattle.serde_json.specs.Data.{Members};
 ghost use Rattle.serde_json.specs.View.{view, members_view};
 ghost use Rattle.gltf_schema.specs.Tree.{Trees, object, is_absent};
@@ -18,8 +19,12 @@ ghost use Rattle.gltf_schema.specs.Height.{kind_height};
 ghost use Rattle.gltf_schema.specs.Taken.{take_all};
 ghost use Rattle.gltf_schema.specs.Leaves.{wants_object};
 ghost use Rattle.gltf_schema.specs.Outcome.{Reads, Writes};
+ghost use Rattle.gltf_schema.specs.Readings.{ReadsMembers};
+ghost use Rattle.gltf_schema.specs.Placings.{place_of, IsInside, ReadsOrPlaces};
 
+use crate::placing::{Refusal, place_members};
 use crate::printing::Printing;
+use crate::reading::{ReadRows, Reading};
 use crate::source::Source;
 use crate::tabled::Tabled;
 use crate::tokens::Tokens;
@@ -49,6 +54,18 @@ pub trait Schema: Tabled + Drop {
             → result ≡ Err Error.Schema }
     {
         Self::decode_from(alloc, value)
+    }
+
+    /// Returns the value that a JSON value is, as the table reads it. Fails with the place of what
+    /// the table refuses: in each object the first row that refuses its member, and in each array
+    /// the first item that is refused. A type without places inside it gives its own.
+    fn decode_or_place<S: Source>(alloc: Global, source: S) -> Result<Self, Refusal>
+        ensures by_table { ReadsOrPlaces Self.tree result Self.kind (S.given source) }
+    {
+        match Self::decode_from(alloc, source) {
+            Ok(value) => Ok(value),
+            Err(e) => Err(Refusal::here(alloc, e)),
+        }
     }
 
     /// Returns the JSON value that the value is written as. Fails with `InvalidItem` if and only if
@@ -94,7 +111,19 @@ pub trait Object: Drop {
     /// lacks it, and with `Memory` if a growth was refused.
     fn decode_members<S: Source>(alloc: Global, found: S::Fields) -> Result<Self, Error>
         ensures { Reads (λ x. (members x, unknown x)) result
-            (take_all rows keeps (S.members found)) };
+            (take_all rows keeps (S.members found)) }
+    {
+        let mut reading = Reading::<S>::from_members(alloc, found);
+        let object = Self::read_members(&mut reading);
+        reading.end()?;
+        Ok(object)
+    }
+
+    /// Reads each row in the table's order, and then the members that no row took, if the object
+    /// keeps such members.
+    fn read_members<R: ReadRows>(from: &mut R) -> Self
+        ensures { ReadsMembers R.Takes R.Leaves rows keeps (members result) (unknown result)
+            (R.state from.old) (R.state from.new) };
 
     /// Writes each row in the byte order of the rows' names, behind the members that no row names,
     /// if the object keeps such members.
@@ -150,6 +179,19 @@ impl<T: Object> Schema for T {
             (object (T.members x) (T.unknown x)) ≡ true) }
     {
         T::decode_from(alloc, value)
+    }
+
+    fn decode_or_place<S: Source>(alloc: Global, source: S) -> Result<T, Refusal>
+        ensures by_table { ReadsOrPlaces (λ x. object (T.members x) (T.unknown x)) result
+            (object_kind T.rule T.rows T.keeps) (S.given source) }
+        // An object is refused at one of its members.
+        ensures inside { IfErr result (λ r. IsTrue (is_some (as_object (S.given source)))
+            → IsInside (place_of r)) }
+    {
+        match source.into_fields() {
+            Some(found) => place_members::<S, T>(alloc, found),
+            None => Err(Refusal::here(alloc, Error::Schema)),
+        }
     }
 
     fn encode(&self, alloc: Global) -> Result<Value, Error>

@@ -8,11 +8,11 @@ ghost use Rattle.serde_json.specs.View.{members_view};
 ghost use Rattle.gltf_schema.specs.Tree.{end};
 ghost use Rattle.gltf_schema.specs.Kind.{no_rows};
 ghost use Rattle.gltf_schema.specs.Read.{left};
+ghost use Rattle.gltf_schema.specs.Readings.{ReadsMembers};
 
+use crate::reading::ReadRows;
 use crate::schema::Object;
-use crate::source::Source;
 use crate::writing::WriteRows;
-use gltf_base::Error;
 use serde_json::{Map, Value};
 use std::alloc::Global;
 
@@ -26,13 +26,17 @@ pub trait Unlisted: Drop {
     fn from_others(others: Map<String, Value>) -> Self
         ensures { kept result ≡ left is_keeping (members_view others.entries) };
 
+    /// Reads the members, if it keeps them.
+    fn read_others<R: ReadRows>(from: &mut R) -> Self
+        ensures { ReadsMembers R.Takes R.Leaves no_rows is_keeping end (kept result)
+            (R.state from.old) (R.state from.new) };
+
     /// The members that it keeps, or `None` where it drops them all.
     fn others(&self) -> Option<&Map<String, Value>>
         ensures { option_map_or (λ m. members_view m.now.entries) result no_members
             ≡ kept self.now };
 }
 
-#[tactic(auto, unfolding(crate::specs::Taken::take_all, crate::specs::Taken::take_rows))]
 impl<T: Unlisted> Object for T {
     ghost rows = { no_rows };
 
@@ -48,8 +52,8 @@ impl<T: Unlisted> Object for T {
 
     ghost low = { (refl, lit≤ tt) };
 
-    fn decode_members<S: Source>(alloc: Global, found: S::Fields) -> Result<T, Error> {
-        Ok(T::from_others(S::into_others(found, alloc)?))
+    fn read_members<R: ReadRows>(from: &mut R) -> T {
+        T::read_others(from)
     }
 
     fn write_members<W: WriteRows>(&self, to: &mut W) {
@@ -73,6 +77,10 @@ impl Unlisted for KeptExtensions {
 
     fn from_others(others: Map<String, Value>) -> KeptExtensions {
         KeptExtensions { others }
+    }
+
+    fn read_others<R: ReadRows>(from: &mut R) -> KeptExtensions {
+        KeptExtensions::from_others(from.others())
     }
 
     fn others(&self) -> Option<&Map<String, Value>> {
@@ -101,6 +109,10 @@ impl Unlisted for DroppedExtensions {
     ghost kept = { λ _. no_members };
 
     fn from_others(_others: Map<String, Value>) -> DroppedExtensions {
+        DroppedExtensions {}
+    }
+
+    fn read_others<R: ReadRows>(_from: &mut R) -> DroppedExtensions {
         DroppedExtensions {}
     }
 

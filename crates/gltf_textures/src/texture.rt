@@ -16,8 +16,7 @@ use gltf_base::validation::Checked;
 use gltf_base::{Index, Listed};
 use gltf_data::extras::Extras;
 use gltf_data::image::Image;
-use gltf_schema::{Error, Object, Reading, Source, WriteRows};
-use std::alloc::Global;
+use gltf_schema::{Object, ReadRows, WriteRows};
 
 /// How a texture is sampled: how it is filtered, and what lies past its edges.
 // What takes longest to drop comes last (docs/DECISIONS.md).
@@ -88,16 +87,15 @@ impl Object for Sampler {
 
     ghost low = { (sampler_height.1, lit≤ tt) };
 
-    fn decode_members<S: Source>(alloc: Global, found: S::Fields) -> Result<Sampler, Error> {
-        let mut reading = Reading::<S>::from_members(alloc, found);
-        let mag_filter = reading.optional("magFilter");
-        let min_filter = reading.optional("minFilter");
-        let name = reading.optional("name");
-        let wrap_s = reading.or_default("wrapS", Checked::Valid(WrappingMode::Repeat));
-        let wrap_t = reading.or_default("wrapT", Checked::Valid(WrappingMode::Repeat));
-        let extensions = reading.optional("extensions");
-        let extras = reading.optional("extras");
-        reading.finish(Sampler {
+    fn read_members<R: ReadRows>(from: &mut R) -> Sampler {
+        let mag_filter = from.optional("magFilter");
+        let min_filter = from.optional("minFilter");
+        let name = from.optional("name");
+        let wrap_s = from.or_default("wrapS", Checked::Valid(WrappingMode::Repeat));
+        let wrap_t = from.or_default("wrapT", Checked::Valid(WrappingMode::Repeat));
+        let extensions = from.optional("extensions");
+        let extras = from.optional("extras");
+        Sampler {
             mag_filter,
             min_filter,
             name,
@@ -105,7 +103,7 @@ impl Object for Sampler {
             wrap_t,
             extensions,
             extras,
-        })
+        }
     }
 
     fn write_members<W: WriteRows>(&self, to: &mut W) {
@@ -186,20 +184,19 @@ impl Object for Texture {
 
     ghost low = { (texture_height.1, lit≤ tt) };
 
-    fn decode_members<S: Source>(alloc: Global, found: S::Fields) -> Result<Texture, Error> {
-        let mut reading = Reading::<S>::from_members(alloc, found);
-        let name = reading.optional("name");
-        let sampler = reading.optional("sampler");
-        let extensions = reading.optional("extensions");
-        let source = reading.or_default("source", Index::new(NO_IMAGE));
-        let extras = reading.optional("extras");
-        reading.finish(Texture {
+    fn read_members<R: ReadRows>(from: &mut R) -> Texture {
+        let name = from.optional("name");
+        let sampler = from.optional("sampler");
+        let extensions = from.optional("extensions");
+        let source = from.or_default("source", Index::new(NO_IMAGE));
+        let extras = from.optional("extras");
+        Texture {
             name,
             sampler,
             extensions,
             source,
             extras,
-        })
+        }
     }
 
     fn write_members<W: WriteRows>(&self, to: &mut W) {
@@ -266,18 +263,17 @@ impl Object for Info {
 
     ghost low = { (info_height.1, lit≤ tt) };
 
-    fn decode_members<S: Source>(alloc: Global, found: S::Fields) -> Result<Info, Error> {
-        let mut reading = Reading::<S>::from_members(alloc, found);
-        let index = reading.required("index");
-        let tex_coord = reading.or_default("texCoord", 0);
-        let extensions = reading.optional("extensions");
-        let extras = reading.optional("extras");
-        reading.finish(Info {
+    fn read_members<R: ReadRows>(from: &mut R) -> Info {
+        let index = from.required("index");
+        let tex_coord = from.or_default("texCoord", 0);
+        let extensions = from.optional("extensions");
+        let extras = from.optional("extras");
+        Info {
             index,
             tex_coord,
             extensions,
             extras,
-        })
+        }
     }
 
     fn write_members<W: WriteRows>(&self, to: &mut W) {

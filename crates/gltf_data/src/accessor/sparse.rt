@@ -16,7 +16,7 @@ use crate::extras::Extras;
 use gltf_base::Index;
 use gltf_base::accessor::{ComponentType, IndexComponentType};
 use gltf_base::validation::{Checked, USize64};
-use gltf_schema::{Blank, Error, Object, Reading, Source, WriteRows};
+use gltf_schema::{Blank, Object, ReadRows, WriteRows};
 use std::alloc::Global;
 
 /// Elements that deviate from those of the view.
@@ -68,20 +68,19 @@ impl Object for Sparse {
 
     ghost low = { (sparse_height.1, lit≤ tt) };
 
-    fn decode_members<S: Source>(alloc: Global, found: S::Fields) -> Result<Sparse, Error> {
-        let mut reading = Reading::<S>::from_members(alloc, found);
-        let count = reading.required("count");
-        let indices = reading.required("indices");
-        let values = reading.required("values");
-        let extensions = reading.optional("extensions");
-        let extras = reading.optional("extras");
-        reading.finish(Sparse {
+    fn read_members<R: ReadRows>(from: &mut R) -> Sparse {
+        let count = from.required("count");
+        let indices = from.required("indices");
+        let values = from.required("values");
+        let extensions = from.optional("extensions");
+        let extras = from.optional("extras");
+        Sparse {
             count,
             indices,
             values,
             extensions,
             extras,
-        })
+        }
     }
 
     fn write_members<W: WriteRows>(&self, to: &mut W) {
@@ -141,20 +140,19 @@ impl Object for Indices {
 
     ghost low = { (sparse_indices_height.1, lit≤ tt) };
 
-    fn decode_members<S: Source>(alloc: Global, found: S::Fields) -> Result<Indices, Error> {
-        let mut reading = Reading::<S>::from_members(alloc, found);
-        let buffer_view = reading.required("bufferView");
-        let byte_offset = reading.or_default("byteOffset", USize64(0));
-        let component_type = reading.required("componentType");
-        let extensions = reading.optional("extensions");
-        let extras = reading.optional("extras");
-        reading.finish(Indices {
+    fn read_members<R: ReadRows>(from: &mut R) -> Indices {
+        let buffer_view = from.required("bufferView");
+        let byte_offset = from.or_default("byteOffset", USize64(0));
+        let component_type = from.required("componentType");
+        let extensions = from.optional("extensions");
+        let extras = from.optional("extras");
+        Indices {
             buffer_view,
             byte_offset,
             component_type,
             extensions,
             extras,
-        })
+        }
     }
 
     fn write_members<W: WriteRows>(&self, to: &mut W) {
@@ -221,18 +219,17 @@ impl Object for Values {
 
     ghost low = { (sparse_values_height.1, lit≤ tt) };
 
-    fn decode_members<S: Source>(alloc: Global, found: S::Fields) -> Result<Values, Error> {
-        let mut reading = Reading::<S>::from_members(alloc, found);
-        let buffer_view = reading.required("bufferView");
-        let byte_offset = reading.or_default("byteOffset", USize64(0));
-        let extensions = reading.optional("extensions");
-        let extras = reading.optional("extras");
-        reading.finish(Values {
+    fn read_members<R: ReadRows>(from: &mut R) -> Values {
+        let buffer_view = from.required("bufferView");
+        let byte_offset = from.or_default("byteOffset", USize64(0));
+        let extensions = from.optional("extensions");
+        let extras = from.optional("extras");
+        Values {
             buffer_view,
             byte_offset,
             extensions,
             extras,
-        })
+        }
     }
 
     fn write_members<W: WriteRows>(&self, to: &mut W) {

@@ -8,7 +8,7 @@ ghost use Rattle.gltf_schema.specs.Tree.{end, list, whole, with_tree};
 ghost use Rattle.gltf_schema.specs.Defaults.{defaults};
 ghost use Rattle.gltf_meshes.specs.Mesh.{primitive_extension_rows, primitive_extension_sound, primitive_extension_height, variant_mappings_rows, variant_mappings_sound, variant_mappings_height, variant_mapping_rows, variant_mapping_sound, variant_mapping_height, primitive_extension_members, variant_mappings_members, variant_mapping_members};
 
-use gltf_schema::{Error, KeptExtensions, Object, Reading, Source, WriteRows};
+use gltf_schema::{KeptExtensions, Object, ReadRows, WriteRows};
 use serde_json::{Map, Value};
 use std::alloc::Global;
 
@@ -39,14 +39,13 @@ impl Object for Primitive {
 
     ghost low = { (primitive_extension_height.1, lit≤ tt) };
 
-    fn decode_members<S: Source>(alloc: Global, found: S::Fields) -> Result<Primitive, Error> {
-        let mut reading = Reading::<S>::from_members(alloc, found);
-        let khr_materials_variants = reading.optional("KHR_materials_variants");
-        let others = reading.others();
-        reading.finish(Primitive {
+    fn read_members<R: ReadRows>(from: &mut R) -> Primitive {
+        let khr_materials_variants = from.optional("KHR_materials_variants");
+        let others = from.others();
+        Primitive {
             khr_materials_variants,
             others,
-        })
+        }
     }
 
     fn write_members<W: WriteRows>(&self, to: &mut W) {
@@ -90,13 +89,9 @@ impl Object for KhrMaterialsVariants {
 
     ghost low = { (variant_mappings_height.1, lit≤ tt) };
 
-    fn decode_members<S: Source>(
-        alloc: Global,
-        found: S::Fields,
-    ) -> Result<KhrMaterialsVariants, Error> {
-        let mut reading = Reading::<S>::from_members(alloc, found);
-        let mappings = reading.required("mappings");
-        reading.finish(KhrMaterialsVariants { mappings })
+    fn read_members<R: ReadRows>(from: &mut R) -> KhrMaterialsVariants {
+        let mappings = from.required("mappings");
+        KhrMaterialsVariants { mappings }
     }
 
     fn write_members<W: WriteRows>(&self, to: &mut W) {
@@ -140,11 +135,10 @@ impl Object for Mapping {
 
     ghost low = { (variant_mapping_height.1, lit≤ tt) };
 
-    fn decode_members<S: Source>(alloc: Global, found: S::Fields) -> Result<Mapping, Error> {
-        let mut reading = Reading::<S>::from_members(alloc, found);
-        let material = reading.required("material");
-        let variants = reading.required("variants");
-        reading.finish(Mapping { material, variants })
+    fn read_members<R: ReadRows>(from: &mut R) -> Mapping {
+        let material = from.required("material");
+        let variants = from.required("variants");
+        Mapping { material, variants }
     }
 
     fn write_members<W: WriteRows>(&self, to: &mut W) {

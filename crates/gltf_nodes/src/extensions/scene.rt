@@ -7,7 +7,7 @@ ghost use Rattle.serde_json.specs.View.{members_view};
 ghost use Rattle.gltf_schema.specs.Defaults.{defaults};
 ghost use Rattle.gltf_nodes.specs.Scene.{node_extension_rows, node_extension_sound, node_extension_height, node_extension_members};
 
-use gltf_schema::{Error, KeptExtensions, Object, Reading, Source, WriteRows};
+use gltf_schema::{KeptExtensions, Object, ReadRows, WriteRows};
 use serde_json::{Map, Value};
 use std::alloc::Global;
 
@@ -38,14 +38,13 @@ impl Object for Node {
 
     ghost low = { (node_extension_height.1, lit≤ tt) };
 
-    fn decode_members<S: Source>(alloc: Global, found: S::Fields) -> Result<Node, Error> {
-        let mut reading = Reading::<S>::from_members(alloc, found);
-        let khr_lights_punctual = reading.optional("KHR_lights_punctual");
-        let others = reading.others();
-        reading.finish(Node {
+    fn read_members<R: ReadRows>(from: &mut R) -> Node {
+        let khr_lights_punctual = from.optional("KHR_lights_punctual");
+        let others = from.others();
+        Node {
             khr_lights_punctual,
             others,
-        })
+        }
     }
 
     fn write_members<W: WriteRows>(&self, to: &mut W) {

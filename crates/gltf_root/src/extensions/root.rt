@@ -10,7 +10,7 @@ ghost use Rattle.gltf_root.specs.RootExtension.{root_extension_rows, root_extens
 
 use gltf_nodes::extensions::scene::khr_lights_punctual::Light;
 use gltf_nodes::extensions::scene::khr_materials_variants::Variant;
-use gltf_schema::{Error, Object, Reading, Source, WriteRows};
+use gltf_schema::{Object, ReadRows, WriteRows};
 use serde_json::{Map, Value};
 use std::alloc::Global;
 
@@ -40,16 +40,15 @@ impl Object for Root {
 
     ghost low = { (root_extension_height.1, lit≤ tt) };
 
-    fn decode_members<S: Source>(alloc: Global, found: S::Fields) -> Result<Root, Error> {
-        let mut reading = Reading::<S>::from_members(alloc, found);
-        let khr_lights_punctual = reading.optional("KHR_lights_punctual");
-        let khr_materials_variants = reading.optional("KHR_materials_variants");
-        let others = reading.others();
-        reading.finish(Root {
+    fn read_members<R: ReadRows>(from: &mut R) -> Root {
+        let khr_lights_punctual = from.optional("KHR_lights_punctual");
+        let khr_materials_variants = from.optional("KHR_materials_variants");
+        let others = from.others();
+        Root {
             khr_lights_punctual,
             khr_materials_variants,
             others,
-        })
+        }
     }
 
     fn write_members<W: WriteRows>(&self, to: &mut W) {
@@ -95,13 +94,9 @@ impl Object for KhrLightsPunctual {
 
     ghost low = { (lights_height.1, lit≤ tt) };
 
-    fn decode_members<S: Source>(
-        alloc: Global,
-        found: S::Fields,
-    ) -> Result<KhrLightsPunctual, Error> {
-        let mut reading = Reading::<S>::from_members(alloc, found);
-        let lights = reading.required("lights");
-        reading.finish(KhrLightsPunctual { lights })
+    fn read_members<R: ReadRows>(from: &mut R) -> KhrLightsPunctual {
+        let lights = from.required("lights");
+        KhrLightsPunctual { lights }
     }
 
     fn write_members<W: WriteRows>(&self, to: &mut W) {
@@ -142,13 +137,9 @@ impl Object for KhrMaterialsVariants {
 
     ghost low = { (variants_height.1, lit≤ tt) };
 
-    fn decode_members<S: Source>(
-        alloc: Global,
-        found: S::Fields,
-    ) -> Result<KhrMaterialsVariants, Error> {
-        let mut reading = Reading::<S>::from_members(alloc, found);
-        let variants = reading.required("variants");
-        reading.finish(KhrMaterialsVariants { variants })
+    fn read_members<R: ReadRows>(from: &mut R) -> KhrMaterialsVariants {
+        let variants = from.required("variants");
+        KhrMaterialsVariants { variants }
     }
 
     fn write_members<W: WriteRows>(&self, to: &mut W) {

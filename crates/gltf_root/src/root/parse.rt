@@ -11,13 +11,13 @@ ghost use Rattle.gltf_devices.specs.Device.{IsFresh};
 ghost use Rattle.gltf_root.specs.Root.{root_kind, root_tree};
 
 use super::Root;
-use gltf_borrowed::{NoValue, read_text};
+use super::lists::streamed;
+use gltf_borrowed::decode_text;
 use gltf_devices::{ByteIn, read_to_end};
 use gltf_schema::{Error, Schema};
-use json::Scratch;
 use serde_json::Value;
 use simdutf8::compat::from_utf8;
-use std::alloc::{AllocError, Global};
+use std::alloc::Global;
 
 const MOST_BYTES: u64 = 1073741824;
 
@@ -95,17 +95,15 @@ impl Root {
     }
 }
 
-/// Returns the document that a text of JSON is, by a value that borrows the text: it costs a third
-/// of what a `Value` costs.
+/// Returns the document that a text of JSON is. A text that is no object of JSON is read again, which
+/// finds out why.
 #[tactic(auto, using(crate::proofs::AnswerLemmas::answers))]
 fn from_text(alloc: Global, text: &str) -> Result<Root, Error>
     ensures by_text { IsUtf8 text.now → IsAnswer (answer text.now) result }
     ensures plain { IfOk result (λ root. is_plain root_kind (root_tree root) ≡ true) }
 {
-    let mut scratch = Scratch::new(alloc);
-    match read_text(alloc, text, &mut scratch) {
-        Ok(value) => Root::decode_from(alloc, value),
-        Err(NoValue::Refused) => Err(Error::Json),
-        Err(NoValue::Memory) => Err(Error::Memory(AllocError)),
+    match streamed(alloc, text) {
+        Some(read) => read,
+        None => decode_text(alloc, text),
     }
 }

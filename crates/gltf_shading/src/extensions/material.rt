@@ -14,7 +14,7 @@ ghost use Rattle.gltf_schema.specs.Fields.{real_tree, reals_tree};
 use crate::material::StrengthFactor;
 use gltf_base::Real;
 use gltf_data::extras::Extras;
-use gltf_schema::{Error, KeptExtensions, Object, Reading, Source, Tabled, WriteRows};
+use gltf_schema::{KeptExtensions, Object, ReadRows, Tabled, WriteRows};
 use gltf_textures::texture::Info;
 use serde_json::{Map, Value};
 use std::alloc::Global;
@@ -72,17 +72,16 @@ impl Object for Material {
 
     ghost low = { (material_extension_height.1, lit≤ tt) };
 
-    fn decode_members<S: Source>(alloc: Global, found: S::Fields) -> Result<Material, Error> {
-        let mut reading = Reading::<S>::from_members(alloc, found);
-        let pbr_specular_glossiness = reading.optional("KHR_materials_pbrSpecularGlossiness");
-        let unlit = reading.optional("KHR_materials_unlit");
-        let transmission = reading.optional("KHR_materials_transmission");
-        let volume = reading.optional("KHR_materials_volume");
-        let specular = reading.optional("KHR_materials_specular");
-        let ior = reading.optional("KHR_materials_ior");
-        let emissive_strength = reading.optional("KHR_materials_emissive_strength");
-        let others = reading.others();
-        reading.finish(Material {
+    fn read_members<R: ReadRows>(from: &mut R) -> Material {
+        let pbr_specular_glossiness = from.optional("KHR_materials_pbrSpecularGlossiness");
+        let unlit = from.optional("KHR_materials_unlit");
+        let transmission = from.optional("KHR_materials_transmission");
+        let volume = from.optional("KHR_materials_volume");
+        let specular = from.optional("KHR_materials_specular");
+        let ior = from.optional("KHR_materials_ior");
+        let emissive_strength = from.optional("KHR_materials_emissive_strength");
+        let others = from.others();
+        Material {
             pbr_specular_glossiness,
             unlit,
             transmission,
@@ -91,7 +90,7 @@ impl Object for Material {
             ior,
             emissive_strength,
             others,
-        })
+        }
     }
 
     fn write_members<W: WriteRows>(&self, to: &mut W) {
@@ -186,19 +185,15 @@ impl Object for PbrSpecularGlossiness {
 
     ghost low = { (pbr_specular_glossiness_height.1, lit≤ tt) };
 
-    fn decode_members<S: Source>(
-        alloc: Global,
-        found: S::Fields,
-    ) -> Result<PbrSpecularGlossiness, Error> {
-        let mut reading = Reading::<S>::from_members(alloc, found);
-        let diffuse_factor = reading.sometimes("diffuseFactor");
-        let diffuse_texture = reading.optional("diffuseTexture");
-        let specular_factor = reading.sometimes("specularFactor");
-        let glossiness_factor = reading.sometimes("glossinessFactor");
-        let specular_glossiness_texture = reading.optional("specularGlossinessTexture");
-        let extras = reading.optional("extras");
-        let others = reading.others();
-        reading.finish(PbrSpecularGlossiness {
+    fn read_members<R: ReadRows>(from: &mut R) -> PbrSpecularGlossiness {
+        let diffuse_factor = from.sometimes("diffuseFactor");
+        let diffuse_texture = from.optional("diffuseTexture");
+        let specular_factor = from.sometimes("specularFactor");
+        let glossiness_factor = from.sometimes("glossinessFactor");
+        let specular_glossiness_texture = from.optional("specularGlossinessTexture");
+        let extras = from.optional("extras");
+        let others = from.others();
+        PbrSpecularGlossiness {
             diffuse_factor: PbrDiffuseFactor(diffuse_factor),
             diffuse_texture,
             specular_factor: PbrSpecularFactor(specular_factor),
@@ -206,7 +201,7 @@ impl Object for PbrSpecularGlossiness {
             specular_glossiness_texture,
             extras,
             others,
-        })
+        }
     }
 
     fn write_members<W: WriteRows>(&self, to: &mut W) {
@@ -297,7 +292,6 @@ impl Tabled for PbrSpecularFactor {
 #[derive(Clone, Debug, Drop)]
 pub struct Unlit {}
 
-#[tactic(auto, unfolding(gltf_schema::specs::Taken::take_all, gltf_schema::specs::Taken::take_rows))]
 impl Object for Unlit {
     ghost rows = { no_rows };
 
@@ -313,8 +307,8 @@ impl Object for Unlit {
 
     ghost low = { (refl, lit≤ tt) };
 
-    fn decode_members<S: Source>(_alloc: Global, _found: S::Fields) -> Result<Unlit, Error> {
-        Ok(Unlit {})
+    fn read_members<R: ReadRows>(_from: &mut R) -> Unlit {
+        Unlit {}
     }
 
     fn write_members<W: WriteRows>(&self, _to: &mut W) {}
@@ -363,16 +357,15 @@ impl Object for Transmission {
 
     ghost low = { (transmission_height.1, lit≤ tt) };
 
-    fn decode_members<S: Source>(alloc: Global, found: S::Fields) -> Result<Transmission, Error> {
-        let mut reading = Reading::<S>::from_members(alloc, found);
-        let transmission_factor = reading.sometimes("transmissionFactor");
-        let transmission_texture = reading.optional("transmissionTexture");
-        let extras = reading.optional("extras");
-        reading.finish(Transmission {
+    fn read_members<R: ReadRows>(from: &mut R) -> Transmission {
+        let transmission_factor = from.sometimes("transmissionFactor");
+        let transmission_texture = from.optional("transmissionTexture");
+        let extras = from.optional("extras");
+        Transmission {
             transmission_factor: TransmissionFactor(transmission_factor),
             transmission_texture,
             extras,
-        })
+        }
     }
 
     fn write_members<W: WriteRows>(&self, to: &mut W) {
@@ -463,20 +456,19 @@ impl Object for Volume {
 
     ghost low = { (volume_height.1, lit≤ tt) };
 
-    fn decode_members<S: Source>(alloc: Global, found: S::Fields) -> Result<Volume, Error> {
-        let mut reading = Reading::<S>::from_members(alloc, found);
-        let thickness_factor = reading.sometimes("thicknessFactor");
-        let thickness_texture = reading.optional("thicknessTexture");
-        let attenuation_distance = reading.sometimes("attenuationDistance");
-        let attenuation_color = reading.sometimes("attenuationColor");
-        let extras = reading.optional("extras");
-        reading.finish(Volume {
+    fn read_members<R: ReadRows>(from: &mut R) -> Volume {
+        let thickness_factor = from.sometimes("thicknessFactor");
+        let thickness_texture = from.optional("thicknessTexture");
+        let attenuation_distance = from.sometimes("attenuationDistance");
+        let attenuation_color = from.sometimes("attenuationColor");
+        let extras = from.optional("extras");
+        Volume {
             thickness_factor: ThicknessFactor(thickness_factor),
             thickness_texture,
             attenuation_distance: AttenuationDistance(attenuation_distance),
             attenuation_color: AttenuationColor(attenuation_color),
             extras,
-        })
+        }
     }
 
     fn write_members<W: WriteRows>(&self, to: &mut W) {
@@ -618,20 +610,19 @@ impl Object for Specular {
 
     ghost low = { (specular_height.1, lit≤ tt) };
 
-    fn decode_members<S: Source>(alloc: Global, found: S::Fields) -> Result<Specular, Error> {
-        let mut reading = Reading::<S>::from_members(alloc, found);
-        let specular_factor = reading.sometimes("specularFactor");
-        let specular_texture = reading.optional("specularTexture");
-        let specular_color_factor = reading.sometimes("specularColorFactor");
-        let specular_color_texture = reading.optional("specularColorTexture");
-        let extras = reading.optional("extras");
-        reading.finish(Specular {
+    fn read_members<R: ReadRows>(from: &mut R) -> Specular {
+        let specular_factor = from.sometimes("specularFactor");
+        let specular_texture = from.optional("specularTexture");
+        let specular_color_factor = from.sometimes("specularColorFactor");
+        let specular_color_texture = from.optional("specularColorTexture");
+        let extras = from.optional("extras");
+        Specular {
             specular_factor: SpecularFactor(specular_factor),
             specular_texture,
             specular_color_factor: SpecularColorFactor(specular_color_factor),
             specular_color_texture,
             extras,
-        })
+        }
     }
 
     fn write_members<W: WriteRows>(&self, to: &mut W) {
@@ -732,14 +723,13 @@ impl Object for Ior {
 
     ghost low = { (ior_height.1, lit≤ tt) };
 
-    fn decode_members<S: Source>(alloc: Global, found: S::Fields) -> Result<Ior, Error> {
-        let mut reading = Reading::<S>::from_members(alloc, found);
-        let ior = reading.sometimes("ior");
-        let extras = reading.optional("extras");
-        reading.finish(Ior {
+    fn read_members<R: ReadRows>(from: &mut R) -> Ior {
+        let ior = from.sometimes("ior");
+        let extras = from.optional("extras");
+        Ior {
             ior: IndexOfRefraction(ior),
             extras,
-        })
+        }
     }
 
     fn write_members<W: WriteRows>(&self, to: &mut W) {
@@ -808,15 +798,11 @@ impl Object for EmissiveStrength {
 
     ghost low = { (emissive_strength_height.1, lit≤ tt) };
 
-    fn decode_members<S: Source>(
-        alloc: Global,
-        found: S::Fields,
-    ) -> Result<EmissiveStrength, Error> {
-        let mut reading = Reading::<S>::from_members(alloc, found);
-        let emissive_strength = reading.sometimes("emissiveStrength");
-        reading.finish(EmissiveStrength {
+    fn read_members<R: ReadRows>(from: &mut R) -> EmissiveStrength {
+        let emissive_strength = from.sometimes("emissiveStrength");
+        EmissiveStrength {
             emissive_strength: EmissiveStrengthFactor(emissive_strength),
-        })
+        }
     }
 
     fn write_members<W: WriteRows>(&self, to: &mut W) {

@@ -13,7 +13,7 @@ ghost use Rattle.gltf_schema.specs.Tree.{tree_or_absent};
 
 use gltf_base::Real;
 use gltf_data::extras::Extras;
-use gltf_schema::{Error, KeptExtensions, Object, Reading, Source, Tabled, WriteRows};
+use gltf_schema::{KeptExtensions, Object, ReadRows, Tabled, WriteRows};
 use serde_json::{Map, Value};
 use std::alloc::Global;
 
@@ -47,14 +47,13 @@ impl Object for Info {
 
     ghost low = { (info_extension_height.1, lit≤ tt) };
 
-    fn decode_members<S: Source>(alloc: Global, found: S::Fields) -> Result<Info, Error> {
-        let mut reading = Reading::<S>::from_members(alloc, found);
-        let texture_transform = reading.optional("KHR_texture_transform");
-        let others = reading.others();
-        reading.finish(Info {
+    fn read_members<R: ReadRows>(from: &mut R) -> Info {
+        let texture_transform = from.optional("KHR_texture_transform");
+        let others = from.others();
+        Info {
             texture_transform,
             others,
-        })
+        }
     }
 
     fn write_members<W: WriteRows>(&self, to: &mut W) {
@@ -104,23 +103,19 @@ impl Object for TextureTransform {
 
     ghost low = { (texture_transform_height.1, lit≤ tt) };
 
-    fn decode_members<S: Source>(
-        alloc: Global,
-        found: S::Fields,
-    ) -> Result<TextureTransform, Error> {
-        let mut reading = Reading::<S>::from_members(alloc, found);
-        let offset = reading.sometimes("offset");
-        let rotation = reading.sometimes("rotation");
-        let scale = reading.sometimes("scale");
-        let tex_coord = reading.optional("texCoord");
-        let extras = reading.optional("extras");
-        reading.finish(TextureTransform {
+    fn read_members<R: ReadRows>(from: &mut R) -> TextureTransform {
+        let offset = from.sometimes("offset");
+        let rotation = from.sometimes("rotation");
+        let scale = from.sometimes("scale");
+        let tex_coord = from.optional("texCoord");
+        let extras = from.optional("extras");
+        TextureTransform {
             offset: TextureTransformOffset(offset),
             rotation: TextureTransformRotation(rotation),
             scale: TextureTransformScale(scale),
             tex_coord,
             extras,
-        })
+        }
     }
 
     fn write_members<W: WriteRows>(&self, to: &mut W) {

@@ -12,45 +12,39 @@ use Rattle.gltf_borrowed.proofs.Levels.{data-Array, data-Object, items_before, i
 use Rattle.gltf_borrowed.proofs.Turns.{converted-array, converted-object, item_read, item_refused, items_over, member_read, member_refused, key_refused, members_over}
 use Rattle.gltf_borrowed.proofs.reading.+read_value.Goals as goal
 
-pub read_value-returns-in-String-clause-ok : goal.read_value-returns-in-String-clause-ok
-read_value-returns-in-String-clause-ok t c =
-    let first : c.args.reader.now ≡ token_of c.in-Some.token ∷ c.next.new.self = grind arith in
-    let is : c.args.reader.now ≡ Token.string c.in-String.text.now ∷ c.next.new.self = grind (arith, first) in
+pub read_after-returns-in-String-clause-ok : goal.read_after-returns-in-String-clause-ok
+read_after-returns-in-String-clause-ok t c =
+    let is : token_of c.args.token ≡ Token.string c.in-String.text.now = grind arith in
     let seen : data_of (Text c.in-String.text) ≡ string c.in-String.text.now = search (rules, the_lemmas) in
-    ap (converted of_json) (ap (value c.args.depth) is ∙ value_is c.args.depth _) ∙ ap (λ d. Some (d, c.next.new.self)) (sym seen)
+    ap (converted of_json) (ap (λ k. value c.args.depth (k ∷ c.args.reader.now)) is ∙ value_is c.args.depth _) ∙ ap (λ d. Some (d, c.args.reader.now)) (sym seen)
 
-pub read_value-returns-in-Bool-clause-ok : goal.read_value-returns-in-Bool-clause-ok
-read_value-returns-in-Bool-clause-ok t c =
-    let first : c.args.reader.now ≡ token_of c.in-Some.token ∷ c.next.new.self = grind arith in
-    let is : c.args.reader.now ≡ Token.boolean c.in-Bool.b ∷ c.next.new.self = grind (arith, first) in
+pub read_after-returns-in-Bool-clause-ok : goal.read_after-returns-in-Bool-clause-ok
+read_after-returns-in-Bool-clause-ok t c =
+    let is : token_of c.args.token ≡ Token.boolean c.in-Bool.b = grind arith in
     let seen : data_of (Bool c.in-Bool.b) ≡ boolean c.in-Bool.b = search (rules, the_lemmas) in
-    ap (converted of_json) (ap (value c.args.depth) is ∙ value_is c.args.depth _) ∙ ap (λ d. Some (d, c.next.new.self)) (sym seen)
+    ap (converted of_json) (ap (λ k. value c.args.depth (k ∷ c.args.reader.now)) is ∙ value_is c.args.depth _) ∙ ap (λ d. Some (d, c.args.reader.now)) (sym seen)
 
-pub read_value-returns-in-Null-clause-ok : goal.read_value-returns-in-Null-clause-ok
-read_value-returns-in-Null-clause-ok t c =
-    let first : c.args.reader.now ≡ token_of c.in-Some.token ∷ c.next.new.self = grind arith in
-    let is : c.args.reader.now ≡ Token.null ∷ c.next.new.self = grind (arith, first) in
+pub read_after-returns-in-Null-clause-ok : goal.read_after-returns-in-Null-clause-ok
+read_after-returns-in-Null-clause-ok t c =
+    let is : token_of c.args.token ≡ Token.null = grind arith in
     let seen : data_of Null ≡ null = search (rules, the_lemmas) in
-    ap (converted of_json) (ap (value c.args.depth) is ∙ value_is c.args.depth _) ∙ ap (λ d. Some (d, c.next.new.self)) (sym seen)
+    ap (converted of_json) (ap (λ k. value c.args.depth (k ∷ c.args.reader.now)) is ∙ value_is c.args.depth _) ∙ ap (λ d. Some (d, c.args.reader.now)) (sym seen)
 
-pub read_value-returns-in-Some-parse-clause-ok : goal.read_value-returns-in-Some-parse-clause-ok
-read_value-returns-in-Some-parse-clause-ok t c =
-    let first : c.args.reader.now ≡ token_of c.in-Some.token ∷ c.next.new.self = grind arith in
-    let is : c.args.reader.now ≡ Token.number c.in-Number.text.now ∷ c.next.new.self = grind (arith, first) in
-    let seen : data_of (Number c.in-Some-parse.number) ≡ number (number_view c.in-Some-parse.number) = search (rules, the_lemmas) in
-    ap (converted of_json) (ap (value c.args.depth) is ∙ value_is c.args.depth _) ∙ rw (← c.in-Some-parse.ensures, seen)
+pub read_after-returns-in-Some-clause-ok : goal.read_after-returns-in-Some-clause-ok
+read_after-returns-in-Some-clause-ok t c =
+    let is : token_of c.args.token ≡ Token.number c.in-Number.text.now = grind arith in
+    let seen : data_of (Number c.in-Some.number) ≡ number (number_view c.in-Some.number) = search (rules, the_lemmas) in
+    ap (converted of_json) (ap (λ k. value c.args.depth (k ∷ c.args.reader.now)) is ∙ value_is c.args.depth _) ∙ rw (← c.in-Some.ensures, seen)
 
-pub read_value-returns-in_ok-read_items-in-BeginArray-clause-ok : goal.read_value-returns-in_ok-read_items-in-BeginArray-clause-ok
-read_value-returns-in_ok-read_items-in-BeginArray-clause-ok t c =
-    let first : c.args.reader.now ≡ token_of c.in-Some.token ∷ c.next.new.self = grind arith in
-    let opened = ap (converted of_json) (ap (value c.args.depth) (first ∙ ap (λ k. token_of k ∷ c.next.new.self) c.in-BeginArray.is) ∙ value-begin_array c.args.depth c.next.new.self (omega arith)) ∙ converted-array (items (value (c.args.depth - 1)) (length c.next.new.self) c.next.new.self) in
+pub read_after-returns-in_ok-read_items-in-BeginArray-clause-ok : goal.read_after-returns-in_ok-read_items-in-BeginArray-clause-ok
+read_after-returns-in_ok-read_items-in-BeginArray-clause-ok t c =
+    let opened = ap (converted of_json) (ap (λ k. value c.args.depth (token_of k ∷ c.args.reader.now)) c.in-BeginArray.is ∙ value-begin_array c.args.depth c.args.reader.now (omega arith)) ∙ converted-array (items (value (c.args.depth - 1)) (length c.args.reader.now) c.args.reader.now) in
     let found = c.in_ok-read_items-in-BeginArray in
     opened ∙ ap (parse_map array) found.ensures.ok ∙ ap (λ d. Some (d, c.read_items.new.reader)) (sym (data-Array found.field-0))
 
-pub read_value-returns-in_ok-read_members-in-BeginObject-clause-ok : goal.read_value-returns-in_ok-read_members-in-BeginObject-clause-ok
-read_value-returns-in_ok-read_members-in-BeginObject-clause-ok t c =
-    let first : c.args.reader.now ≡ token_of c.in-Some.token ∷ c.next.new.self = grind arith in
-    let opened = ap (converted of_json) (ap (value c.args.depth) (first ∙ ap (λ k. token_of k ∷ c.next.new.self) c.in-BeginObject.is) ∙ value-begin_object c.args.depth c.next.new.self (omega arith)) ∙ converted-object (members (value (c.args.depth - 1)) (length c.next.new.self) c.next.new.self) in
+pub read_after-returns-in_ok-read_members-in-BeginObject-clause-ok : goal.read_after-returns-in_ok-read_members-in-BeginObject-clause-ok
+read_after-returns-in_ok-read_members-in-BeginObject-clause-ok t c =
+    let opened = ap (converted of_json) (ap (λ k. value c.args.depth (token_of k ∷ c.args.reader.now)) c.in-BeginObject.is ∙ value-begin_object c.args.depth c.args.reader.now (omega arith)) ∙ converted-object (members (value (c.args.depth - 1)) (length c.args.reader.now) c.args.reader.now) in
     let found = c.in_ok-read_members-in-BeginObject in
     opened ∙ ap (parse_map object) found.ensures.ok ∙ ap (λ d. Some (d, c.read_members.new.reader)) (sym (data-Object found.field-0))
 
@@ -96,7 +90,7 @@ read_members-members-preserved t c =
     let r = c.read_value.new.reader in
     let less = read_key-shorter l.reader (Some k) s named in
     let lesser = done.shorter in
-    let put_last : members_data c.push.new.self.items ≡ put k (data_of v) old = ap members_data c.in-Ok.ensures.items ∙ put_entries-push l.entries.items e no_members in (
+    let put_last : members_data c.push.new.self.items ≡ put k (data_of v) old = ap members_data c.in-Ok-push.ensures.items ∙ put_entries-push l.entries.items e no_members in (
       n - 1,
       omega (arith, l.invariant.1),
       l.invariant.2 ∙ member_read p old n k l.reader s r (data_of v) (omega (arith, l.invariant.1)) named done.ok
@@ -117,42 +111,36 @@ read_value-returns-in_default-clause-refused t c = λ _.
     let empty : c.args.reader.now ≡ [] = grind arith in
     ap (converted of_json) (ap (value c.args.depth) empty ∙ value_is c.args.depth [])
 
-pub read_value-returns-then-depth-eq0-clause-refused : goal.read_value-returns-then-depth-eq0-clause-refused
+pub read_after-returns-then-depth-eq0-clause-refused : goal.read_after-returns-then-depth-eq0-clause-refused
 unfolding value
-read_value-returns-then-depth-eq0-clause-refused t c = λ _.
-    let first : c.args.reader.now ≡ token_of c.in-Some.token ∷ c.next.new.self = grind arith in
+read_after-returns-then-depth-eq0-clause-refused t c = λ _.
     let none : c.args.depth ≡ 0 = omega arith in
-    ap (converted of_json) (ap₂ value none (first ∙ ap (λ k. token_of k ∷ c.next.new.self) c.in-BeginArray.is))
+    ap (converted of_json) (ap₂ value none (ap (λ k. token_of k ∷ c.args.reader.now) c.in-BeginArray.is))
 
-pub read_value-returns-then-depth-eq0-2-clause-refused : goal.read_value-returns-then-depth-eq0-2-clause-refused
+pub read_after-returns-then-depth-eq0-2-clause-refused : goal.read_after-returns-then-depth-eq0-2-clause-refused
 unfolding value
-read_value-returns-then-depth-eq0-2-clause-refused t c = λ _.
-    let first : c.args.reader.now ≡ token_of c.in-Some.token ∷ c.next.new.self = grind arith in
+read_after-returns-then-depth-eq0-2-clause-refused t c = λ _.
     let none : c.args.depth ≡ 0 = omega arith in
-    ap (converted of_json) (ap₂ value none (first ∙ ap (λ k. token_of k ∷ c.next.new.self) c.in-BeginObject.is))
+    ap (converted of_json) (ap₂ value none (ap (λ k. token_of k ∷ c.args.reader.now) c.in-BeginObject.is))
 
-pub read_value-returns-in-None-clause-refused : goal.read_value-returns-in-None-clause-refused
-read_value-returns-in-None-clause-refused t c = λ _.
-    let first : c.args.reader.now ≡ token_of c.in-Some.token ∷ c.next.new.self = grind arith in
-    let is : c.args.reader.now ≡ Token.number c.in-Number.text.now ∷ c.next.new.self = grind (arith, first) in
-    ap (converted of_json) (ap (value c.args.depth) is ∙ value_is c.args.depth _) ∙ rw (← c.in-None.ensures)
+pub read_after-returns-in-None-clause-refused : goal.read_after-returns-in-None-clause-refused
+read_after-returns-in-None-clause-refused t c = λ _.
+    let is : token_of c.args.token ≡ Token.number c.in-Number.text.now = grind arith in
+    ap (converted of_json) (ap (λ k. value c.args.depth (k ∷ c.args.reader.now)) is ∙ value_is c.args.depth _) ∙ rw (← c.in-None.ensures)
 
-pub read_value-returns-in-EndObject-clause-refused : goal.read_value-returns-in-EndObject-clause-refused
-read_value-returns-in-EndObject-clause-refused t c = λ _.
-    let first : c.args.reader.now ≡ token_of c.in-Some.token ∷ c.next.new.self = grind arith in
-    let none : value c.args.depth c.args.reader.now ≡ None = rw (value_is c.args.depth c.args.reader.now, first) (grind arith) in
+pub read_after-returns-in-EndObject-clause-refused : goal.read_after-returns-in-EndObject-clause-refused
+read_after-returns-in-EndObject-clause-refused t c = λ _.
+    let none : value c.args.depth (token_of c.args.token ∷ c.args.reader.now) ≡ None = rw (value_is c.args.depth (token_of c.args.token ∷ c.args.reader.now)) (grind arith) in
     ap (converted of_json) none
 
-pub read_value-returns-in_err-read_items-in-BeginArray-clause-refused : goal.read_value-returns-in_err-read_items-in-BeginArray-clause-refused
-read_value-returns-in_err-read_items-in-BeginArray-clause-refused t c = λ refused.
-    let first : c.args.reader.now ≡ token_of c.in-Some.token ∷ c.next.new.self = grind arith in
-    let opened = ap (converted of_json) (ap (value c.args.depth) (first ∙ ap (λ k. token_of k ∷ c.next.new.self) c.in-BeginArray.is) ∙ value-begin_array c.args.depth c.next.new.self (omega arith)) ∙ converted-array (items (value (c.args.depth - 1)) (length c.next.new.self) c.next.new.self) in
+pub read_after-returns-in_err-read_items-in-BeginArray-clause-refused : goal.read_after-returns-in_err-read_items-in-BeginArray-clause-refused
+read_after-returns-in_err-read_items-in-BeginArray-clause-refused t c = λ refused.
+    let opened = ap (converted of_json) (ap (λ k. value c.args.depth (token_of k ∷ c.args.reader.now)) c.in-BeginArray.is ∙ value-begin_array c.args.depth c.args.reader.now (omega arith)) ∙ converted-array (items (value (c.args.depth - 1)) (length c.args.reader.now) c.args.reader.now) in
     opened ∙ ap (parse_map array) (c.read_items.ensures.refused (grind arith))
 
-pub read_value-returns-in_err-read_members-in-BeginObject-clause-refused : goal.read_value-returns-in_err-read_members-in-BeginObject-clause-refused
-read_value-returns-in_err-read_members-in-BeginObject-clause-refused t c = λ refused.
-    let first : c.args.reader.now ≡ token_of c.in-Some.token ∷ c.next.new.self = grind arith in
-    let opened = ap (converted of_json) (ap (value c.args.depth) (first ∙ ap (λ k. token_of k ∷ c.next.new.self) c.in-BeginObject.is) ∙ value-begin_object c.args.depth c.next.new.self (omega arith)) ∙ converted-object (members (value (c.args.depth - 1)) (length c.next.new.self) c.next.new.self) in
+pub read_after-returns-in_err-read_members-in-BeginObject-clause-refused : goal.read_after-returns-in_err-read_members-in-BeginObject-clause-refused
+read_after-returns-in_err-read_members-in-BeginObject-clause-refused t c = λ refused.
+    let opened = ap (converted of_json) (ap (λ k. value c.args.depth (token_of k ∷ c.args.reader.now)) c.in-BeginObject.is ∙ value-begin_object c.args.depth c.args.reader.now (omega arith)) ∙ converted-object (members (value (c.args.depth - 1)) (length c.args.reader.now) c.args.reader.now) in
     opened ∙ ap (parse_map object) (c.read_members.ensures.refused (grind arith))
 
 pub read_items-returns-in_err-item-clause-refused : goal.read_items-returns-in_err-item-clause-refused

@@ -17,9 +17,8 @@ use gltf_base::extensions::scene::khr_lights_punctual::LightType;
 use gltf_base::validation::Checked;
 use gltf_base::{Index, Listed, Real};
 use gltf_data::extras::Extras;
-use gltf_schema::{Error, Object, Reading, Source, WriteRows};
+use gltf_schema::{Object, ReadRows, WriteRows};
 use serde_json::Value;
-use std::alloc::Global;
 use std::f64::consts::FRAC_PI_4;
 
 /// The light that a node carries. It is at the node's origin; a directional or a spot light
@@ -56,13 +55,9 @@ impl Object for KhrLightsPunctual {
 
     ghost low = { (light_of_node_height.1, lit≤ tt) };
 
-    fn decode_members<S: Source>(
-        alloc: Global,
-        found: S::Fields,
-    ) -> Result<KhrLightsPunctual, Error> {
-        let mut reading = Reading::<S>::from_members(alloc, found);
-        let light = reading.required("light");
-        reading.finish(KhrLightsPunctual { light })
+    fn read_members<R: ReadRows>(from: &mut R) -> KhrLightsPunctual {
+        let light = from.required("light");
+        KhrLightsPunctual { light }
     }
 
     fn write_members<W: WriteRows>(&self, to: &mut W) {
@@ -174,17 +169,16 @@ impl Object for Light {
 
     ghost low = { (light_height.1, lit≤ tt) };
 
-    fn decode_members<S: Source>(alloc: Global, found: S::Fields) -> Result<Light, Error> {
-        let mut reading = Reading::<S>::from_members(alloc, found);
-        let color = reading.sometimes("color");
-        let extensions = reading.optional("extensions");
-        let extras = reading.optional("extras");
-        let intensity = reading.sometimes("intensity");
-        let name = reading.optional("name");
-        let range = reading.optional("range");
-        let spot = reading.optional("spot");
-        let type_ = reading.required("type");
-        reading.finish(Light {
+    fn read_members<R: ReadRows>(from: &mut R) -> Light {
+        let color = from.sometimes("color");
+        let extensions = from.optional("extensions");
+        let extras = from.optional("extras");
+        let intensity = from.sometimes("intensity");
+        let name = from.optional("name");
+        let range = from.optional("range");
+        let spot = from.optional("spot");
+        let type_ = from.required("type");
+        Light {
             color,
             extensions,
             extras,
@@ -193,7 +187,7 @@ impl Object for Light {
             range,
             spot,
             type_,
-        })
+        }
     }
 
     fn write_members<W: WriteRows>(&self, to: &mut W) {
@@ -234,14 +228,13 @@ impl Object for Spot {
 
     ghost low = { (spot_height.1, lit≤ tt) };
 
-    fn decode_members<S: Source>(alloc: Global, found: S::Fields) -> Result<Spot, Error> {
-        let mut reading = Reading::<S>::from_members(alloc, found);
-        let inner_cone_angle = reading.sometimes("innerConeAngle");
-        let outer_cone_angle = reading.sometimes("outerConeAngle");
-        reading.finish(Spot {
+    fn read_members<R: ReadRows>(from: &mut R) -> Spot {
+        let inner_cone_angle = from.sometimes("innerConeAngle");
+        let outer_cone_angle = from.sometimes("outerConeAngle");
+        Spot {
             inner_cone_angle,
             outer_cone_angle,
-        })
+        }
     }
 
     fn write_members<W: WriteRows>(&self, to: &mut W) {

@@ -9,8 +9,7 @@ ghost use Rattle.gltf_schema.specs.Fields.{text_tree};
 ghost use Rattle.gltf_nodes.specs.Light.{variant_rows, variant_sound, variant_height, variant_members};
 
 use gltf_base::Listed;
-use gltf_schema::{Error, Object, Reading, Source, WriteRows};
-use std::alloc::Global;
+use gltf_schema::{Object, ReadRows, WriteRows};
 
 /// A variant: a choice of materials for the whole document.
 #[derive(Clone, Debug)]
@@ -56,10 +55,9 @@ impl Object for Variant {
 
     ghost low = { (variant_height.1, lit≤ tt) };
 
-    fn decode_members<S: Source>(alloc: Global, found: S::Fields) -> Result<Variant, Error> {
-        let mut reading = Reading::<S>::from_members(alloc, found);
-        let name = reading.required("name");
-        reading.finish(Variant { name })
+    fn read_members<R: ReadRows>(from: &mut R) -> Variant {
+        let name = from.required("name");
+        Variant { name }
     }
 
     fn write_members<W: WriteRows>(&self, to: &mut W) {

@@ -13,8 +13,8 @@ parts es i e lt is = sym (take-append-drop i es) ∙ ap (λ l. take i es ++ l) (
 fewer : (es : List Entry) (i : ℕ) → i < length es → take i (take i es ++ drop (i + 1) es) ≡ take i es
 fewer es i lt = let inside : i ≤ length (take i es) = omega (arith, length-take i es) in take-append-le i (take i es) (drop (i + 1) es) inside ∙ take-take i i es (omega arith)
 
-pub scan-preserved-then-eq : goal.scan-preserved-then-eq
-scan-preserved-then-eq c =
+pub scan-preserved-then-is_same : goal.scan-preserved-then-is_same
+scan-preserved-then-is_same c =
     let n = c.args.name.now in
     let es = c.scan.fields.items in
     let i = c.scan.i in
@@ -24,7 +24,7 @@ scan-preserved-then-eq c =
     let split = parts es i e inside (sym c.remove.ensures.value) in
     let left = c.remove.ensures.by_index.2 in
     let here : c.index.result.now ≡ e = c.index.ensures ∙ get_or_default es i c.index.result.now e inside ∙ sym c.remove.ensures.value in
-    let named : bytes_eq e.0.now n ≡ true = ap (λ (x : Entry). bytes_eq x.0.now n) (sym here) ∙ sym c.eq.ensures ∙ c.if-eq.true in
+    let named : bytes_eq e.0.now n ≡ true = ap (λ (x : Entry). bytes_eq x.0.now n) (sym here) ∙ sym c.is_same.ensures ∙ c.if-is_same.true in
     record {
       passed = ap (λ l. has_named n (take i l)) left ∙ ap (has_named n) (fewer es i inside) ∙ inv.passed;
       left = inv.left ∙ ap (without_named n) split ∙ without_taken n (take i es) e (drop (i + 1) es) named ∙ ap (without_named n) (sym left);
@@ -40,7 +40,7 @@ scan-preserved c =
     let e = c.index.result.now in
     let inv = c.scan.invariant in
     let inside : i < length es = omega arith in
-    let other : bytes_eq (get_or es i e).0.now n ≡ false = ap (λ (x : Entry). bytes_eq x.0.now n) (sym c.index.ensures) ∙ sym c.eq.ensures ∙ c.if-eq.false in
+    let other : bytes_eq (get_or es i e).0.now n ≡ false = ap (λ (x : Entry). bytes_eq x.0.now n) (sym c.index.ensures) ∙ sym c.is_same.ensures ∙ c.if-is_same.false in
     record {
       passed = ap (has_named n) (take_more es i e inside) ∙ has_named-push n (take i es) (get_or es i e) inv.passed other;
       left = inv.left;

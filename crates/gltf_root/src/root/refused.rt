@@ -1,0 +1,30 @@
+//! The place at which the table refuses a document.
+
+ghost use Rattle.std.specs.Prelude.{◌≡◌, Err, IsUtf8};
+ghost use Rattle.gltf_borrowed.specs.Place.{IsPlaceIn};
+ghost use Rattle.gltf_root.specs.Root.{root_kind};
+
+use super::Root;
+use gltf_borrowed::{Place, refused_in_text};
+use gltf_schema::Error;
+use simdutf8::compat::from_utf8;
+use std::alloc::Global;
+
+impl Root {
+    /// Returns the place in a document's bytes that the table refuses, or `None` if the bytes are a
+    /// document. The place is a value, or a required member that is missing. Of an object it is in
+    /// the first row, in the table's order, that refuses its member; of a list it is in the first
+    /// item that is refused. Fails with `Json` if the bytes are no JSON; `Memory` may come in place
+    /// of any result if a growth was refused.
+    ///
+    /// It reads bytes again that [`Root::from_slice`] refused with `Schema`.
+    pub fn refused_at(alloc: Global, bytes: &[u8]) -> Result<Option<Place>, Error>
+        ensures text { IsUtf8 bytes.now → IsPlaceIn root_kind bytes.now result }
+        ensures no_text { (IsUtf8 bytes.now → ⊥) → result ≡ Err Error.Json }
+    {
+        match from_utf8(bytes) {
+            Ok(text) => refused_in_text::<Root>(alloc, text),
+            Err(_) => Err(Error::Json),
+        }
+    }
+}

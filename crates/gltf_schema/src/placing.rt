@@ -1,0 +1,242 @@
+//! Where a value is refused: an object's members read row by row, and the place of the first row
+//! that is refused.
+
+ghost use Rattle.std.specs.Prelude.{◌≡◌, List, Option, Result, IfErr};
+ghost use Rattle.serde_json.specs.Data.{Members, object as json_object};
+ghost use Rattle.gltf_paths.specs.Steps.{Step as AnyStep, step_of, field};
+ghost use Rattle.gltf_schema.specs.Tree.{object};
+ghost use Rattle.gltf_schema.specs.Kind.{Object as object_kind};
+ghost use Rattle.gltf_schema.specs.Readings.{TakesOut};
+ghost use Rattle.gltf_schema.specs.Placings.{owned_step, place_of, error_place, IsWithin, IsInside, ReadsOrPlaces, PlacesValue, PlacesMissing, members_or_place, PlacesMember, PlacesOthers};
+ghost use Rattle.gltf_schema.specs.PlacedAs.{source_placed, sampler_placed};
+
+use crate::blank::Blank;
+use crate::reading::ReadRows;
+use crate::schema::{Object, Schema};
+use crate::source::Source;
+use gltf_base::{Error, Step};
+use serde_json::{Map, Value};
+use std::alloc::{AllocError, AllocFailed, Global};
+use std::mem;
+
+/// A step to a place, as [`Step`], with a name of its own: what a read fails with borrows nothing.
+#[derive(Debug, Drop)]
+pub enum OwnedStep {
+    /// To a member of an object, by its JSON name.
+    Field(String),
+    /// To an item of a list, by its number.
+    Index(usize),
+}
+
+impl OwnedStep {
+    /// Returns the step, which borrows the name.
+    pub fn as_step(&self) -> Step<'_>
+        ensures { step_of result ≡ owned_step self.now }
+    {
+        match self {
+            OwnedStep::Field(name) => Step::Field(name.as_str()),
+            OwnedStep::Index(number) => Step::Index(*number),
+        }
+    }
+}
+
+/// Why a value was refused.
+#[derive(Debug, Drop)]
+pub enum Refusal {
+    /// The table refuses what these steps lead to: a value, or a required member that is missing.
+    At(Vec<OwnedStep>),
+    /// A growth was refused.
+    Memory(AllocError),
+}
+
+impl Refusal {
+    /// The refusal of the value itself.
+    pub(crate) fn here(alloc: Global, error: Error) -> Refusal
+        ensures { place_of result ≡ error_place error }
+    {
+        match error {
+            Error::Memory(refused) => Refusal::Memory(refused),
+            _ => Refusal::At(Vec::new(alloc)),
+        }
+    }
+
+    /// The refusal as it is seen from one step further up: `Memory` if a growth is refused.
+    pub(crate) fn within(self, step: OwnedStep) -> Refusal
+        ensures { IsWithin (owned_step step) (place_of self) (place_of result) }
+    {
+        match self {
+            Refusal::At(mut steps) => match steps.insert(0, step) {
+                Ok(()) => Refusal::At(steps),
+                Err(_refused) => Refusal::Memory(AllocError),
+            },
+            Refusal::Memory(refused) => Refusal::Memory(refused),
+        }
+    }
+
+    /// The refusal as it is seen from the object whose member has this name.
+    fn within_field(self, alloc: Global, name: &str) -> Refusal
+        ensures { IsWithin (field name.now) (place_of self) (place_of result) }
+    {
+        match String::from_str(alloc, name) {
+            Ok(name) => self.within(OwnedStep::Field(name)),
+            Err(refused) => Refusal::Memory(refused),
+        }
+    }
+}
+
+impl From<AllocError> for Refusal {
+    ghost use Rattle.gltf_schema.specs.declared.placing.Refusal.TheVariants.{Memory};
+
+    ghost from_gives = { λ refused r. r ≡ Memory refused };
+
+    fn from(refused: AllocError) -> Refusal {
+        Refusal::Memory(refused)
+    }
+}
+
+impl<T: Drop> From<AllocFailed<T>> for Refusal {
+    ghost use Rattle.std.specs.Prelude.{alloc_error};
+    ghost use Rattle.gltf_schema.specs.declared.placing.Refusal.TheVariants.{Memory};
+
+    ghost from_gives = { λ _ r. r ≡ Memory alloc_error };
+
+    fn from(_refused: AllocFailed<T>) -> Refusal {
+        Refusal::Memory(AllocError)
+    }
+}
+
+/// The members of an object that are not read yet, or the place of the first row that was refused.
+#[derive(Drop)]
+pub struct Placing<S: Source> {
+    alloc: Global,
+    state: Result<S::Fields, Refusal>,
+}
+
+/// Reads an object's members. Fails with the place of the first row that is refused.
+pub(crate) fn place_members<S: Source, T: Object>(
+    alloc: Global,
+    found: S::Fields,
+) -> Result<T, Refusal>
+    ensures by_table { ReadsOrPlaces (λ x. object (T.members x) (T.unknown x)) result
+        (object_kind T.rule T.rows T.keeps) (json_object (S.members found)) }
+    ensures inside { IfErr result (λ r. IsInside (place_of r)) }
+{
+    let mut placing = Placing::<S> {
+        alloc,
+        state: Ok(found),
+    };
+    let object = T::read_members(&mut placing);
+    let _left = placing.state?;
+    Ok(object)
+}
+
+impl<S: Source> Placing<S> {
+    /// The member of this name, if there is one and no row was refused before.
+    fn take(&mut self, name: &str) -> Option<S>
+        ensures { TakesOut S.given (members_or_place S.members self.old.state) name.now result
+            (members_or_place S.members self.new.state) }
+    {
+        match &mut self.state {
+            Ok(members) => S::take(members, name),
+            Err(_) => None,
+        }
+    }
+
+    /// What the table reads of the value of the member of this name; if it refuses the value, it
+    /// refuses the row, and the place is under the name.
+    fn decode<T: Schema>(&mut self, name: &str, value: S) -> Option<T>
+        ensures { PlacesValue T.tree (members_or_place S.members self.old.state) result name.now
+            T.kind (S.given value) (members_or_place S.members self.new.state) }
+    {
+        match T::decode_or_place(self.alloc, value) {
+            Ok(x) => Some(x),
+            Err(refusal) => {
+                self.state = Err(refusal.within_field(self.alloc, name));
+                None
+            }
+        }
+    }
+
+    /// Refuses the row of this name, whose member is missing, unless one was refused before.
+    fn refuse(&mut self, name: &str)
+        ensures { PlacesMissing (members_or_place S.members self.old.state) name.now
+            (members_or_place S.members self.new.state) }
+    {
+        if self.state.is_ok() {
+            let missing = Refusal::here(self.alloc, Error::Schema);
+            self.state = Err(missing.within_field(self.alloc, name));
+        }
+    }
+}
+
+impl<S: Source> ReadRows for Placing<S> {
+    ghost State = { Result Members (Option (List AnyStep)) };
+
+    ghost state = { λ p. members_or_place S.members p.state };
+
+    ghost Takes = { PlacesMember };
+
+    ghost Leaves = { PlacesOthers };
+
+    ghost as_source = { source_placed };
+
+    ghost as_sampler = { sampler_placed };
+
+    fn others(&mut self) -> Map<String, Value> {
+        let empty = S::no_fields(self.alloc);
+        match mem::replace(&mut self.state, Ok(empty)) {
+            Ok(members) => match S::into_others(members, self.alloc) {
+                Ok(others) => others,
+                Err(refused) => {
+                    self.state = Err(Refusal::Memory(refused));
+                    Map::new(self.alloc)
+                }
+            },
+            Err(refusal) => {
+                self.state = Err(refusal);
+                Map::new(self.alloc)
+            }
+        }
+    }
+
+    fn required<T: Schema + Blank>(&mut self, name: &'static str) -> T {
+        match self.take(name) {
+            Some(value) => match self.decode(name, value) {
+                Some(x) => x,
+                None => T::blank(self.alloc),
+            },
+            None => {
+                self.refuse(name);
+                T::blank(self.alloc)
+            }
+        }
+    }
+
+    fn optional<T: Schema>(&mut self, name: &'static str) -> Option<T> {
+        let value = self.take(name)?;
+        if value.is_null() {
+            return None;
+        }
+        self.decode(name, value)
+    }
+
+    fn sometimes<T: Schema>(&mut self, name: &'static str) -> Option<T> {
+        let value = self.take(name)?;
+        self.decode(name, value)
+    }
+
+    fn list<T: Schema>(&mut self, name: &'static str) -> Vec<T> {
+        let empty: Vec<T> = Vec::new(self.alloc);
+        self.or_default(name, empty)
+    }
+
+    fn or_default<T: Schema + Blank>(&mut self, name: &'static str, default: T) -> T {
+        match self.take(name) {
+            Some(value) => match self.decode(name, value) {
+                Some(x) => x,
+                None => T::blank(self.alloc),
+            },
+            None => default,
+        }
+    }
+}

@@ -25,7 +25,13 @@ mod visitable;
 
 pub use event::{Event, EventBuilder};
 pub use events::Events;
+pub use lists::{
+    at_attributes, channel_at, extension_at, in_attribute, in_channel, in_extension, in_positions,
+    is_channel_quiet, item_at, leaf_at,
+};
 pub use look::Look;
+pub use material::{MaterialFaults, at_material, in_material, is_material_quiet};
 pub use quiet::Quiet;
+pub use references::{MemberName, ReferenceState, in_one_texture, in_reference, in_two_textures};
 pub use value_ref::ValueRef;
 pub use visitable::Visitable;

@@ -22,7 +22,7 @@ use gltf_base::validation::Error;
 use gltf_faults::{HasContext, PositionFaults, extension_fault, sampler_fault};
 
 /// The event at a number of a place with nothing below.
-pub(crate) fn leaf_at<'a, E: EventBuilder<'a>>(fault: Option<Error>, number: usize) -> E
+pub fn leaf_at<'a, E: EventBuilder<'a>>(fault: Option<Error>, number: usize) -> E
     ensures comes { (context : _) → E.gives context (move_at (leaf fault) number) result }
     ensures small { E.is_more result → number + 1 < 2 ^ 64 }
 {
@@ -33,7 +33,7 @@ pub(crate) fn leaf_at<'a, E: EventBuilder<'a>>(fault: Option<Error>, number: usi
 }
 
 /// The item of a list at a number.
-pub(crate) fn item_at<'a, T: Quiet, E: EventBuilder<'a>, C: HasContext>(
+pub fn item_at<'a, T: Quiet, E: EventBuilder<'a>, C: HasContext>(
     items: &'a Vec<T>,
     number: usize,
     context: &C,
@@ -50,7 +50,7 @@ pub(crate) fn item_at<'a, T: Quiet, E: EventBuilder<'a>, C: HasContext>(
 }
 
 /// The event at a number of an attribute: the error of its key, then the error of its index.
-pub(crate) fn in_attribute<'a, E: EventBuilder<'a>>(
+pub fn in_attribute<'a, E: EventBuilder<'a>>(
     key: Option<Error>,
     index: Option<Error>,
     number: usize,
@@ -71,7 +71,7 @@ pub(crate) fn in_attribute<'a, E: EventBuilder<'a>>(
 }
 
 /// The channel of an animation at a number.
-pub(crate) fn channel_at<'a, E: EventBuilder<'a>, C: HasContext>(
+pub fn channel_at<'a, E: EventBuilder<'a>, C: HasContext>(
     animation: &'a Animation,
     number: usize,
     context: &C,
@@ -95,7 +95,7 @@ pub(crate) fn channel_at<'a, E: EventBuilder<'a>, C: HasContext>(
 
 /// The event at a number of a channel: its sampler, which the animation holds, then its target.
 #[tactic(auto, using(crate::proofs::Past::past), unfolding(gltf_animations::specs::Animation::animation_channel_rows, gltf_animations::specs::Animation::animation_target_rows, gltf_animations::specs::Animation::animation_channel_members, gltf_animations::specs::Animation::animation_target_members))]
-pub(crate) fn in_channel<'a, E: EventBuilder<'a>, C: HasContext>(
+pub fn in_channel<'a, E: EventBuilder<'a>, C: HasContext>(
     channel: &'a Channel,
     animation: &Animation,
     number: usize,
@@ -129,7 +129,7 @@ pub(crate) fn are_channels_quiet<C: HasContext>(animation: &Animation, context: 
 }
 
 /// Whether nothing is wrong in a channel.
-pub(crate) fn is_channel_quiet<C: HasContext>(
+pub fn is_channel_quiet<C: HasContext>(
     channel: &Channel,
     animation: &Animation,
     context: &C,
@@ -149,7 +149,7 @@ pub(crate) fn is_channel_quiet<C: HasContext>(
 }
 
 /// The event at a number of the attributes of a primitive, as its rule looks at them.
-pub(crate) fn at_attributes<'a, E: EventBuilder<'a>, C: HasContext>(
+pub fn at_attributes<'a, E: EventBuilder<'a>, C: HasContext>(
     faults: PositionFaults,
     number: usize,
     context: &C,
@@ -171,7 +171,7 @@ pub(crate) fn at_attributes<'a, E: EventBuilder<'a>, C: HasContext>(
 
 /// The event at a number of the positions of a primitive: the bounds of their accessor, then the
 /// error if there are no positions.
-pub(crate) fn in_positions<'a, E: EventBuilder<'a>>(faults: PositionFaults, number: usize) -> E
+pub fn in_positions<'a, E: EventBuilder<'a>>(faults: PositionFaults, number: usize) -> E
     ensures comes { (context : _)
         → E.gives context (move_at (faults_outline faults) number) result }
     ensures small { E.is_more result → number + 1 < 2 ^ 64 }
@@ -192,7 +192,7 @@ pub(crate) fn are_positions_quiet(faults: PositionFaults) -> bool
 }
 
 /// The required extension at a number.
-pub(crate) fn extension_at<'a, E: EventBuilder<'a>, C: HasContext>(
+pub fn extension_at<'a, E: EventBuilder<'a>, C: HasContext>(
     names: &'a Vec<String>,
     number: usize,
     context: &C,
@@ -214,7 +214,7 @@ pub(crate) fn extension_at<'a, E: EventBuilder<'a>, C: HasContext>(
 }
 
 /// The event at a number of the name of a required extension: the name, as a step.
-pub(crate) fn in_extension<'a, E: EventBuilder<'a>, C: HasContext>(
+pub fn in_extension<'a, E: EventBuilder<'a>, C: HasContext>(
     name: &'a String,
     number: usize,
     context: &C,

@@ -10,10 +10,12 @@ ghost use Rattle.gltf_visits.specs.Outline.{IsQuiet, leaf, move_at};
 ghost use Rattle.gltf_visits.specs.OutlineOf.{outline};
 ghost use Rattle.gltf_visits.specs.References.{extensions_outline, invalid_if, material_outline, parameters_outline};
 ghost use Rattle.gltf_visits.specs.ValueRefs.{outline_of};
+ghost use Rattle.gltf_visits.specs.declared.value_ref.ValueRef.TheVariants.{Material as material_ref};
 ghost use Rattle.std.specs.Prelude.{◌≡◌, ◌+◌, ◌<◌, ◌^◌, true, refl};
 
 use crate::always_valid::AlwaysValid;
 use crate::event::EventBuilder;
+use crate::events::Events;
 use crate::quiet::{Quiet, are_quiet, is_found_quiet};
 use crate::references::{MemberName, ReferenceState, TextureReference, index_state, member_state};
 use crate::value_ref::ValueRef;
@@ -70,9 +72,26 @@ fn material_faults(material: &Material, context: &Context<'_>) -> MaterialFaults
     }
 }
 
+/// The event at a number of a material with extensions, or of extensions alone.
+pub fn at_material<'a, E: EventBuilder<'a>, C: HasContext>(
+    faults: Option<MaterialFaults>,
+    extensions: &'a MaterialExtensions,
+    number: usize,
+    context: &C,
+) -> E
+    ensures comes { E.gives (C.context context.now) (move_at (outline_of (C.context context.now)
+        (material_ref faults extensions.entry)) number) result }
+    ensures small { E.is_more result → number + 1 < 2 ^ 64 }
+{
+    match faults {
+        Some(faults) => in_material(faults, Some(extensions), number, context),
+        None => extensions.event(number, context),
+    }
+}
+
 /// The event at a number of a material.
 #[tactic(auto, using(crate::proofs::Past::past))]
-pub(crate) fn in_material<'a, E: EventBuilder<'a>, C: HasContext>(
+pub fn in_material<'a, E: EventBuilder<'a>, C: HasContext>(
     faults: MaterialFaults,
     extensions: Option<&'a MaterialExtensions>,
     number: usize,
@@ -130,7 +149,7 @@ fn parameters_ref<'a>(
 }
 
 /// Whether nothing is wrong in a material.
-pub(crate) fn is_material_quiet<C: HasContext>(
+pub fn is_material_quiet<C: HasContext>(
     faults: &MaterialFaults,
     extensions: Option<&MaterialExtensions>,
     context: &C,

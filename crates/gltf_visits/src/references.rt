@@ -84,7 +84,7 @@ pub(crate) fn member_state<T: TextureReference>(
 }
 
 /// The event at a number of a reference.
-pub(crate) fn in_reference<'a, E: EventBuilder<'a>>(state: ReferenceState, number: usize) -> E
+pub fn in_reference<'a, E: EventBuilder<'a>>(state: ReferenceState, number: usize) -> E
     ensures comes { (context : _)
         → E.gives context (move_at (reference_outline state) number) result }
     ensures small { E.is_more result → number + 1 < 2 ^ 64 }
@@ -97,11 +97,7 @@ pub(crate) fn in_reference<'a, E: EventBuilder<'a>>(state: ReferenceState, numbe
 }
 
 /// The event at a number of an object in which one reference can be wrong.
-pub(crate) fn in_one_texture<'a>(
-    state: ReferenceState,
-    name: MemberName,
-    number: usize,
-) -> Event<'a>
+pub fn in_one_texture<'a>(state: ReferenceState, name: MemberName, number: usize) -> Event<'a>
     ensures comes { (context : MathematicalContext)
         → IsGiven context (move_at (one_texture state name) number) result }
     ensures small { IsMore result → number + 1 < 2 ^ 64 }
@@ -113,7 +109,7 @@ pub(crate) fn in_one_texture<'a>(
 }
 
 /// The event at a number of an object in which two references can be wrong.
-pub(crate) fn in_two_textures<'a>(
+pub fn in_two_textures<'a>(
     first: ReferenceState,
     second: ReferenceState,
     first_name: MemberName,

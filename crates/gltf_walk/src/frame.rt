@@ -10,6 +10,7 @@ use crate::attributes::next_attribute;
 use arrayvec::ArrayVec;
 use gltf_base::mesh::Semantic;
 use gltf_base::validation::Checked;
+use gltf_events::event;
 use gltf_faults::Context;
 use gltf_visits::{Event, ValueRef};
 
@@ -62,7 +63,7 @@ pub(crate) fn next_event<'a>(frame: &mut Frame<'a>, context: &Context<'_>) -> Ev
 {
     match frame.value {
         ValueRef::Attributes(attributes) => next_attribute(attributes, &mut frame.behind, context),
-        value => match value.event(frame.number, context) {
+        value => match event(value, frame.number, context) {
             Event::End => Event::End,
             next => {
                 frame.number += 1;

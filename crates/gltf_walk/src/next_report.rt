@@ -14,6 +14,7 @@ use crate::frame::{Frame, begun_in, next_event};
 use crate::walk::{ValueWalk, Walk};
 use gltf_base::Steps;
 use gltf_base::validation::Error;
+use gltf_events::is_quiet;
 use gltf_faults::{Context, Rules};
 use gltf_root::root::Root;
 use gltf_visits::{Event, Visitable};
@@ -75,7 +76,7 @@ impl<'a> ValueWalk<'a> {
                 Event::Enter(step, value) => {
                     self.frames.push(frame);
                     // Most of what a walk comes to has nothing wrong in it.
-                    if !value.is_quiet(&context) {
+                    if !is_quiet(&value, &context) {
                         if self.steps.is_full() {
                             return Err(StepsFull);
                         }

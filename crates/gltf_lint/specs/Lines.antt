@@ -1,5 +1,5 @@
 -- The lines that are printed for a document.
-use Rattle.std.specs.Prelude.{ℕ, ◌-◌, List, [], ◌∷◌, ◌++◌, nat_lt, if◌then◌else◌, codes}
+use Rattle.std.specs.Prelude.{ℕ, ◌-◌, List, [], ◌∷◌, ◌++◌, length, take, nat_lt, if◌then◌else◌, codes}
 use Rattle.std.specs.Fmt.{decimal}
 use Rattle.serde_json.specs.Data.{Data, number, string, object, member, no_members, unsigned}
 use Rattle.serde_json.specs.Written.{compact_text}
@@ -7,6 +7,7 @@ use Rattle.gltf_paths.specs.Errors.{error_text, error_code}
 use Rattle.gltf_paths.specs.Text.{path_text}
 use Rattle.gltf_paths.specs.Pointers.{pointer_text}
 use Rattle.gltf_sinks.specs.Report.{Report}
+use Rattle.gltf_devices.specs.Device.{saturated}
 use Rattle.gltf_lint.specs.declared.arguments.Format.{Format}
 use Rattle.gltf_lint.specs.declared.arguments.Format.TheVariants.{Text, Json}
 
@@ -34,10 +35,15 @@ abbrev pub rest_line : Format → List ℕ → ℕ → List ℕ
 rest_line Text file rest = line (file ++ codes ": and " ++ decimal rest ++ codes " more")
 rest_line Json file rest = line (compact_text (rest_data file rest))
 
--- the line of a report behind so many others, of which so many are printed
-abbrev pub line_within : Format → List ℕ → ℕ → ℕ → Report → List ℕ
-line_within format file most before r = if nat_lt before most then report_line format file r else []
-
 -- the line behind those of the reports, if not all of them are printed
 abbrev pub end_line : Format → List ℕ → ℕ → ℕ → List ℕ
 end_line format file most faults = if nat_lt most faults then rest_line format file (faults - most) else []
+
+-- the lines of reports, in order
+abbrev pub report_lines : Format → List ℕ → List Report → List ℕ
+report_lines format file [] = []
+report_lines format file (r ∷ rs) = report_line format file r ++ report_lines format file rs
+
+-- the lines for a file with these reports: those of the first reports, up to the most, and then how many more there are
+abbrev pub file_lines : Format → List ℕ → ℕ → List Report → List ℕ
+file_lines format file most rs = report_lines format file (take most rs) ++ end_line format file most (saturated (length rs))

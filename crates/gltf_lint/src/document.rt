@@ -27,13 +27,22 @@ fn json_refusal(alloc: Global, json: &[u8]) -> Refusal {
     }
 }
 
+/// Why JSON that is no glTF document is refused, with the place.
+fn schema_refusal(alloc: Global, json: &[u8]) -> Refusal {
+    match Root::refused_at(alloc, json) {
+        Ok(Some(place)) if place.pointer.is_empty() => Refusal::Schema,
+        Ok(Some(place)) => Refusal::Member(place),
+        _ => Refusal::Memory,
+    }
+}
+
 /// The document of a file of this name.
 pub fn document_of(alloc: Global, name: &str, bytes: &[u8]) -> Result<Root, Refusal> {
     let json = json_of(name, bytes)?;
     match Root::from_slice(alloc, json) {
         Ok(root) => Ok(root),
         Err(Error::Json) => Err(json_refusal(alloc, json)),
-        Err(Error::Schema) => Err(Refusal::Schema),
+        Err(Error::Schema) => Err(schema_refusal(alloc, json)),
         Err(_) => Err(Refusal::Memory),
     }
 }

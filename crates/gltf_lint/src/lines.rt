@@ -1,62 +1,23 @@
 //! The lines that are printed for a document.
 
-ghost use Rattle.std.specs.Prelude.{◌≡◌, ◌++◌, OnOk, string_bytes};
-ghost use Rattle.gltf_paths.specs.Steps.{steps_of};
-ghost use Rattle.gltf_sinks.specs.Report.{report};
-ghost use Rattle.gltf_lint.specs.Lines.{end_line, line_within};
+ghost use Rattle.std.specs.Prelude.{◌≡◌, length, IfOk, string_bytes};
+ghost use Rattle.gltf_devices.specs.Device.{saturated};
+ghost use Rattle.gltf_root.specs.Root.{root_tree};
+ghost use Rattle.gltf_faults.specs.Context.{rules_of};
+ghost use Rattle.gltf_faults.specs.Reports.{document_reports};
+ghost use Rattle.gltf_lint.specs.Lines.{file_lines};
 
 use crate::arguments::Options;
 use crate::reports::{push_report, push_rest};
-use gltf_base::Steps;
-use gltf_base::validation::Error;
 use gltf_root::root::Root;
 use gltf_walk::Walk;
 use std::alloc::{AllocError, Global};
 
-/// The lines for a document, and how many reports it has.
+/// The lines for a document, and how many reports it has, up to the largest number of 64 bits.
 #[derive(Drop)]
 pub struct Found {
     pub lines: String,
     pub faults: u64,
-}
-
-/// Appends the line of a report, if fewer than the most were printed `before` it.
-fn push_within(
-    alloc: Global,
-    lines: &mut String,
-    options: &Options<'_>,
-    file: &str,
-    steps: &Steps<'_>,
-    error: Error,
-    before: u64,
-) -> Result<(), AllocError>
-    ensures { OnOk result (string_bytes lines.new ≡ string_bytes lines.old
-        ++ line_within options.now.format file.now options.now.most before
-        (report (steps_of steps.now) error)) }
-{
-    if before < options.most {
-        push_report(alloc, lines, options.format, file, steps, error)
-    } else {
-        Ok(())
-    }
-}
-
-/// Appends the line that says how many more reports there are, if not all were printed.
-fn push_end(
-    alloc: Global,
-    lines: &mut String,
-    options: &Options<'_>,
-    file: &str,
-    faults: u64,
-) -> Result<(), AllocError>
-    ensures { OnOk result (string_bytes lines.new ≡ string_bytes lines.old
-        ++ end_line options.now.format file.now options.now.most faults) }
-{
-    if faults > options.most {
-        push_rest(alloc, lines, options.format, file, faults - options.most)
-    } else {
-        Ok(())
-    }
 }
 
 /// Finds what is wrong in the document of a file. Fails only if memory was refused.
@@ -65,22 +26,26 @@ pub fn found_in(
     options: &Options<'_>,
     file: &str,
     root: &Root,
-) -> Result<Found, AllocError> {
+) -> Result<Found, AllocError>
+    ensures lines { IfOk result (λ found. string_bytes found.lines
+        ≡ file_lines options.now.format file.now options.now.most
+        (document_reports (rules_of options.now.rules) (root_tree root.now))) }
+    ensures faults { IfOk result (λ found. found.faults ≡ saturated
+        (length (document_reports (rules_of options.now.rules) (root_tree root.now)))) }
+{
     let mut lines = String::new(alloc);
     let mut faults: u64 = 0;
     let mut walk = Walk::with_rules(options.rules, root);
     while let Some(error) = walk.next_report() {
-        push_within(
-            alloc,
-            &mut lines,
-            options,
-            file,
-            walk.steps(),
-            error,
-            faults,
-        )?;
+        if faults < options.most {
+            let steps = walk.steps();
+            push_report(alloc, &mut lines, options.format, file, steps, error)?;
+        }
         faults = faults.saturating_add(1);
     }
-    push_end(alloc, &mut lines, options, file, faults)?;
+    if faults > options.most {
+        let rest = faults - options.most;
+        push_rest(alloc, &mut lines, options.format, file, rest)?;
+    }
     Ok(Found { lines, faults })
 }

@@ -31,16 +31,28 @@ impl<'a> Linter<'a> {
 
     /// Checks what these arguments name, in their order, and prints the reports.
     pub fn check_all(&mut self, names: &[&str]) -> Result<()> {
-        for name in names.iter().rev() {
-            let path = String::from_str(self.rt.alloc(), name)?;
-            self.waiting.push((path, Kind::of_argument(self.rt, name)))?;
+        for name in names {
+            self.check_argument(name)?;
         }
+        Ok(())
+    }
+
+    /// Checks the file or the folder that an argument names. A folder without a document, here or
+    /// below, is refused.
+    fn check_argument(&mut self, name: &str) -> Result<()> {
+        let kind = Kind::of_argument(self.rt, name);
+        let before = self.tally.files;
+        let path = String::from_str(self.rt.alloc(), name)?;
+        self.waiting.push((path, kind))?;
         for _ in 0..u64::MAX {
             match self.waiting.pop() {
                 Some((path, Kind::File)) => self.check(&path)?,
                 Some((path, Kind::Folder)) => self.expand(&path)?,
                 None => break,
             }
+        }
+        if matches!(kind, Kind::Folder) && self.tally.files == before {
+            self.refuse(name, &Refusal::Empty)?;
         }
         Ok(())
     }

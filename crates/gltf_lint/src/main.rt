@@ -10,6 +10,8 @@ mod messages;
 mod refusal;
 mod reports;
 mod tally;
+#[cfg(test)]
+mod tests;
 
 use anyhow::Result;
 use arguments::{Options, command, enabled_extensions};

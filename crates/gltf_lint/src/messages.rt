@@ -8,15 +8,22 @@ use serde_json::{Value, json};
 use std::alloc::{AllocError, Global};
 use std::fmt::Write;
 
-/// A refusal as a JSON object. The line and the column are null if no place is known.
+/// A refusal as a JSON object. The line and the column are null unless the text is no JSON, the path
+/// and the pointer unless a place in its JSON is known.
 fn refusal_value(alloc: Global, file: &str, refusal: &Refusal) -> Result<Value, AllocError> {
-    let (line, column) = refusal.place().unzip();
+    let (line, column) = refusal.line_and_column().unzip();
+    let (path, pointer) = match refusal.place() {
+        Some(place) => (Some(place.path.0.clone()?), Some(place.pointer.clone()?)),
+        None => (None, None),
+    };
     json!(in alloc; {
         "code": refusal.code(),
         "column": column,
         "file": file,
         "line": line,
-        "message": refusal.to_string(alloc)?
+        "message": refusal.to_string(alloc)?,
+        "path": path,
+        "pointer": pointer
     })
 }
 

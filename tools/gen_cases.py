@@ -4,7 +4,8 @@
 It writes crates/gltf_corpus/data/cases.jsonl, a case a line, and their number into the last line of
 crates/gltf_corpus/stdout. A case has a title, a text or bytes, and what becomes of them: the line
 that the document is written as, or the error. A case may also have members that objects are to keep
-in `others`, under the names of src/kept.rt, and extras.
+in `others`, under the names of src/kept.rt, and extras, and the place that the table refuses, as a
+path and as a JSON pointer.
 What is expected is worked out by hand or by Python's json, never taken from the program.
 """
 import json
@@ -147,6 +148,18 @@ def names_twice():
         ("list, then an empty one", document(behind='"nodes":[{"name":"a"}],"nodes":[]'), LEAST),
         ("list that is refused, then one", document(behind='"nodes":[1],"nodes":[{}]'),
          document(behind='"nodes":[{}]')),
+        ("list, then one that is refused", document(behind='"nodes":[{}],"nodes":[{},1]'),
+         NO_DOCUMENT),
+        ("list, then null", document(behind='"nodes":[{}],"nodes":null'), NO_DOCUMENT),
+        ("null, then a list", document(behind='"nodes":null,"nodes":[{}]'),
+         document(behind='"nodes":[{}]')),
+        ("list, once with an escape",
+         document(behind='"nodes":[{}],"n\\u006fdes":[{"name":"a"}]'),
+         document(behind='"nodes":[{"name":"a"}]')),
+        ("list, with another between",
+         document(behind='"nodes":[{}],"scenes":[{}],"nodes":[{"name":"a"}]'),
+         document(behind='"nodes":[{"name":"a"}],"scenes":[{}]')),
+        ("list, then no JSON", document(behind='"nodes":[1],"nodes":[{}],"zz":01'), NO_JSON),
         ("an item's member", document(behind='"buffers":[{"byteLength":1,"byteLength":2}]'),
          document(behind='"buffers":[{"byteLength":2}]')),
         ("an item's member, three times",
@@ -182,6 +195,59 @@ def names_twice():
          document(behind='"extras":{"":2}')),
     ):
         case(f"twice: {title}", text, becomes)
+
+
+LISTS = [
+    *("accessors", "animations", "bufferViews", "buffers", "cameras", "extensionsRequired"),
+    *("extensionsUsed", "images", "materials", "meshes", "nodes", "samplers", "scenes", "skins"),
+    "textures",
+]
+
+
+def lists():
+    for name in LISTS:
+        for value in ("null", "{}", "1", '"a"', "true", "[null]", "[1]", "[[]]"):
+            text = document(behind=f'"{name}":{value}')
+            at = f"{name}[0]" if value[0] == "[" else name
+            pointer = f"/{name}/0" if value[0] == "[" else f"/{name}"
+            case(f"no {name}: {value}", text, NO_DOCUMENT, at=[at, pointer])
+        case(f"no items of {name}", document(behind=f'"{name}":[]'), LEAST)
+        for value in ("[", "[1", "[{]", "[{},]", "[,{}]", "{]"):
+            case(f"{name}, and no JSON: {value}", document(behind=f'"{name}":{value}'), NO_JSON)
+    members = [
+        *('"buffers":[{"byteLength":1},{"byteLength":2}]', '"meshes":[{"primitives":[]}]'),
+        *('"nodes":[{},{"name":"a"},{}]', '"scenes":[{},{}]', '"skins":[{"joints":[0]}]'),
+        '"textures":[{"source":1},{"source":0}]',
+    ]
+    due = document(behind=",".join(members))
+    case("lists in another order", document(before=",".join(reversed(members))), due)
+    case("lists in order", document(before=",".join(members)), due)
+
+
+def places():
+    """The place is in the first row that refuses its member, in the table's order."""
+    for text, path, pointer in (
+        *(("[]", "", ""), ("null", "", ""), ("{}", "asset", "/asset")),
+        ('{"asset":{}}', "asset.version", "/asset/version"),
+        ('{"asset":null}', "asset", "/asset"),
+        (document(behind='"scene":-1'), "scene", "/scene"),
+        (document(behind='"nodes":[{},{"mesh":-1}]'), "nodes[1].mesh", "/nodes/1/mesh"),
+        (document(behind='"nodes":[{"matrix":[1,2]}]'), "nodes[0].matrix", "/nodes/0/matrix"),
+        (document(behind='"nodes":[{"children":[0,"a"]}]'), "nodes[0].children[1]",
+         "/nodes/0/children/1"),
+        (document(behind='"nodes":[1],"accessors":[{}]'), "accessors[0].count",
+         "/accessors/0/count"),
+        (document(behind='"bufferViews":[{"byteLength":"a","buffer":"b"}]'),
+         "bufferViews[0].buffer", "/bufferViews/0/buffer"),
+        (document(behind='"nodes":[1],"nodes":[{},2,3]'), "nodes[1]", "/nodes/1"),
+        (document(behind='"extensionsUsed":["a",1]'), "extensionsUsed[1]", "/extensionsUsed/1"),
+        (primitive('"POSITION":"a"'), "meshes[0].primitives[0].attributes",
+         "/meshes/0/primitives/0/attributes"),
+        (document(behind='"extensions":{"KHR_lights_punctual":{"lights":[{"type":"point"},{}]}}'),
+         "extensions.KHR_lights_punctual.lights[1].type",
+         "/extensions/KHR_lights_punctual/lights/1/type"),
+    ):
+        case(f"place: {text}", text, NO_DOCUMENT, at=[path, pointer])
 
 
 def primitive(attributes):
@@ -561,7 +627,10 @@ def invalid():
 
 
 def main():
-    for make in (numbers, names_twice, attributes, texts, nesting, ends, no_text, keeping, invalid):
+    for make in (
+        *(numbers, names_twice, lists, places, attributes, texts, nesting, ends, no_text, keeping),
+        invalid,
+    ):
         make()
     lines = [json.dumps(case_, separators=(",", ":")) for case_ in CASES]
     (CORPUS / "data" / "cases.jsonl").write_text("".join(line_ + "\n" for line_ in lines))

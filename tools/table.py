@@ -1,138 +1,100 @@
-"""The table of docs/SCHEMA.md, written down by hand: each object, its members, the mark and the
-kind of each; and `answer`, which says what the marks and kinds of SCHEMA.md mean for a value.
+"""The tables of docs/SCHEMA.md, read from that page: each object, its members, the mark and the kind
+of each, and the values of each choice; and `answer`, which says what the marks and kinds of
+SCHEMA.md mean for a value.
 
 Nothing here is taken from the program: the tests of gltf_corpus are worked out by it
 (gen_objects.py).
 """
 import json
 import re
+from itertools import takewhile
+from pathlib import Path
 
-CHOICES = {
-    "ComponentType": [5120, 5121, 5122, 5123, 5125, 5126],
-    "IndexType": [5121, 5123, 5125],
-    "AccessorType": ["SCALAR", "VEC2", "VEC3", "VEC4", "MAT2", "MAT3", "MAT4"],
-    "ViewTarget": [34962, 34963],
-    "AlphaMode": ["BLEND", "MASK", "OPAQUE"],
-    "Property": ["translation", "rotation", "scale", "weights"],
-    "Interpolation": ["STEP", "CUBICSPLINE", "LINEAR"],
-    "CameraType": ["perspective", "orthographic"],
-    "LightType": ["spot", "directional", "point"],
-    "Mode": [0, 1, 2, 3, 4, 5, 6],
-    "MagFilter": [9728, 9729],
-    "MinFilter": [9728, 9729, 9984, 9985, 9986, 9987],
-    "Wrapping": [33071, 33648, 10497],
-}
-
-# A line for each object: its name, whether it keeps members that it doesn't know, and its rows.
-# `ee` is its extension object and its extras. A row is the member, its mark (as in SCHEMA.md, and
-# `null` for `or_null`) and its kind. A kind in brackets is that of the items of a list. An
-# extension object that isn't listed has no rows, and keeps what it doesn't know.
-TABLE = """
-Root: accessors ~[] [Accessor]; animations ~[] [Animation]; asset ! Asset; buffers ~[] [Buffer];
-  bufferViews ~[] [View]; scene ? Index; ee; extensionsUsed ~[] [Text];
-  extensionsRequired ~[] [Text]; cameras ~[] [Camera]; images ~[] [Image]; materials ~[] [Material];
-  meshes ~[] [Mesh]; nodes ~[] [Node]; samplers ~[] [texture.Sampler]; scenes ~[] [Scene];
-  skins ~[] [Skin]; textures ~[] [Texture]
-Accessor: bufferView ? Index; byteOffset ? U64; count ! U64; componentType ! ComponentType;
-  type ! AccessorType; min ? Any; max ? Any; name ? Text; normalized ~false Truth;
-  sparse ? Sparse; ee
-Sparse: count ! U64; indices ! Indices; values ! Values; ee
-Indices: bufferView ! Index; byteOffset =0 U64; componentType ! IndexType; ee
-Values: bufferView ! Index; byteOffset =0 U64; ee
-Animation: samplers ~[] [animation.Sampler]; channels ~[] [Channel]; name ? Text; ee
-Channel: sampler ! Index; target ! Target; ee
-Target: node ! Index; path ! Property; ee
-animation.Sampler: input ! Index; interpolation ="LINEAR" Interpolation; output ! Index; ee
-Asset: copyright ? Text; generator ? Text; minVersion ? Text; version ! Text; ee
-Buffer: byteLength =0 U64; name ? Text; uri ? Text; ee
-View: buffer ! Index; byteLength ! U64; byteOffset ? U64; byteStride ? U64; name ? Text;
-  target ? ViewTarget; ee
-Camera: name ? Text; orthographic ? Orthographic; perspective ? Perspective; type ! CameraType; ee
-Orthographic: xmag ! Number; ymag ! Number; zfar ! Number; znear ! Number; ee
-Perspective: aspectRatio ? Number; yfov ! Number; zfar ? Number; znear ! Number; ee
-Image: bufferView ? Index; mimeType ? Text; name ? Text; uri ? Text; ee
-Material: alphaCutoff ? Number; alphaMode ="OPAQUE" AlphaMode; doubleSided =false Truth;
-  name ? Text; pbrMetallicRoughness ={} PbrMetallicRoughness; normalTexture ? NormalTexture;
-  occlusionTexture ? OcclusionTexture; emissiveTexture ? Info; emissiveFactor ~ Numbers3; ee
-NormalTexture: index ! Index; scale ~ Number; texCoord =0 U32; ee
-OcclusionTexture: index ! Index; strength ~ Number; texCoord =0 U32; ee
-PbrMetallicRoughness: baseColorFactor ~ Numbers4; baseColorTexture ? Info; metallicFactor ~ Number;
-  roughnessFactor ~ Number; metallicRoughnessTexture ? Info; ee
-Mesh: ee; name ? Text; primitives ! [Primitive]; weights ? [Number]
-Primitive: attributes ! Attributes; ee; indices ? Index; material ? Index; mode ~4 Mode;
-  targets ? [MorphTarget]
-MorphTarget: POSITION ? Index; NORMAL ? Index; TANGENT ? Index
-Node: camera ? Index; children ? [Index]; ee; matrix ? Numbers16; mesh ? Index; name ? Text;
-  rotation ? Numbers4; scale ? Numbers3; translation ? Numbers3; skin ? Index; weights ? [Number]
-texture.Sampler: magFilter ? MagFilter; minFilter ? MinFilter; name ? Text; wrapS =10497 Wrapping;
-  wrapT =10497 Wrapping; ee
-Scene: ee; name ? Text; nodes ~[] [Index]
-Skin: ee; inverseBindMatrices ? Index; joints ~[] [Index]; name ? Text; skeleton ? Index
-Texture: name ? Text; sampler ? Index; extensions ? Texture.extensions; source ~4294967295 Index;
-  extras ? Any
-Info: index ! Index; texCoord =0 U32; ee
-Sparse.extensions: none
-Indices.extensions: none
-Values.extensions: none
-Asset.extensions: none
-Channel.extensions: none
-Target.extensions: none
-animation.Sampler.extensions: none
-Info.extensions keeps: KHR_texture_transform ? TextureTransform
-Material.extensions keeps: KHR_materials_pbrSpecularGlossiness ? PbrSpecularGlossiness;
-  KHR_materials_unlit ? Unlit; KHR_materials_transmission ? Transmission;
-  KHR_materials_volume ? Volume; KHR_materials_specular ? Specular; KHR_materials_ior ? Ior;
-  KHR_materials_emissive_strength ? EmissiveStrength
-Primitive.extensions keeps: KHR_materials_variants ? VariantMappings
-Node.extensions keeps: KHR_lights_punctual ? LightOfNode
-Root.extensions keeps: KHR_lights_punctual ? Lights; KHR_materials_variants ? Variants
-TextureTransform: offset ~ Numbers2; rotation ~ Number; scale ~ Numbers2; texCoord null U32;
-  extras ? Any
-PbrSpecularGlossiness keeps: diffuseFactor ~ Numbers4; diffuseTexture ? Info;
-  specularFactor ~ Numbers3; glossinessFactor ~ Number; specularGlossinessTexture ? Info;
-  extras ? Any
-Unlit: none
-Transmission: transmissionFactor ~ Number; transmissionTexture ? Info; extras ? Any
-Volume: thicknessFactor ~ Number; thicknessTexture ? Info; attenuationDistance ~ Number;
-  attenuationColor ~ Numbers3; extras ? Any
-Specular: specularFactor ~ Number; specularTexture ? Info; specularColorFactor ~ Numbers3;
-  specularColorTexture ? Info; extras ? Any
-Ior: ior ~ Number; extras ? Any
-EmissiveStrength: emissiveStrength ~ Number
-Lights: lights ! [Light]
-Light: color ~ Numbers3; extensions ? Any; extras ? Any; intensity ~ Number; name ? Text;
-  range ? Number; spot ? Spot; type ! LightType
-Spot: innerConeAngle ~ Number; outerConeAngle ~ Number
-LightOfNode: light ! Index
-Variants: variants ! [Variant]
-Variant: name ! Text
-VariantMappings: mappings ! [Mapping]
-Mapping: material ! U32; variants ! [U32]
-"""
+SCHEMA = (Path(__file__).parent.parent / "docs" / "SCHEMA.md").read_text()
 
 
-def rows_of(name, text):
+def rows_below(head):
+    """The cells of each line of the table that begins with this line."""
+    lines = SCHEMA[SCHEMA.index(head) :].split("\n")[2:]
+    for line in takewhile(lambda line: line.startswith("|"), lines):
+        yield line.strip("| ").split(" | ")
+
+
+def name_of(label):
+    """The name of an object, without what stands behind it; of an extension object, its parent's."""
+    name = re.match(r"(of )?([\w:]+)", label)
+    return name[2].replace("::", ".") + (".extensions" if name[1] else "")
+
+
+# The values of the choice of each member, by the object's and the member's name, and what each value
+# is called.
+CHOICES, CALLED = {}, {}
+for _, members, spelled in rows_below("| Choice | Members | Spelled |"):
+    called = {}
+    for value in spelled.split(", "):
+        number, name = re.match(r"(\d*) ?`?(\w*)", value).groups()
+        called[name or number] = int(number) if number else name
+    of, label = members.split(" of ")
+    for member in of.split(", "):
+        CHOICES[f"{name_of(label)}.{member}"] = [*called.values()]
+        CALLED[f"{name_of(label)}.{member}"] = called
+
+KINDS = {"Stride": "U64", "SourceImage": "Index", "ChannelSampler": "Index"}
+
+
+def kind_of_row(name, member, text):
+    """The kind of a row. A kind in brackets is that of the items of a list."""
+    if text == "choice":
+        return f"{name}.{member}"
+    if text.startswith("list of "):
+        return f"[{kind_of_row(name, member, text.removeprefix('list of '))}]"
+    if text.startswith("index"):
+        return "Index"
+    if text.startswith("attributes"):
+        return "Attributes"
+    return KINDS.get(text, text.replace("Numbers ", "Numbers").replace("::", "."))
+
+
+def default_of(kind, text):
+    """The default that a mark has, as a text of JSON."""
+    return json.dumps(CALLED[kind][text]) if text and kind in CALLED else text
+
+
+def rows_of(name, text, has_ee):
     """The rows of an object: member, mark, default if the mark has one, kind."""
-    for row in text.split(";"):
-        if row.strip() == "ee":
+    rows = text.removesuffix(" (no ee)").split("; ")
+    if has_ee and not any(row == "ee" or row.startswith("extensions ") for row in rows):
+        rows += [] if text.endswith(" (no ee)") else ["ee"]
+    for row in rows:
+        if row == "ee":
             yield "extensions", "?", None, f"{name}.extensions"
             yield "extras", "?", None, "Any"
-        elif row.strip() != "none":
-            member, mark, kind = row.split()
-            yield member, mark[0], mark[1:], kind
+        elif row != "none":
+            member, mark, kind = re.match(r"(\w+) (\S+) ?(.*?)(?: \[.*\])?$", row).groups()
+            kind = kind_of_row(name, member, kind) or f"{name}.extensions"
+            yield member, mark[0], default_of(kind, mark[1:]), kind
 
 
+# The rows of each object, and the objects that keep members that they don't know. An extension
+# object that isn't listed has no rows. Those of the objects in DROPPERS drop what they don't know.
 OBJECTS, KEEPERS = {}, set()
-for line in TABLE.replace("\n  ", " ").strip().split("\n"):
-    head, rows = line.split(":", 1)
-    OBJECTS[head.split()[0]] = [*rows_of(head.split()[0], rows)]
-    if head.endswith(" keeps"):
-        KEEPERS.add(head.split()[0])
+for label, _, rows in rows_below("| Object | glTF 2.0 | Members |"):
+    OBJECTS[name_of(label)] = [*rows_of(name_of(label), rows, True)]
+for label, rows in rows_below("| Object | Members (no `extensions`"):
+    OBJECTS[name_of(label)] = [*rows_of(name_of(label), rows, False)]
+    if label.startswith("of ") or label.endswith("keeps unknown members"):
+        KEEPERS.add(name_of(label))
+DROPPERS = re.search(r"Those of (.*) drop them", SCHEMA)[1]
+DROPPERS = {name_of(label) for label in re.split(", | and ", DROPPERS)}
 for name in [*OBJECTS]:
-    for _, _, _, kind in OBJECTS[name]:
+    for _, _, default, kind in OBJECTS[name]:
+        # The default comes last: the first value is one that is always written.
+        if default and kind in CHOICES:
+            CHOICES[kind].sort(key=lambda value: value == json.loads(default))
         if kind.endswith(".extensions") and kind not in OBJECTS:
             OBJECTS[kind] = []
-            KEEPERS.add(kind)
+            if name not in DROPPERS:
+                KEEPERS.add(kind)
 
 
 REFUSED, INVALID, ABSENT = "refused", "invalid", object()

@@ -130,9 +130,22 @@ pub fn writing_difference(
     }
 }
 
+/// Whether there is a place that the table refuses exactly if the text is JSON and no document.
+fn is_place_found(alloc: Global, text: &[u8], read: &Result<Root, Error>) -> bool {
+    match (Root::refused_at(alloc, text), read) {
+        (Ok(None), Ok(_)) => true,
+        (Ok(Some(_)), Err(Error::Schema)) => true,
+        (Err(Error::Json), Err(Error::Json)) => true,
+        _ => false,
+    }
+}
+
 /// Names what differs between the two ways, from a text to a document and to a text again.
 pub fn difference(alloc: Global, text: &[u8]) -> Result<Option<&'static str>, AllocError> {
     let read = Root::from_slice(alloc, text);
+    if !is_place_found(alloc, text, &read) {
+        return Ok(Some("the place of a refusal differs"));
+    }
     let by_value = read_by_value(alloc, text);
     match (&read, &by_value) {
         (Ok(root), Ok(other)) => {

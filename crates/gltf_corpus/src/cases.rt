@@ -8,6 +8,7 @@ use crate::kept::keep_in_document;
 use crate::objects::{is_text, list_of, object_at, with_member};
 use anyhow::{Context, Result};
 use gltf_json::{Root, Value};
+use serde_json::json;
 use std::alloc::Global;
 use std::fs;
 
@@ -35,16 +36,30 @@ fn are_documents_alike(rt: &HostRuntime) -> Result<bool> {
     Ok(well)
 }
 
+/// Whether a text is a document, or is refused at a member of the object at a place, as a JSON
+/// pointer.
+fn is_refused_there(rt: &HostRuntime, text: &[u8], (place, name): (&str, &str)) -> Result<bool> {
+    match Root::refused_at(rt.alloc(), text)? {
+        Some(found) => {
+            let due = format!(in rt.alloc(); "{place}/{name}")?;
+            is_text(rt, ("places", name), due.as_str(), found.pointer.as_str())
+        }
+        None => Ok(true),
+    }
+}
+
 /// Whether both ways agree on a document with a value, or none, as a member of the object at a
 /// place.
 fn is_member_alike(
     rt: &HostRuntime,
     whole: &Value,
-    (place, name): (&str, &str),
+    title: (&str, &str),
     value: Option<&Value>,
 ) -> Result<bool> {
+    let (place, name) = title;
     let document = with_member(rt.alloc(), whole, place, name, value)?;
-    is_alike(rt, document.to_vec(rt.alloc())?.as_slice())
+    let text = document.to_vec(rt.alloc())?;
+    Ok(is_alike(rt, text.as_slice())? && is_refused_there(rt, text.as_slice(), title)?)
 }
 
 /// Whether both ways agree on each document of `data/objects.json`, whole, without each member of
@@ -112,17 +127,27 @@ fn outcome(alloc: Global, case: &Value) -> Result<String> {
     }
 }
 
-/// Whether a case becomes what it says.
+/// The place at which a case is refused, as a path and as a JSON pointer.
+fn place_of(alloc: Global, case: &Value) -> Result<Value> {
+    let bytes = bytes_of(alloc, case)?;
+    let place = Root::refused_at(alloc, bytes.as_slice())?.context("it is not refused")?;
+    Ok(json!(in alloc; [place.path.as_str(), place.pointer.as_str()])?)
+}
+
+/// Whether a case becomes what it says, and is refused at the place that it says.
 fn is_case_expected(rt: &HostRuntime, case: &Value) -> Result<bool> {
     let title = case.get("title").and_then(Value::as_str);
+    let title = title.context("no title")?;
     let due = case.get("becomes").and_then(Value::as_str);
+    let due = due.context("no expected outcome")?;
     let found = outcome(rt.alloc(), case)?;
-    is_text(
-        rt,
-        ("cases", title.context("no title")?),
-        due.context("no expected outcome")?,
-        found.as_str(),
-    )
+    let mut well = is_text(rt, ("cases", title), due, found.as_str())?;
+    if let Some(due) = case.get("at") {
+        let due = due.to_string(rt.alloc())?;
+        let found = place_of(rt.alloc(), case)?.to_string(rt.alloc())?;
+        well = is_text(rt, ("places", title), due.as_str(), found.as_str())? && well;
+    }
+    Ok(well)
 }
 
 /// How many cases `data/cases.jsonl` has, and whether each becomes what it says.

@@ -149,7 +149,7 @@ fn lines_of_view(alloc: Global, root: &Root) -> Result<String, Error> {
     }
 }
 
-/// Whether a view of no buffer is told of in a new document, and by itself at its place.
+/// Whether a view of no buffer is reported in a new document, and by itself at its place.
 fn is_view_told(alloc: Global) -> Result<bool, Fail> {
     let root = new_with::<View>(alloc, VIEW)?;
     let lines = lines_of_view(alloc, &root)?;

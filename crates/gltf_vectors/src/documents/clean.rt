@@ -159,7 +159,7 @@ fn nodes_name_no_later_ones(rt: HostRuntime) -> Result<(), Fail> {
     Ok(())
 }
 
-/// Whether what is told of a camera of no known type and no projection is what is wrong first.
+/// Whether the first report of a camera of no known type and no projection is returned.
 fn is_camera_invalid(alloc: Global) -> Result<bool, Fail> {
     let mut clean = new_by(alloc, Rules::new())?;
     match fault_of::<Camera>(alloc, &mut clean, r#"{"type":"other"}"#)? {

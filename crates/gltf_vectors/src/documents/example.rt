@@ -48,21 +48,21 @@ fn example(rt: HostRuntime, bytes: &[u8]) -> Result<Answer, gltf_json::Error> {
     Ok((clean, view.map(|view| view.byte_length.0), text))
 }
 
-/// Whether a clean document is answered by its view and by itself.
-fn is_clean_answered(rt: HostRuntime, document: &str) -> Result<bool, gltf_json::Error> {
+/// Whether a clean document gives its view and its own text.
+fn gives_view_and_text(rt: HostRuntime, document: &str) -> Result<bool, gltf_json::Error> {
     let (clean, view, text) = example(rt, document.as_bytes())?;
     Ok(clean && view == Some(4) && text.as_str() == document)
 }
 
-/// Whether a document with an accessor without a view is told from it.
-fn is_fault_answered(rt: HostRuntime, document: &str) -> Result<bool, gltf_json::Error> {
+/// Whether a document with an accessor without a view isn't clean.
+fn is_not_clean(rt: HostRuntime, document: &str) -> Result<bool, gltf_json::Error> {
     let (clean, view, _) = example(rt, document.as_bytes())?;
     Ok(!clean && view.is_none())
 }
 
 #[test]
 fn example_of_the_front_page(rt: HostRuntime) -> Result<(), Fail> {
-    assert!(rt; is_clean_answered(rt, CLEAN)?);
-    assert!(rt; is_fault_answered(rt, FAULTY)?);
+    assert!(rt; gives_view_and_text(rt, CLEAN)?);
+    assert!(rt; is_not_clean(rt, FAULTY)?);
     Ok(())
 }

@@ -64,7 +64,7 @@ fn new_documents_are_empty(rt: HostRuntime) -> Result<(), Fail> {
     Ok(())
 }
 
-/// Whether a root without reports is held, and what is told of one with a report.
+/// Whether a root without reports is held, and the first report of one that has a report.
 fn are_roots_reported(alloc: Global) -> Result<bool, Fail> {
     let held = Clean::of_or_report(Rules::new(), Root::from_str(alloc, FULL)?)?;
     match Clean::of_or_report(Rules::new(), Root::from_str(alloc, FAULTY)?) {

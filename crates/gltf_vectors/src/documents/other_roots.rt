@@ -11,8 +11,8 @@ use std::test::Fail;
 const VIEW_OF_ITS_BUFFER: &str =
     r#"{"asset":{"version":"2.0"},"buffers":[{"byteLength":4}],"bufferViews":[{"buffer":0,"byteLength":4}]}"#;
 
-/// What is told of the document of six reports where no accessor is found: nothing of the bounds of
-/// its positions, since their accessor isn't there.
+/// The reports of the document of six reports against a root without accessors: none of the bounds
+/// of its positions, since their accessor isn't there.
 const SIX_AGAINST_NEW: &str =
     "accessors[0].bufferView: Missing data\nmeshes[0].primitives[0].attributes[\"_x\"]: Index out of bounds\nmeshes[0].primitives[0].attributes[\"POSITION\"]: Index out of bounds\nmeshes[0].primitives[0].attributes[\"<invalid semantic name>\"]: Invalid value\nmeshes[0].primitives[0].attributes[\"<invalid semantic name>\"]: Index out of bounds\n";
 

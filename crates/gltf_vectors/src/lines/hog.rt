@@ -49,7 +49,7 @@ impl Hog {
 pub(crate) enum End {
     /// As it does where there is memory.
     Whole,
-    /// For want of memory, and as it should then.
+    /// A growth was refused, and it ends as it should then.
     Refused,
     /// As it never should.
     Wrong,

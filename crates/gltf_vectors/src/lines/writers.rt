@@ -121,7 +121,7 @@ fn documents_are_appended(rt: HostRuntime) -> Result<(), Fail> {
     Ok(())
 }
 
-/// How often a writer is called for a document, and whether an invalid item is told of.
+/// How often a writer is called for a document, and whether it fails with an invalid item.
 fn calls_for(alloc: Global, document: &str, layout: Layout) -> Result<(u32, bool), Error> {
     let root = Root::from_str(alloc, document)?;
     let mut writer = Watched::new(Counter { calls: 0 });

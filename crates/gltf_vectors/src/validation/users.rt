@@ -22,7 +22,7 @@ use std::alloc::Global;
 use std::collections::BTreeMap;
 use std::test::Fail;
 
-/// A key of a user's map.
+/// A key of a map outside the library.
 #[derive(Debug, Drop, PartialEq, Eq, PartialOrd, Ord)]
 struct Tag(String);
 

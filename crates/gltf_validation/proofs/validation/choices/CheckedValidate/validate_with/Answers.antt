@@ -1,4 +1,4 @@
--- The fault of the choice is told.
+-- The fault of the choice is reported.
 use Rattle.std.proofs.Common.{sym, ◌∙◌}
 use Rattle.gltf_checked.specs.Spelling.{by_number}
 use Rattle.gltf_root.specs.Root.{root_tree}

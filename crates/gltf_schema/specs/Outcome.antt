@@ -1,5 +1,5 @@
 -- The results of calls that read or write; each may also fail with `Memory`.
-use Rattle.std.specs.Prelude.{◌≡◌, Bool, true, Option, Some, None, Result, Ok, Err, ⊤}
+use Rattle.std.specs.Prelude.{◌≡◌, Bool, true, Option, Some, None, Result, Ok, Err, List, [], ◌∷◌, ◌++◌, ⊤}
 use Rattle.gltf_paths.specs.declared.error.Error.{Error}
 use Rattle.gltf_paths.specs.declared.error.Error.TheVariants as errors
 
@@ -13,6 +13,11 @@ Refuses _ read = ⊥
 abbrev pub Reads : {X Y : Type 0} → (X → Y) → Result X Error → Option Y → Type 0
 Reads view (Ok x) read = read ≡ Some (view x)
 Reads view (Err e) read = Refuses e read
+
+-- what reading gives, seen by view, is pushed onto the items; an error leaves them as they were
+abbrev pub ReadsOnto : {X Y U : Type 0} → (X → Y) → List X → Result U Error → List X → Option Y → Type 0
+ReadsOnto {X} view before (Ok u) after read = (x : X) × (after ≡ before ++ x ∷ []) × (read ≡ Some (view x))
+ReadsOnto view before (Err e) after read = (after ≡ before) × Refuses e read
 
 -- only what is not written since something in it is invalid is refused, and as an invalid item
 abbrev pub Withholds : {Y : Type 0} → Error → Option Y → Bool → Type 0

@@ -103,7 +103,10 @@ impl Schema for Real {
     ghost present = { λ _. refl };
 
     fn decode_from<S: Source>(alloc: Global, source: S) -> Result<Real, Error> {
-        Real::from_value(source.into_value(alloc)?).map_err(|_| Error::Schema)
+        match Real::from_value(source.into_value(alloc)?) {
+            Ok(x) => Ok(x),
+            Err(_) => Err(Error::Schema),
+        }
     }
 
     fn encode(&self, _alloc: Global) -> Result<Value, Error> {
@@ -235,6 +238,15 @@ impl<T: Choice> Schema for Checked<T> {
         Self::decode_from(alloc, value)
     }
 
+    fn decode_onto<S: Source>(
+        alloc: Global,
+        source: S,
+        list: &mut Vec<Checked<T>>,
+    ) -> Result<(), Error> {
+        list.push(Self::decode_from(alloc, source)?)?;
+        Ok(())
+    }
+
     fn decode_or_place<S: Source>(alloc: Global, source: S) -> Result<Checked<T>, Refusal> {
         match Self::decode_from(alloc, source) {
             Ok(value) => Ok(value),
@@ -311,7 +323,7 @@ fn decode_items<S: Source, T: Schema>(alloc: Global, items: S::Items) -> Result<
     let mut found = Vec::with_capacity(alloc, S::room(&items))?;
     let mut rest = items;
     'items: while let Some(item) = S::next(&mut rest) {
-        found.push(T::decode_from(alloc, item)?)?;
+        T::decode_onto(alloc, item, &mut found)?;
     }
     Ok(found)
 }

@@ -18,7 +18,7 @@ ghost use Rattle.gltf_schema.specs.Sound.{is_sound};
 ghost use Rattle.gltf_schema.specs.Height.{kind_height};
 ghost use Rattle.gltf_schema.specs.Taken.{take_all};
 ghost use Rattle.gltf_schema.specs.Leaves.{wants_object};
-ghost use Rattle.gltf_schema.specs.Outcome.{Reads, Writes};
+ghost use Rattle.gltf_schema.specs.Outcome.{Reads, ReadsOnto, Writes};
 ghost use Rattle.gltf_schema.specs.Readings.{ReadsMembers};
 ghost use Rattle.gltf_schema.specs.Placings.{place_of, IsInside, ReadsOrPlaces};
 
@@ -31,7 +31,7 @@ use crate::tokens::Tokens;
 use crate::writing::{WriteRows, Writing};
 use gltf_base::Error;
 use serde_json::{Map, Value};
-use std::alloc::Global;
+use std::alloc::{AllocError, Global};
 
 /// A type whose values are read and written as those of a kind of the table.
 pub trait Schema: Tabled + Drop {
@@ -54,6 +54,20 @@ pub trait Schema: Tabled + Drop {
             → result ≡ Err Error.Schema }
     {
         Self::decode_from(alloc, value)
+    }
+
+    /// Reads a value as [`Schema::decode_from`] does, and pushes it onto a list, which saves moving
+    /// it. Fails with `Schema` if and only if the table does not read it; `Memory` may come in place
+    /// of either result if a growth was refused. After an error the items are as they were.
+    fn decode_onto<S: Source>(alloc: Global, source: S, list: &mut Vec<Self>) -> Result<(), Error>
+        ensures { ReadsOnto Self.tree list.old.items result list.new.items
+            (read Self.kind (S.given source)) }
+    {
+        let item = Self::decode_from(alloc, source)?;
+        let Ok(()) = list.push(item) else {
+            return Err(Error::Memory(AllocError));
+        };
+        Ok(())
     }
 
     /// Returns the value that a JSON value is, as the table reads it. Fails with the place of what
@@ -109,14 +123,18 @@ pub trait Object: Drop {
 
     /// Returns the object of these members. Fails with `Schema` if a row refuses its member or
     /// lacks it, and with `Memory` if a growth was refused.
+    #[inline(always)]
     fn decode_members<S: Source>(alloc: Global, found: S::Fields) -> Result<Self, Error>
         ensures { Reads (λ x. (members x, unknown x)) result
             (take_all rows keeps (S.members found)) }
     {
         let mut reading = Reading::<S>::from_members(alloc, found);
         let object = Self::read_members(&mut reading);
-        reading.end()?;
-        Ok(object)
+        // With `?` the object would be moved once more.
+        match reading.end() {
+            Ok(()) => Ok(object),
+            Err(e) => Err(e),
+        }
     }
 
     /// Reads each row in the table's order, and then the members that no row took, if the object
@@ -168,6 +186,21 @@ impl<T: Object> Schema for T {
             Some(found) => T::decode_members::<S>(alloc, found),
             None => Err(Error::Schema),
         }
+    }
+
+    fn decode_onto<S: Source>(alloc: Global, source: S, list: &mut Vec<T>) -> Result<(), Error> {
+        let Some(found) = source.into_fields() else {
+            return Err(Error::Schema);
+        };
+        let mut reading = Reading::<S>::from_members(alloc, found);
+        let Ok(()) = list.push(T::read_members(&mut reading)) else {
+            return Err(Error::Memory(AllocError));
+        };
+        if let Err(e) = reading.end() {
+            drop(list.pop());
+            return Err(e);
+        }
+        Ok(())
     }
 
     fn decode(alloc: Global, value: Value) -> Result<T, Error>

@@ -8,23 +8,24 @@ use Rattle.gltf_schema.specs.Outcome.{Refuses}
 use Rattle.gltf_schema.proofs.Items.{onto, read_next, read_stops, onto_end}
 use Rattle.gltf_schema.proofs.leaf.decode_items.Goals as goal
 
-pub returns-in_err-decode_from : goal.returns-in_err-decode_from
-returns-in_err-decode_from g c =
+pub returns-in_err-decode_onto : goal.returns-in_err-decode_onto
+returns-in_err-decode_onto g c =
     let s = g.T.Tabled in
     let f = read s.kind in
     let before = map s.tree c.items.found.items in
-    let p = err_from_is_err_and c.from_residual-in_err-decode_from.result c.from_residual-in_err-decode_from.ensures.1 in
+    let p = err_from_is_err_and c.from_residual-in_err-decode_onto.result c.from_residual-in_err-decode_onto.ensures.1 in
     let left = ap (λ ds. onto with_tree before (read_items f ds)) (sym c.in-Some.ensures) ∙ c.items.invariant in
-    rw (p.1, p.2) (subst (Refuses c.in_err-decode_from.field-0.0) left (read_stops c.in_err-decode_from.field-0.0 f before _ _ c.in_err-decode_from.ensures.by_table))
+    rw (p.1, p.2) (subst (Refuses c.in_err-decode_onto.field-0.0) left (read_stops c.in_err-decode_onto.field-0.0 f before _ _ c.in_err-decode_onto.ensures.1))
 
 pub items-preserved : goal.items-preserved
 items-preserved g c =
     let s = g.T.Tabled in
     let f = read s.kind in
     let before = map s.tree c.items.found.items in
-    let after : map s.tree c.push.new.self.items ≡ before ++ s.tree c.in_ok-decode_from.field-0 ∷ [] = rw c.in_ok-push.ensures.items (map_push s.tree c.items.found.items c.in_ok-decode_from.field-0) in
+    let x = c.in_ok-decode_onto.ensures.0 in
+    let after : map s.tree c.decode_onto.new.list.items ≡ before ++ s.tree x ∷ [] = rw c.in_ok-decode_onto.ensures.1 (map_push s.tree c.items.found.items x) in
     rw after (
-    read_next f before _ _ (g.S.Source.items c.next.new.rest) c.in_ok-decode_from.ensures.by_table ∙ ap (λ ds. onto with_tree before (read_items f ds)) (sym c.in-Some.ensures) ∙ c.items.invariant)
+    read_next f before _ _ (g.S.Source.items c.next.new.rest) c.in_ok-decode_onto.ensures.2 ∙ ap (λ ds. onto with_tree before (read_items f ds)) (sym c.in-Some.ensures) ∙ c.items.invariant)
 
 pub returns : goal.returns
 returns g c =

@@ -1,11 +1,13 @@
 -- A list of entries, and the members that it makes: what is found under a name, and what is left without it.
-use Rattle.std.proofs.Common.{◌≡◌, ℕ, List, [], ◌∷◌, ◌++◌, Bool, true, false, ◌||◌, cond, Option, Some, None, bytes_eq, refl, sym, ap, ◌∙◌, subst}
+use Rattle.std.proofs.Common.{◌≡◌, ◌<◌, ◌+◌, ℕ, length, take, drop, get_or, List, [], ◌∷◌, ◌++◌, Bool, true, false, cond, Option, Some, None, bytes_eq, refl, sym, ap, ◌∙◌, subst}
 use Rattle.std.proofs.lemmas.Bool.{or_parts}
+use Rattle.std.proofs.lemmas.List.{take-append-drop, drop_more}
 use Rattle.serde_json.specs.Data.{Data, Members, put}
 use Rattle.serde_json.specs.Find.{get_member}
 use Rattle.serde_json.proofs.Views.{get_member-put, get_member-put_other}
 use Rattle.gltf_schema.specs.Taken.{without}
 use Rattle.gltf_borrowed.specs.Borrowed.{Entry, data_of, put_entries}
+use Rattle.gltf_borrowed.specs.Untaken.{has_named}
 use Rattle.gltf_borrowed.proofs.Ordered.{same, other, flipped, InOrder, InOrder-put, without_put_same, without_put_other}
 
 -- the first value that is there
@@ -22,11 +24,6 @@ last_named n (e ∷ es) = or_else (last_named n es) (cond (bytes_eq e.0.now n) (
 abbrev pub without_named : List ℕ → List Entry → List Entry
 without_named n [] = []
 without_named n (e ∷ es) = cond (bytes_eq e.0.now n) (without_named n es) (e ∷ without_named n es)
-
--- an entry has the name
-abbrev pub has_named : List ℕ → List Entry → Bool
-has_named n [] = false
-has_named n (e ∷ es) = bytes_eq e.0.now n || has_named n es
 
 -- ---- what is found
 
@@ -76,6 +73,10 @@ has_named-push n (x ∷ es) e h k =
     let two = or_parts (bytes_eq x.0.now n) (has_named n es) h in rw two.0 (has_named-push n es e two.1 k)
 
 -- ---- an entry of the name is taken out
+
+-- the list in three
+pub parts : (es : List Entry) (i : ℕ) (e : Entry) → i < length es → get_or es i e ≡ e → es ≡ take i es ++ e ∷ drop (i + 1) es
+parts es i e lt is = sym (take-append-drop i es) ∙ ap (λ l. take i es ++ l) (drop_more es i e lt ∙ ap (λ x. x ∷ drop (i + 1) es) is)
 
 pub without_taken : (n : List ℕ) (es : List Entry) (e : Entry) (more : List Entry) → bytes_eq e.0.now n ≡ true → without_named n (es ++ e ∷ more) ≡ without_named n (es ++ more)
 without_taken n [] e more is = rw is refl

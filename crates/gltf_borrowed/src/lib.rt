@@ -8,6 +8,7 @@ mod owned;
 mod place;
 mod reading;
 mod source;
+mod untaken;
 mod value;
 mod whole;
 

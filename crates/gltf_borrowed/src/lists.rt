@@ -178,12 +178,8 @@ fn read_list<T: Schema>(
         let Some(list) = &mut items else {
             continue;
         };
-        match T::decode_from(alloc, value) {
-            Ok(item) => {
-                let Ok(()) = list.push(item) else {
-                    return Err(NoValue::Memory);
-                };
-            }
+        match T::decode_onto(alloc, value, list) {
+            Ok(()) => {}
             Err(Error::Memory(_)) => return Err(NoValue::Memory),
             Err(_) => items = None,
         }

@@ -38,9 +38,9 @@ fn owned_items(alloc: Global, items: &Vec<Borrowed<'_>>) -> Result<Vec<Value>, A
 #[cycle(owned)]
 pub(crate) fn owned_members(
     alloc: Global,
-    members: &Vec<(&str, Borrowed<'_>)>,
+    members: &[(&str, Borrowed<'_>)],
 ) -> Result<Map<String, Value>, AllocError>
-    ensures { IfOk result (λ m. members_view m.entries ≡ members_data members.now.items) }
+    ensures { IfOk result (λ m. members_view m.entries ≡ members_data members.now) }
 {
     let mut copies = Map::new(alloc);
     for member in members {

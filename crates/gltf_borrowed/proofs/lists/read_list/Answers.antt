@@ -45,8 +45,8 @@ items-preserved-in_default-items g c =
       λ ds. l.invariant.3 (item d ds) ∙ all_trees-none g.T.Tabled.tree l.items (next (item d ds)) (next ds) c.in_default-items.is,
     )
 
-pub items-preserved-in-Ok-push : goal.items-preserved-in-Ok-push
-items-preserved-in-Ok-push g c =
+pub items-preserved-in-Ok : goal.items-preserved-in-Ok
+items-preserved-in-Ok g c =
     let l = c.items in
     let tree = g.T.Tabled.tree in
     let next = read_items (read g.T.Tabled.kind) in
@@ -54,11 +54,11 @@ items-preserved-in-Ok-push g c =
     let list = c.in-Some.list in (
       l.invariant.0 - 1,
       λ ds. l.invariant.1 (item d ds),
-      further g (goal.at.items-preserved-in-Ok-push g c).In_ok-value-2,
+      further g (goal.at.items-preserved-in-Ok g c).In_ok-value-2,
       λ ds. l.invariant.3 (item d ds)
           ∙ ap (λ o. all_trees tree o (next (item d ds))) c.in-Some.is
-          ∙ ap (λ o. all_trees tree (Some list) (o >>= λ t. option_map (with_tree t) (next ds))) c.in-Ok.ensures.by_table
-          ∙ all_trees-push tree list c.push.new.self c.in-Ok.item (next ds) c.in-Ok-push.ensures.items,
+          ∙ ap (λ o. all_trees tree (Some list) (o >>= λ t. option_map (with_tree t) (next ds))) c.in-Ok.ensures.2
+          ∙ all_trees-push tree list c.decode_onto.new.list c.in-Ok.ensures.0 (next ds) c.in-Ok.ensures.1,
     )
 
 pub items-preserved : goal.items-preserved

@@ -7,4 +7,4 @@ abbrev pub invariant-owned_items-loop-item : goal.invariant-owned_items-loop-ite
 invariant-owned_items-loop-item l = map view l.copies.items ≡ map data_of (take l.item-index l.item-items)
 
 abbrev pub invariant-owned_members-loop-member : goal.invariant-owned_members-loop-member
-invariant-owned_members-loop-member l = members_view l.copies.entries ≡ members_data (take l.member-index l.member-items)
+invariant-owned_members-loop-member l = members_view l.copies.entries ≡ members_data (take l.member-index l.members)

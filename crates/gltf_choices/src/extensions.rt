@@ -6,9 +6,8 @@ ghost use Rattle.gltf_choices.specs.ExtensionNames.{enabled_extensions};
 pub mod scene;
 
 /// The names of the extensions that a document may require without a report, where a caller gives
-/// validation no rules. Reading doesn't go by it: each of these is read, and so are
-/// `KHR_materials_volume`, `KHR_materials_specular` and `KHR_materials_variants`, which are not
-/// enabled, as in the ported crate.
+/// validation no rules. Reading doesn't go by it: an object of an extension that is not listed,
+/// such as `KHR_materials_volume`, is read as well. The list is the ported crate's.
 pub const ENABLED_EXTENSIONS: &[&str] = &[
     "KHR_lights_punctual",
     "KHR_materials_pbrSpecularGlossiness",

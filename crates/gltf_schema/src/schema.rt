@@ -57,8 +57,8 @@ pub trait Schema: Tabled + Drop {
     }
 
     /// Reads a value as [`Schema::decode_from`] does, and pushes it onto a list, which saves moving
-    /// it. Fails with `Schema` if and only if the table does not read it; `Memory` may come in place
-    /// of either result if a growth was refused. After an error the items are as they were.
+    /// it. Fails with `Schema` if and only if the table does not read it; `Memory` may come in
+    /// place of either result if a growth was refused. After an error the items are as they were.
     fn decode_onto<S: Source>(alloc: Global, source: S, list: &mut Vec<Self>) -> Result<(), Error>
         ensures { ReadsOnto Self.tree list.old.items result list.new.items
             (read Self.kind (S.given source)) }

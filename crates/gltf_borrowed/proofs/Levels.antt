@@ -3,9 +3,9 @@ use Rattle.std.proofs.Common.{◌≡◌, List, [], ◌∷◌, ◌++◌, Option, 
 use Rattle.json.specs.Token.{Token}
 use Rattle.json.specs.Json.{parse_map}
 use Rattle.serde_json.specs.Data.{array, object, Items, no_items, item, Members, put}
-use Rattle.gltf_schema.specs.Fields.{list_tree}
 use Rattle.gltf_schema.specs.Tree.{Tree, Trees, end, with_tree, trees, list}
 use Rattle.gltf_borrowed.specs.Borrowed.{Entry, data_of, items_data, put_entries, members_data}
+use Rattle.gltf_borrowed.specs.Slots.{items_tree}
 use Rattle.gltf_borrowed.specs.declared.value.Borrowed.{Borrowed, Array, Object, the_lemmas}
 
 pub data-Array : (v : Vec Borrowed Global) → data_of (Array v) ≡ array (items_data v.items)
@@ -58,7 +58,7 @@ module _ {X : Type 0} (tree : X → Tree) where
   all_trees-none None a b e = refl
   all_trees-none (Some v) a b e = absurd (cc)
 
-  pub all_trees-end : (o : Option (Vec X Global)) → option_map list (all_trees tree o (Some end)) ≡ option_map (λ v. list_tree tree v.items) o
+  pub all_trees-end : (o : Option (Vec X Global)) → option_map list (all_trees tree o (Some end)) ≡ items_tree tree o
   all_trees-end None = refl
   all_trees-end (Some v) = ap (λ ts. Some (list ts)) (trees_before-end (map tree v.items))
 

@@ -2,10 +2,11 @@
 use Rattle.std.proofs.Common.{◌≡◌, ℕ, zero, suc, ◌-◌, ◌<◌, ◌≤◌, List, [], ◌∷◌, length, Option, Some, None, option_map, option_and_then, refl, ap, ◌∙◌, arith}
 use Rattle.json.specs.Token.{Token}
 use Rattle.json.specs.Json as json
-use Rattle.json.specs.Json.{Parse, parse_map, after_end_array, read_key, items_step, items, members, if_last}
-use Rattle.json.proofs.Grammar.{items_end, items_more, members_end, members_no_key, members_more}
-use Rattle.serde_json.specs.Data.{Data, array, object, Items, no_items, item, Members, no_members, put}
-use Rattle.serde_json.specs.Read.{of_json, of_items, of_members, converted}
+use Rattle.json.specs.Json.{Parse, parse_map, after_end_array, read_key, items_step, items, members, value, if_last}
+use Rattle.json.proofs.Grammar.{value_is, value-begin_array, items_end, items_more, members_end, members_no_key, members_more}
+use Rattle.serde_json.specs.Data.{Data, Num, number, array, object, Items, no_items, item, Members, no_members, put}
+use Rattle.serde_json.specs.Find.{as_object}
+use Rattle.serde_json.specs.Read.{of_json, of_items, of_members, number_of, converted}
 
 abbrev pick : {A : Type 0} → A → Option A → A
 pick d None = d
@@ -134,7 +135,50 @@ whole_read o d e = let j = converted_some of_json o d [] e in ap whole j.1 ∙ j
 pub whole_and_more : (o : Option (json.Json × List Token)) (d : Data) (t : Token) (r : List Token) → converted of_json o ≡ Some (d, t ∷ r) → whole o ≡ None
 whole_and_more o d t r e = ap whole (converted_some of_json o d (t ∷ r) e).1
 
+pub whole_longer : (o : Option (json.Json × List Token)) (d : Data) (r : List Token) → (r ≡ [] → ⊥) → converted of_json o ≡ Some (d, r) → whole o ≡ None
+whole_longer o d [] h e = absurd (h refl)
+whole_longer o d (t ∷ r) h e = whole_and_more o d t r e
+
 pub whole_refused : (o : Option (json.Json × List Token)) → converted of_json o ≡ None → whole o ≡ None
 whole_refused None e = refl
 whole_refused (Some (j, [])) e = refused [] (of_json j) e
 whole_refused (Some (j, t ∷ r)) e = refl
+
+-- ---- texts that are no object
+
+abbrev pub object_in : Option (json.Json × List Token) → Option Members
+object_in o = option_and_then as_object (whole o)
+
+pub not_whole : (o : Option (json.Json × List Token)) → whole o ≡ None → object_in o ≡ None
+not_whole o e = ap (option_and_then as_object) e
+
+no_number : (x : Option Num) → option_and_then as_object (option_map number x) ≡ None
+no_number None = refl
+no_number (Some n) = refl
+
+no_array : (x : Option Items) → option_and_then as_object (option_map array x) ≡ None
+no_array None = refl
+no_array (Some ds) = refl
+
+arrays : (o : Option (json.Items × List Token)) → object_in (parse_map json.array o) ≡ None
+arrays None = refl
+arrays (Some (js, [])) = no_array (of_items js)
+arrays (Some (js, t ∷ r)) = refl
+
+pub leaves : (j : json.Json) (r : List Token) → option_and_then as_object (of_json j) ≡ None → object_in (Some (j, r)) ≡ None
+leaves j [] e = e
+leaves j (t ∷ r) e = refl
+
+pub no_object : (depth : ℕ) (ts : List Token) → ((s : List Token) → ts ≡ Token.begin_object ∷ s → ⊥) → object_in (value depth ts) ≡ None
+no_object depth [] h = ap object_in (value_is depth [])
+no_object depth (Token.begin_object ∷ s) h = absurd (h s refl)
+no_object depth (Token.end_object ∷ s) h = ap object_in (value_is depth (Token.end_object ∷ s))
+no_object zero (Token.begin_array ∷ s) h = ap object_in (value_is zero (Token.begin_array ∷ s))
+no_object (suc d) (Token.begin_array ∷ s) h = ap object_in (value-begin_array (suc d) s (omega arith)) ∙ arrays (items (value (suc d - 1)) (length s) s)
+no_object depth (Token.end_array ∷ s) h = ap object_in (value_is depth (Token.end_array ∷ s))
+no_object depth (Token.key k ∷ s) h = ap object_in (value_is depth (Token.key k ∷ s))
+no_object depth (Token.string x ∷ s) h = ap object_in (value_is depth (Token.string x ∷ s)) ∙ leaves (json.string x) s refl
+no_object depth (Token.number x ∷ s) h = ap object_in (value_is depth (Token.number x ∷ s)) ∙ leaves (json.number x) s (no_number (number_of x))
+no_object depth (Token.boolean b ∷ s) h = ap object_in (value_is depth (Token.boolean b ∷ s)) ∙ leaves (json.boolean b) s refl
+no_object depth (Token.null ∷ s) h = ap object_in (value_is depth (Token.null ∷ s)) ∙ leaves json.null s refl
+no_object depth (Token.bad ∷ s) h = ap object_in (value_is depth (Token.bad ∷ s))

@@ -1,17 +1,17 @@
 //! Lists in an object, read an item at a time.
 
 ghost use Rattle.std.specs.Prelude.{◌≡◌, ◌<◌, ◌≤◌, ◌∷◌, ◌++◌, ℕ, List, [], true, false, length};
-ghost use Rattle.std.specs.Prelude.{Some, Ok, IfOk, OnOk, option_map};
+ghost use Rattle.std.specs.Prelude.{Some, None, Ok, Err, IfOk, IfErr, OnOk, option_map, option_and_then};
 ghost use Rattle.json.specs.Json.{value, members};
 ghost use Rattle.serde_json.specs.Data.{Data, Members, no_members, object, put};
+ghost use Rattle.serde_json.specs.Find.{as_object};
 ghost use Rattle.serde_json.specs.Read.{of_json, of_members, converted, read as read_json};
-ghost use Rattle.gltf_schema.specs.Fields.{list_tree};
 ghost use Rattle.gltf_schema.specs.Kind.{ListOf};
 ghost use Rattle.gltf_schema.specs.Read.{read};
 ghost use Rattle.gltf_schema.specs.Tree.{list, end};
 ghost use Rattle.gltf_borrowed.specs.Borrowed.{data_of, members_data};
 ghost use Rattle.gltf_borrowed.specs.Apart.{Listed};
-ghost use Rattle.gltf_borrowed.specs.Slots.{is_among, HoldsMember, IsRest};
+ghost use Rattle.gltf_borrowed.specs.Slots.{items_tree, is_among, HoldsMember, IsRest};
 
 use crate::reading::{NoValue, read_after, read_value};
 use crate::value::Borrowed;
@@ -34,7 +34,9 @@ pub trait Slots: Drop {
     ghost hold: { Self → List (List ℕ) → Members → Type 0 };
 
     /// Reads the next value of the text into the list of that name, with arrays and objects nested
-    /// no deeper than `depth`. Returns `false`, and reads nothing, if no list has the name.
+    /// no deeper than `depth`. Returns `false`, and reads nothing, if no list has the name. Fails
+    /// with `Refused` only if a list has the name and the text has no value there, and with
+    /// `Memory` only if a growth was refused.
     fn read(
         &mut self,
         alloc: Global,
@@ -49,7 +51,9 @@ pub trait Slots: Drop {
             → hold self.new before (put name.now d ms))) }
         ensures other { result ≡ Ok false → (is_among name.now (names self.old) ≡ false)
             × (self.new ≡ self.old) × (reader.new ≡ reader.old) }
-        ensures shorter { OnOk result (length reader.new ≤ length reader.old) };
+        ensures shorter { OnOk result (length reader.new ≤ length reader.old) }
+        ensures refused { result ≡ Err NoValue.Refused → (is_among name.now (names self.old) ≡ true)
+            × (converted of_json (value depth reader.old) ≡ None) };
 
     // A member of another name changes nothing.
     ghost apart: { (s : Self) (before : List (List ℕ)) (n : List ℕ) (d : Data) (ms : Members)
@@ -72,7 +76,7 @@ impl<T: Schema> Slot<T> {
     /// An empty list, to be read from the member of a name.
     pub fn new(alloc: Global, name: &'static str) -> Slot<T>
         ensures named { result.name.now ≡ name.now }
-        ensures empty { option_map (λ v. list_tree T.tree v.items) result.items ≡ Some (list end) }
+        ensures empty { items_tree T.tree result.items ≡ Some (list end) }
     {
         Slot {
             name,
@@ -94,13 +98,13 @@ impl<T: Schema> Slots for Slot<T> {
 
     ghost names = { λ s. s.name.now ∷ [] };
 
-    ghost listed = { λ s. (T.kind, option_map (λ v. list_tree T.tree v.items) s.items) ∷ [] };
+    ghost listed = { λ s. (T.kind, items_tree T.tree s.items) ∷ [] };
 
-    ghost hold = { λ s. HoldsMember T.kind s.name.now (option_map (λ v. list_tree T.tree v.items) s.items) };
+    ghost hold = { λ s. HoldsMember T.kind s.name.now (items_tree T.tree s.items) };
 
-    ghost apart = { λ s. put_apart T.kind s.name.now (option_map (λ v. list_tree T.tree v.items) s.items) };
+    ghost apart = { λ s. put_apart T.kind s.name.now (items_tree T.tree s.items) };
 
-    ghost passed = { λ s. put_passed T.kind s.name.now (option_map (λ v. list_tree T.tree v.items) s.items) };
+    ghost passed = { λ s. put_passed T.kind s.name.now (items_tree T.tree s.items) };
 
     fn read(
         &mut self,
@@ -161,8 +165,10 @@ fn read_list<T: Schema>(
 ) -> Result<Option<Vec<T>>, NoValue>
     ensures ok { IfOk result (λ items. (d : Data)
         × (converted of_json (value depth reader.old) ≡ Some (d, reader.new))
-        × (read (ListOf T.kind) d ≡ option_map (λ v. list_tree T.tree v.items) items)) }
+        × (read (ListOf T.kind) d ≡ items_tree T.tree items)) }
     ensures shorter { OnOk result (length reader.new < length reader.old) }
+    ensures refused { result ≡ Err NoValue.Refused
+        → converted of_json (value depth reader.old) ≡ None }
 {
     let token = reader.next().ok_or(NoValue::Refused)?;
     let Token::BeginArray = token else {
@@ -187,9 +193,10 @@ fn read_list<T: Schema>(
     Ok(items)
 }
 
-/// What the table reads of a value, or `None` if it refuses the value.
+/// What the table reads of a value, or `None` if it refuses the value. Fails only with `Memory`.
 fn decoded<T: Schema>(alloc: Global, value: Borrowed<'_>) -> Result<Option<T>, NoValue>
-    ensures { IfOk result (λ x. read T.kind (data_of value.entry) ≡ option_map T.tree x) }
+    ensures read { IfOk result (λ x. read T.kind (data_of value.entry) ≡ option_map T.tree x) }
+    ensures memory { IfErr result (λ e. e ≡ NoValue.Memory) }
 {
     match T::decode_from(alloc, value) {
         Ok(x) => Ok(Some(x)),
@@ -207,10 +214,12 @@ fn read_rest<'a, L: Slots>(
     depth: usize,
 ) -> Result<Vec<(&'a str, Borrowed<'a>)>, NoValue>
     ensures named { OnOk result (L.names lists.new ≡ L.names lists.old) }
-    ensures read { IfOk result (λ rest. L.hold lists.old [] no_members → (ms : Members)
-        × (converted (λ ms. of_members ms no_members)
+    ensures read { IfOk result (λ rest. (ms : Members) × (converted (λ ms. of_members ms no_members)
         (members (value depth) (length reader.old) reader.old) ≡ Some (ms, reader.new))
-        × L.hold lists.new [] ms × IsRest (L.names lists.old) ms (members_data rest.items)) }
+        × (L.hold lists.old [] no_members → L.hold lists.new [] ms)
+        × IsRest (L.names lists.old) ms (members_data rest.items)) }
+    ensures refused { result ≡ Err NoValue.Refused → converted (λ ms. of_members ms no_members)
+        (members (value depth) (length reader.old) reader.old) ≡ None }
 {
     let mut rest = Vec::new(alloc);
     'members: while let Some(name) = reader.next_key()? {
@@ -227,8 +236,8 @@ fn read_rest<'a, L: Slots>(
 
 /// Reads a text that is an object. The members of some names are lists, which are read an item at a
 /// time; the result has all other members, in the order of the text. Of several members of one name
-/// the last one counts. Fails if the text is no object of JSON or if a growth was refused; no clause
-/// says which.
+/// the last one counts. Fails with `Refused` only if the text is no object of JSON, and with
+/// `Memory` only if a growth was refused.
 pub fn read_object<'a, L: Slots>(
     alloc: Global,
     text: &'a str,
@@ -239,6 +248,8 @@ pub fn read_object<'a, L: Slots>(
     ensures read { IfOk result (λ rest. L.hold lists.old [] no_members → (ms : Members)
         × (read_json text.now ≡ Some (object ms))
         × L.hold lists.new [] ms × IsRest (L.names lists.old) ms (members_data rest.items)) }
+    ensures refused { result ≡ Err NoValue.Refused
+        → option_and_then as_object (read_json text.now) ≡ None }
 {
     let Ok(mut reader) = Reader::new(text, scratch) else {
         return Err(NoValue::Memory);

@@ -35,16 +35,16 @@ impl<'a> Untaken<'a> {
         &self.entries[self.start..]
     }
 
-    /// The index of the first member of a name. None of those before `i` has the name.
+    /// The index of the first member of a name. None of those before `from` has the name.
     #[inline(always)]
-    pub(crate) fn find(&self, name: &str, i: usize) -> Option<usize>
-        requires within { i ≤ length (drop self.now.start self.now.entries.items) }
+    pub(crate) fn find(&self, name: &str, from: usize) -> Option<usize>
+        requires within { from ≤ length (drop self.now.start self.now.entries.items) }
         requires passed { has_named name.now
-            (take i (drop self.now.start self.now.entries.items)) ≡ false }
+            (take from (drop self.now.start self.now.entries.items)) ≡ false }
         ensures { FindsFirst name.now (drop self.now.start self.now.entries.items) result }
     {
         let left = self.left();
-        let mut i = i;
+        let mut i = from;
         'scan: while i < left.len() {
             if is_same(left[i].0, name) {
                 return Some(i);
@@ -83,6 +83,7 @@ impl<'a> Untaken<'a> {
             ++ drop (i + 1) (drop self.old.start self.old.entries.items) }
     {
         let at = self.start + i;
+        // What `remove` returns would be copied before it is all written, which takes longer.
         let found = mem::replace(&mut self.entries[at].1, Borrowed::Null);
         if i == 0 {
             self.start += 1;

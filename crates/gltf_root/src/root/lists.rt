@@ -1,12 +1,13 @@
 //! Documents whose lists are read an item at a time.
 
-ghost use Rattle.std.specs.Prelude.{◌≡◌, [], IfSome, Some, is_some, option_map, zip};
+ghost use Rattle.std.specs.Prelude.{◌≡◌, [], IfSome, Some, is_some, zip};
 ghost use Rattle.serde_json.specs.Data.{Data, no_members};
 ghost use Rattle.serde_json.specs.Read.{read as read_json};
 ghost use Rattle.gltf_schema.specs.Fields.{list_tree};
 ghost use Rattle.gltf_schema.specs.Outcome.{Reads};
 ghost use Rattle.gltf_schema.specs.Read.{read};
 ghost use Rattle.gltf_borrowed.specs.Apart.{tree_or, with_lists};
+ghost use Rattle.gltf_borrowed.specs.Slots.{items_tree};
 ghost use Rattle.gltf_root.specs.Apart.{list_names};
 ghost use Rattle.gltf_root.specs.Root.{root_kind, root_rows, root_tree};
 
@@ -103,9 +104,9 @@ fn filled(mut root: Root, lists: Lists) -> Result<Root, Error>
 
 /// Puts the items that were read in the place of a list. Returns `false` if the table refuses them.
 fn fill<T: Schema>(list: &mut Vec<T>, read: Slot<T>) -> bool
-    ensures read { result ≡ is_some (option_map (λ v. list_tree T.tree v.items) read.items) }
+    ensures read { result ≡ is_some (items_tree T.tree read.items) }
     ensures filled { list_tree T.tree list.new.items ≡ tree_or (list_tree T.tree list.old.items)
-        (option_map (λ v. list_tree T.tree v.items) read.items) }
+        (items_tree T.tree read.items) }
 {
     match read.into_items() {
         Some(items) => {

@@ -1,7 +1,7 @@
-use Rattle.std.proofs.Common.{◌≡◌, ◌-◌, ◌∷◌, length, Some, None, option_map, ap, ◌∙◌, arith}
+use Rattle.std.proofs.Common.{◌≡◌, ◌-◌, [], ◌∷◌, length, Some, None, option_map, ap, ap₂, ◌∙◌, arith, rules}
 use Rattle.json.specs.Token.{Token}
 use Rattle.json.specs.Json.{parse_map, after_end_array, items, value}
-use Rattle.json.proofs.Grammar.{value-begin_array}
+use Rattle.json.proofs.Grammar.{value_is, value-begin_array}
 use Rattle.serde_json.specs.Data.{array, item, no_items}
 use Rattle.serde_json.specs.Read.{of_json, converted}
 use Rattle.gltf_schema.specs.Maybe.{◌>>=◌}
@@ -9,7 +9,7 @@ use Rattle.gltf_schema.specs.Read.{read, read_items}
 use Rattle.gltf_schema.specs.Tree.{list, with_tree}
 use Rattle.gltf_borrowed.specs.Borrowed.{data_of}
 use Rattle.gltf_borrowed.proofs.Levels.{all_trees, all_trees-new, all_trees-none, all_trees-push, all_trees-refused, all_trees-end}
-use Rattle.gltf_borrowed.proofs.Turns.{converted-array, IsFurther, further-none, further-item, further-end}
+use Rattle.gltf_borrowed.proofs.Turns.{converted-array, item_refused, IsFurther, further-none, further-item, further-end}
 use Rattle.gltf_borrowed.proofs.lists.read_list.Given.{Over}
 use Rattle.gltf_borrowed.proofs.lists.read_list.Goals as goal
 use Rattle.gltf_borrowed.proofs.lists.read_list.Goals.{In_ok-value-2}
@@ -90,3 +90,33 @@ returns-clause-ok g c =
       opened ∙ ap (parse_map array) over,
       ap (option_map list) (l.invariant.3 no_items) ∙ all_trees-end g.T.Tabled.tree l.items,
     )
+
+pub returns-in_err-token-clause-refused : goal.returns-in_err-token-clause-refused
+returns-in_err-token-clause-refused g c = λ _.
+    let empty : c.args.reader.now ≡ [] = grind arith in
+    ap (converted of_json) (ap (value c.args.depth) empty ∙ value_is c.args.depth [])
+
+pub returns-in_default : goal.returns-in_default
+returns-in_default g c = record {
+  ok = search rules;
+  shorter = search rules;
+  refused = λ refused. let never : ⊥ = grind arith in absurd never;
+}
+
+pub returns-then-depth-eq0-clause-refused : goal.returns-then-depth-eq0-clause-refused
+unfolding value
+returns-then-depth-eq0-clause-refused g c = λ _.
+    let first : c.args.reader.now ≡ Token.begin_array ∷ c.next.new.self = grind arith in
+    let none : c.args.depth ≡ 0 = omega arith in
+    ap (converted of_json) (ap₂ value none first)
+
+pub returns-in_err-value-2-clause-refused : goal.returns-in_err-value-2-clause-refused
+returns-in_err-value-2-clause-refused g c = λ refused.
+    let p = value (c.args.depth - 1) in
+    let l = c.items in
+    let s = c.next.new.self in
+    let first : c.args.reader.now ≡ Token.begin_array ∷ s = grind arith in
+    let opened = ap (converted of_json) (ap (value c.args.depth) first ∙ value-begin_array c.args.depth s (omega arith)) ∙ converted-array (items p (length s) s) in
+    let going : (after_end_array l.reader ≡ None) × (c.take_end_array.new.self ≡ l.reader) = grind arith in
+    let none = item_refused p l.invariant.0 l.reader going.0 (rw (← going.1) (c.read_value.ensures.refused (grind arith))) in
+    opened ∙ ap (parse_map array) (l.invariant.2.2 ∙ ap (parse_map l.invariant.1) none)

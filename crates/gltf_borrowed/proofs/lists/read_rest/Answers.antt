@@ -8,7 +8,7 @@ use Rattle.gltf_borrowed.specs.Borrowed.{Entry, data_of, members_data}
 use Rattle.gltf_borrowed.specs.Slots.{is_among, IsRest}
 use Rattle.gltf_borrowed.proofs.Levels.{put_entries-push}
 use Rattle.gltf_borrowed.proofs.Named.{IsRest-put, IsRest-put_listed}
-use Rattle.gltf_borrowed.proofs.Turns.{member_read, members_over}
+use Rattle.gltf_borrowed.proofs.Turns.{member_read, member_refused, key_refused, members_over}
 use Rattle.gltf_borrowed.proofs.lists.read_rest.Goals as goal
 
 nothing : (t : Bool) → ◌≡◌ {A = Option Data} None (cond t None None)
@@ -79,13 +79,37 @@ members-preserved g c =
     )
 
 pub returns-clause-read : goal.returns-clause-read
-returns-clause-read g c = λ h.
+returns-clause-read g c =
     let p = value c.args.depth in
     let l = c.members in
     let n = l.invariant.0 in
     let old = l.invariant.1 in (
       old,
       l.invariant.3 ∙ members_over p old n l.reader c.next_key.new.self l.invariant.2 (grind arith),
-      l.invariant.5 h,
+      l.invariant.5,
       l.invariant.6,
     )
+
+pub returns-in_err-name-clause-refused : goal.returns-in_err-name-clause-refused
+returns-in_err-name-clause-refused g c = λ refused.
+    let l = c.members in
+    l.invariant.3 ∙ key_refused (value c.args.depth) l.invariant.1 l.invariant.0 l.reader c.in_err-name.ensures.value
+
+pub returns-in_err-read-clause-refused : goal.returns-in_err-read-clause-refused
+returns-in_err-read-clause-refused g c = λ refused.
+    let l = c.members in
+    let k = c.in-Some.name.now in
+    let s = c.next_key.new.self in
+    let key : read_key l.reader ≡ Some (Some k, s) = grind arith in
+    l.invariant.3 ∙ member_refused (value c.args.depth) l.invariant.1 l.invariant.0 k l.reader s key (c.read.ensures.refused (grind arith)).1
+
+pub returns-in_err-member-clause-refused : goal.returns-in_err-member-clause-refused
+returns-in_err-member-clause-refused g c = λ refused.
+    let p = value c.args.depth in
+    let l = c.members in
+    let k = c.in-Some.name.now in
+    let s = c.next_key.new.self in
+    let key : read_key l.reader ≡ Some (Some k, s) = grind arith in
+    let other = c.in_ok-read.ensures.other (ap Ok c.if-branch.false) in
+    let none : converted of_json (p s) ≡ None = rw (← other.2) (c.read_value.ensures.refused (grind arith)) in
+    l.invariant.3 ∙ member_refused p l.invariant.1 l.invariant.0 k l.reader s key none

@@ -1,5 +1,5 @@
-use Rattle.std.proofs.Common.{◌≡◌, true, false, ◌||◌, option_map, bytes_eq, ap, rules}
-use Rattle.gltf_schema.specs.Fields.{list_tree}
+use Rattle.std.proofs.Common.{◌≡◌, true, false, ◌||◌, bytes_eq, ap, rules}
+use Rattle.gltf_borrowed.specs.Slots.{items_tree}
 use Rattle.gltf_borrowed.proofs.Named.{put_here}
 use Rattle.gltf_borrowed.proofs.lists.SlotSlots.read.Goals as goal
 
@@ -9,5 +9,5 @@ returns-clause-taken g c = λ _.
     let same : bytes_eq c.args.name.now slot.name.now ≡ true = search rules in
     let got = c.in_ok-self.ensures.ok in (
       ap (λ b. b || false) same,
-      (got.0, got.1, λ before ms h. put_here g.T.Tabled.kind slot.name.now (option_map (λ v. list_tree g.T.Tabled.tree v.items) c.in_ok-self.field-0) before c.args.name.now got.0 ms same got.2),
+      (got.0, got.1, λ before ms h. put_here g.T.Tabled.kind slot.name.now (items_tree g.T.Tabled.tree c.in_ok-self.field-0) before c.args.name.now got.0 ms same got.2),
     )

@@ -1,7 +1,7 @@
 -- The table reads the document as it reads the rest, with the lists in their places.
-use Rattle.std.proofs.Common.{List, [], ◌∷◌, Option, Vec, Global, option_map, zip, refl, sym, ap, ◌∙◌, subst}
+use Rattle.std.proofs.Common.{List, [], ◌∷◌, Option, Vec, Global, zip, refl, sym, ap, ◌∙◌, subst}
 use Rattle.serde_json.specs.Data.{object}
-use Rattle.gltf_schema.specs.Fields.{closed_object, list_tree}
+use Rattle.gltf_schema.specs.Fields.{closed_object}
 use Rattle.gltf_schema.specs.Kind.{Kind, requires_enabled}
 use Rattle.gltf_schema.specs.Maybe.{◌>>=◌}
 use Rattle.gltf_schema.specs.Outcome.{Reads, Refuses}
@@ -9,7 +9,7 @@ use Rattle.gltf_schema.specs.Read.{read}
 use Rattle.gltf_schema.specs.Tree.{Trees}
 use Rattle.gltf_borrowed.specs.Apart.{Listed, with_lists}
 use Rattle.gltf_borrowed.specs.Borrowed.{members_data}
-use Rattle.gltf_borrowed.specs.Slots.{IsRest}
+use Rattle.gltf_borrowed.specs.Slots.{items_tree, IsRest}
 use Rattle.gltf_borrowed.proofs.Levels.{data-Object}
 use Rattle.gltf_borrowed.proofs.RowsApart.{HoldAll, tree_apart, Refuses-later}
 use Rattle.gltf_data.specs.Accessor.{accessor_kind, accessor_members}
@@ -26,7 +26,7 @@ use Rattle.gltf_root.specs.Root.{root_kind, root_rows, root_tree}
 use Rattle.gltf_root.proofs.root.lists.streamed.Goals as goal
 
 abbrev pub list_of : {X : Type 0} → Kind → (X → Trees) → Option (Vec X Global) → Listed
-list_of kind members o = (kind, option_map (λ v. list_tree (λ x. closed_object (members x)) v.items) o)
+list_of kind members o = (kind, items_tree (λ x. closed_object (members x)) o)
 
 pub returns-in-Ok-decode_from : goal.returns-in-Ok-decode_from
 unfolding root_rows

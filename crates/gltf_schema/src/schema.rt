@@ -192,12 +192,13 @@ impl<T: Object> Schema for T {
         let Some(found) = source.into_fields() else {
             return Err(Error::Schema);
         };
+        // `push` and `pop` return items, and each call of them clears memory for one.
+        list.reserve(1)?;
+        let before = list.len();
         let mut reading = Reading::<S>::from_members(alloc, found);
-        let Ok(()) = list.push(T::read_members(&mut reading)) else {
-            return Err(Error::Memory(AllocError));
-        };
+        list.push_reserved(T::read_members(&mut reading));
         if let Err(e) = reading.end() {
-            drop(list.pop());
+            list.truncate(before);
             return Err(e);
         }
         Ok(())

@@ -1,5 +1,5 @@
 -- One row: its member is taken out of what is left, and then read.
-use Rattle.std.proofs.Common.{◌≡◌, ◌⊎◌, inl, inr, ℕ, List, Option, Some, None, option_map, true, false, is_some, Result, Ok, Err, refl}
+use Rattle.std.proofs.Common.{◌≡◌, ℕ, List, Option, Some, None, option_map, true, false, is_some, Result, Ok, Err, refl}
 use Rattle.serde_json.specs.Data.{Data, Members}
 use Rattle.serde_json.specs.Find.{as_null}
 use Rattle.gltf_paths.specs.declared.error.Error.{Error}
@@ -49,13 +49,6 @@ pub value_refused : {V X : Type 0} {given : V → Data} {view : X → Tree} {old
     → TakesOut given old n (Some v) mid → ReadsValue view mid None kind (given v) new → read_member mark (read kind) (Some (given v)) ≡ read kind (given v)
     → ReadsRow TakesMember old n mark kind t new
 value_refused {V} {X} {given} {view} {old} {mid} {new} {n} {mark} {kind} {v} {t} h k same = record { is = refused_from given view old mid new n mark kind v t h.is k.is same }
-
--- the value of a row's member was read into a place, or refused
-pub value_filled : {V X : Type 0} {given : V → Data} {view : X → Tree} {old mid new : Result Members Error} {n : List ℕ} {mark : Mark} {kind : Kind} {v : V} {x : X}
-    → TakesOut given old n (Some v) mid → ReadsValue view mid (Some x) kind (given v) new ⊎ ReadsValue view mid None kind (given v) new
-    → read_member mark (read kind) (Some (given v)) ≡ read kind (given v) → ReadsRow TakesMember old n mark kind (view x) new
-value_filled {V} {X} {given} {view} {old} {mid} {new} {n} {mark} {kind} {v} {x} h (inl k) same = value_read h k same
-value_filled {V} {X} {given} {view} {old} {mid} {new} {n} {mark} {kind} {v} {x} h (inr k) same = value_refused h k same
 
 -- either of the two
 pub value_found : {V X : Type 0} {given : V → Data} {view : X → Tree} {old mid new : Result Members Error} {n : List ℕ} {mark : Mark} {kind : Kind} {v : V} (found : Option X)

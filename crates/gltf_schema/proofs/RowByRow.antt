@@ -1,19 +1,18 @@
 -- Rows read one after another, whatever they are read from; and members taken out of a map by a
 -- state that goes on or stays failed.
-use Rattle.std.proofs.Common.{◌≡◌, ℕ, List, Option, Some, None, option_map, Bool, true, false, Result, Ok, Err, refl, sym, ap, subst}
+use Rattle.std.proofs.Common.{◌≡◌, ℕ, List, Option, Some, None, Bool, true, false, Result, Ok, Err, refl, sym, ap, subst}
 use Rattle.serde_json.specs.Data.{Members, no_members}
 use Rattle.gltf_paths.specs.declared.error.Error.{Error}
 use Rattle.gltf_paths.specs.declared.error.Error.TheVariants as errors
-use Rattle.gltf_schema.specs.Outcome.{Reads, ReadsInto, Refuses}
+use Rattle.gltf_schema.specs.Outcome.{Reads, Refuses}
 use Rattle.gltf_schema.specs.Maybe.{◌>>=◌}
-use Rattle.gltf_schema.specs.Tree.{Tree, whole, index, object, Trees, end, with_tree}
+use Rattle.gltf_schema.specs.Tree.{Tree, whole, index, Trees, end, with_tree}
 use Rattle.gltf_paths.specs.Lists.{images}
 use Rattle.gltf_schema.specs.Kind.{Mark, required, Kind, IndexInto, SourceImage, ChannelSampler, U32, Rows, no_rows, row}
-use Rattle.gltf_schema.specs.Read.{left, kept as kept_unknown, read_rows}
-use Rattle.gltf_schema.specs.Sound.{are_sound}
+use Rattle.gltf_schema.specs.Read.{left}
 use Rattle.gltf_schema.specs.Taken.{take_member, take_rows, take_all}
 use Rattle.gltf_schema.specs.Readings.{ReadsRow, ReadsOthers, RowsFrom, OthersFrom, ReadsMembers, TakesSource, TakesSampler, TakesMember, TakesOthers, ended}
-use Rattle.gltf_schema.proofs.TakingOut.{refused_through, refused, decoded}
+use Rattle.gltf_schema.proofs.TakingOut.{refused_through, refused}
 
 -- ---- rows, whatever they are read from
 
@@ -176,10 +175,3 @@ object_read {s} {new} {rows} {keeps} {ts} {unknown} {ms} is h well = read_well n
 pub object_refused : {s new : Result Members Error} {rows : Rows} {keeps : Bool} {ts : Trees} {unknown ms : Members} {e : Error}
     → s ≡ Ok ms → ReadsMembers TakesMember TakesOthers rows keeps ts unknown s new → Err e ≡ ended new → Refuses e (take_all rows keeps ms)
 object_refused {s} {new} {rows} {keeps} {ts} {unknown} {ms} {e} is h ill = read_ill new rows keeps ts unknown ms e ill (members_taken keeps s h.mid new rows ts unknown ms is h.rows_from h.others_from)
-
--- an object was read into a place, or a row was refused
-pub object_into : {X : Type 0} {s new : Result Members Error} {ms : Members} (x : X) (r : Result (Unit {0}) Error) (f : X → Trees) (g : X → Members) (rows : Rows) (keeps : Bool) → are_sound rows ≡ true
-    → s ≡ Ok ms → ReadsMembers TakesMember TakesOthers rows keeps (f x) (g x) s new → r ≡ ended new
-    → ReadsInto (λ x. object (f x) (g x)) r x (option_map (λ ts. object ts (kept_unknown keeps rows ms)) (read_rows rows ms))
-object_into {X} {s} {new} {ms} x (Ok u) f g rows keeps sound is h end_is = decoded (Ok x) f g rows keeps ms sound (object_read is h end_is)
-object_into {X} {s} {new} {ms} x (Err e) f g rows keeps sound is h end_is = decoded {X = X} (Err e) f g rows keeps ms sound (object_refused is h end_is)

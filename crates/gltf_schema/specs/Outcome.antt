@@ -14,11 +14,6 @@ abbrev pub Reads : {X Y : Type 0} → (X → Y) → Result X Error → Option Y 
 Reads view (Ok x) read = read ≡ Some (view x)
 Reads view (Err e) read = Refuses e read
 
--- what reading gives, seen by view, is in the place; after an error it may be anything
-abbrev pub ReadsInto : {X Y U : Type 0} → (X → Y) → Result U Error → X → Option Y → Type 0
-ReadsInto view (Ok u) place read = read ≡ Some (view place)
-ReadsInto view (Err e) place read = Refuses e read
-
 -- what reading gives, seen by view, is pushed onto the items; an error leaves them as they were
 abbrev pub ReadsOnto : {X Y U : Type 0} → (X → Y) → List X → Result U Error → List X → Option Y → Type 0
 ReadsOnto {X} view before (Ok u) after read = (x : X) × (after ≡ before ++ x ∷ []) × (read ≡ Some (view x))

@@ -238,15 +238,6 @@ impl<T: Choice> Schema for Checked<T> {
         Self::decode_from(alloc, value)
     }
 
-    fn decode_into<S: Source>(
-        alloc: Global,
-        source: S,
-        place: &mut Checked<T>,
-    ) -> Result<(), Error> {
-        *place = Self::decode_from(alloc, source)?;
-        Ok(())
-    }
-
     fn decode_onto<S: Source>(
         alloc: Global,
         source: S,

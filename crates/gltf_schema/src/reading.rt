@@ -1,6 +1,6 @@
 //! An object's members as they are read, row by row.
 
-ghost use Rattle.std.specs.Prelude.{◌≡◌, ◌⊎◌, ℕ, List, Some, None, Ok, Result, map};
+ghost use Rattle.std.specs.Prelude.{◌≡◌, ℕ, List, Ok, Result, map};
 ghost use Rattle.serde_json.specs.Data.{Members};
 ghost use Rattle.serde_json.specs.View.{members_view};
 ghost use Rattle.gltf_paths.specs.declared.error.Error.{Error as AnError};
@@ -122,20 +122,6 @@ impl<S: Source> Reading<S> {
         }
     }
 
-    /// Reads a member's value into a place. If the table refuses the value, it refuses the row, and
-    /// the place may hold anything.
-    #[inline(always)]
-    fn fill<T: Schema>(&mut self, value: S, place: &mut T)
-        ensures { ReadsValue T.tree (members_or_error S.members self.old.state) (Some place.new)
-            T.kind (S.given value) (members_or_error S.members self.new.state)
-            ⊎ ReadsValue T.tree (members_or_error S.members self.old.state) None
-            T.kind (S.given value) (members_or_error S.members self.new.state) }
-    {
-        if let Err(e) = T::decode_into(self.alloc, value, place) {
-            self.state = Err(e);
-        }
-    }
-
     /// Refuses a row, unless one was refused before.
     fn refuse(&mut self, e: Error)
         ensures { members_or_error S.members self.new.state
@@ -185,12 +171,16 @@ impl<S: Source> ReadRows for Reading<S> {
     }
 
     fn required<T: Schema + Blank>(&mut self, name: &'static str) -> T {
-        let mut found = T::blank(self.alloc);
         match self.take(name) {
-            Some(value) => self.fill(value, &mut found),
-            None => self.refuse(Error::Schema),
+            Some(value) => match self.decode(value) {
+                Some(x) => x,
+                None => T::blank(self.alloc),
+            },
+            None => {
+                self.refuse(Error::Schema);
+                T::blank(self.alloc)
+            }
         }
-        found
     }
 
     fn optional<T: Schema>(&mut self, name: &'static str) -> Option<T> {
@@ -212,10 +202,12 @@ impl<S: Source> ReadRows for Reading<S> {
     }
 
     fn or_default<T: Schema + Blank>(&mut self, name: &'static str, default: T) -> T {
-        let mut found = default;
-        if let Some(value) = self.take(name) {
-            self.fill(value, &mut found);
+        match self.take(name) {
+            Some(value) => match self.decode(value) {
+                Some(x) => x,
+                None => T::blank(self.alloc),
+            },
+            None => default,
         }
-        found
     }
 }

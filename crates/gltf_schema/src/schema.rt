@@ -18,7 +18,7 @@ ghost use Rattle.gltf_schema.specs.Sound.{is_sound};
 ghost use Rattle.gltf_schema.specs.Height.{kind_height};
 ghost use Rattle.gltf_schema.specs.Taken.{take_all};
 ghost use Rattle.gltf_schema.specs.Leaves.{wants_object};
-ghost use Rattle.gltf_schema.specs.Outcome.{Reads, ReadsInto, ReadsOnto, Writes};
+ghost use Rattle.gltf_schema.specs.Outcome.{Reads, ReadsOnto, Writes};
 ghost use Rattle.gltf_schema.specs.Readings.{ReadsMembers};
 ghost use Rattle.gltf_schema.specs.Placings.{place_of, IsInside, ReadsOrPlaces};
 
@@ -54,16 +54,6 @@ pub trait Schema: Tabled + Drop {
             → result ≡ Err Error.Schema }
     {
         Self::decode_from(alloc, value)
-    }
-
-    /// Reads a value as [`Schema::decode_from`] does, in place of another one, which saves moving
-    /// it. Fails with `Schema` if and only if the table does not read it; `Memory` may come in
-    /// place of either result if a growth was refused. After an error the place may hold anything.
-    fn decode_into<S: Source>(alloc: Global, source: S, place: &mut Self) -> Result<(), Error>
-        ensures { ReadsInto Self.tree result place.new (read Self.kind (S.given source)) }
-    {
-        *place = Self::decode_from(alloc, source)?;
-        Ok(())
     }
 
     /// Reads a value as [`Schema::decode_from`] does, and pushes it onto a list, which saves moving
@@ -196,15 +186,6 @@ impl<T: Object> Schema for T {
             Some(found) => T::decode_members::<S>(alloc, found),
             None => Err(Error::Schema),
         }
-    }
-
-    fn decode_into<S: Source>(alloc: Global, source: S, place: &mut T) -> Result<(), Error> {
-        let Some(found) = source.into_fields() else {
-            return Err(Error::Schema);
-        };
-        let mut reading = Reading::<S>::from_members(alloc, found);
-        *place = T::read_members(&mut reading);
-        reading.end()
     }
 
     fn decode_onto<S: Source>(alloc: Global, source: S, list: &mut Vec<T>) -> Result<(), Error> {

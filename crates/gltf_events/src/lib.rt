@@ -1,17 +1,18 @@
 //! The next event of any value that a walk comes to, and whether nothing is wrong in the value.
 #![tactic(auto)]
 
-ghost use Rattle.std.specs.Prelude.{◌≡◌, ◌+◌, ◌<◌, ◌^◌, true};
+ghost use Rattle.std.specs.Prelude.{◌≡◌, ◌+◌, ◌<◌, ◌^◌, ◌&&◌};
 ghost use Rattle.gltf_faults.specs.Context.{context_of};
-ghost use Rattle.gltf_visits.specs.ValueRefs.{outline_of, IsNumbered};
+ghost use Rattle.gltf_visits.specs.ValueRefs.{outline_of, is_looked_at, IsNumbered};
 ghost use Rattle.gltf_visits.specs.Moves.{IsGiven, IsMore};
-ghost use Rattle.gltf_visits.specs.Outline.{move_at, IsQuiet};
+ghost use Rattle.gltf_visits.specs.Outline.{move_at, quiet};
 
 use gltf_faults::{Context, HasContext};
 use gltf_visits::{
     Event, Events, Quiet, ValueRef, at_attributes, at_material, channel_at, extension_at,
     in_attribute, in_channel, in_extension, in_material, in_one_texture, in_positions,
-    in_reference, in_two_textures, is_channel_quiet, is_material_quiet, item_at, leaf_at,
+    in_reference, in_two_textures, is_channel_quiet, is_material_quiet, is_name_quiet, item_at,
+    leaf_at,
 };
 
 /// The event at a number of a value.
@@ -23,13 +24,13 @@ pub fn event<'a>(value: ValueRef<'a>, number: usize, context: &Context<'_>) -> E
 {
     match value {
         ValueRef::Leaf(fault) => leaf_at(fault, number),
-        ValueRef::Channels(animation) => channel_at(animation, number, context),
+        ValueRef::Channels(animation) => channel_at(animation, number),
         ValueRef::Channel(channel, animation) => in_channel(channel, animation, number, context),
         ValueRef::Attributes(_) => unreachable!(),
         ValueRef::Attribute(key, index) => in_attribute(key, index, number),
-        ValueRef::AtPositions(faults) => at_attributes(faults, number, context),
+        ValueRef::AtPositions(faults) => at_attributes(faults, number),
         ValueRef::Positions(faults) => in_positions(faults, number),
-        ValueRef::RequiredExtensions(names) => extension_at(names, number, context),
+        ValueRef::RequiredExtensions(names) => extension_at(names, number),
         ValueRef::RequiredExtension(name) => in_extension(name, number, context),
         ValueRef::NodeIndexes(indexes) => item_at(indexes, number, context),
         ValueRef::Accessors(items) => item_at(items, number, context),
@@ -86,11 +87,12 @@ pub fn event<'a>(value: ValueRef<'a>, number: usize, context: &Context<'_>) -> E
     }
 }
 
-/// Whether one look finds nothing wrong: in an item of a list, or in a value of which all errors
-/// were found. Other values get a frame without a look, which keeps a walk linear: a fault is
-/// looked at once for each list above it.
+/// Whether a walk looks at the value as a whole, and nothing is wrong in it. A walk looks at the
+/// items of lists and at values that hold all their errors. Other values get a frame without a
+/// look, which keeps a walk linear: a fault is looked at once for each list above it.
 pub fn is_quiet<C: HasContext>(value: &ValueRef<'_>, context: &C) -> bool
-    ensures { result ≡ true → IsQuiet (outline_of (C.context context.now) value.now) }
+    ensures { result ≡ is_looked_at value.now
+        && quiet (outline_of (C.context context.now) value.now) }
 {
     match value {
         ValueRef::Accessor(item) => item.is_quiet(context),
@@ -115,6 +117,7 @@ pub fn is_quiet<C: HasContext>(value: &ValueRef<'_>, context: &C) -> bool
         ValueRef::AnimationSampler(item) => item.is_quiet(context),
         ValueRef::Animation(item) => item.is_quiet(context),
         ValueRef::Channel(channel, animation) => is_channel_quiet(channel, animation, context),
+        ValueRef::RequiredExtension(name) => is_name_quiet(name, context),
         found => found.has_no_fault(),
     }
 }

@@ -1,9 +1,9 @@
 -- What an event says of a move, and what a look sees of it.
-use Rattle.std.specs.Prelude.{◌≡◌, ⊤}
+use Rattle.std.specs.Prelude.{◌≡◌, ⊤, true, false}
 use Rattle.gltf_paths.specs.Steps.{step_of}
 use Rattle.gltf_faults.specs.Context.{Context}
 use Rattle.gltf_visits.specs.ValueRefs.{outline_of}
-use Rattle.gltf_visits.specs.Outline.{Move, down, fault, over, IsQuiet}
+use Rattle.gltf_visits.specs.Outline.{Move, down, fault, over, quiet}
 use Rattle.gltf_visits.specs.declared.look.Look.{Look}
 use Rattle.gltf_visits.specs.declared.look.Look.TheVariants as look
 use Rattle.gltf_visits.specs.declared.event.Event.{Event}
@@ -24,11 +24,12 @@ IsMore _ = ⊤
 abbrev pub IsGiven : Context → Move → Event → Type 0
 IsGiven context move n = move_of context n ≡ move
 
--- what a look may see of a move: a step to a quiet value is `Quiet`, the end is `Over`, and any move may be `Loud`
+-- what a look sees of a move: a step to a quiet value is `Quiet`, the end is `Over`, and any other move is `Loud`
 abbrev pub IsSeen : Move → Look → Type 0
-IsSeen (down s p) look.Quiet = IsQuiet p
+IsSeen (down s p) look.Quiet = quiet p ≡ true
+IsSeen (down s p) look.Loud = quiet p ≡ false
+IsSeen (fault e) look.Loud = ⊤
 IsSeen over look.Over = ⊤
-IsSeen _ look.Loud = ⊤
 IsSeen _ _ = ⊥
 
 -- a look that is not the end

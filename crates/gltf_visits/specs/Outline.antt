@@ -1,6 +1,6 @@
 -- The outline of a value: everything below its place at which something can be wrong, in order, and then what is wrong at
 -- the place itself.
-use Rattle.std.specs.Prelude.{◌≡◌, ℕ, zero, suc, ◌+◌, List, [], ◌∷◌, ◌++◌, max, Option, Some, None}
+use Rattle.std.specs.Prelude.{ℕ, zero, suc, ◌+◌, List, [], ◌∷◌, ◌++◌, Bool, true, false, ◌&&◌, max, Option, Some, None}
 use Rattle.gltf_paths.specs.Steps.{Step}
 use Rattle.gltf_paths.specs.declared.validation.Error.{Error}
 use Rattle.gltf_sinks.specs.Report.{From, report}
@@ -44,9 +44,17 @@ abbrev mutual
   reports_below nothing base = []
   reports_below (below s p ps) base = reports_of p (base ++ s ∷ []) ++ reports_below ps base
 
--- the outline has no report
-abbrev pub IsQuiet : Outline → Type 0
-IsQuiet p = (base : List Step) → reports_of p base ≡ []
+-- ---- whether anything is wrong
+
+abbrev mutual
+  -- nothing is wrong at the place or below it
+  pub quiet : Outline → Bool
+  quiet (place ps []) = all_quiet ps
+  quiet (place ps (error ∷ es)) = false
+
+  pub all_quiet : Outlines → Bool
+  all_quiet nothing = true
+  all_quiet (below s p ps) = quiet p && all_quiet ps
 
 -- ---- moves through an outline
 

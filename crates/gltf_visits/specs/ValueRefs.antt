@@ -1,5 +1,5 @@
 -- The outline of each value of a document.
-use Rattle.std.specs.Prelude.{[], ⊤, Some, None}
+use Rattle.std.specs.Prelude.{[], ⊤, Bool, true, false, Some, None}
 use Rattle.gltf_animations.specs.Animation.{animation_channel_kind, animation_target_kind, animation_sampler_kind, animation_kind, animation_channel_members, animation_target_members, animation_sampler_members, animation_members}
 use Rattle.gltf_data.specs.Accessor.{accessor_kind, sparse_kind, sparse_indices_kind, sparse_values_kind, accessor_members, sparse_members, sparse_indices_members, sparse_values_members}
 use Rattle.gltf_data.specs.Buffer.{view_kind, view_members}
@@ -91,3 +91,39 @@ outline_of context (value_ref.RequiredExtension x) = name_outline context.rules.
 abbrev pub IsNumbered : ValueRef → Type 0
 IsNumbered (value_ref.Attributes m) = ⊥
 IsNumbered _ = ⊤
+
+-- ---- what a walk looks at
+
+-- a value that holds all its errors; materials are looked at as items of a list
+abbrev pub is_found : ValueRef → Bool
+is_found (value_ref.Leaf e) = true
+is_found (value_ref.Attribute k i) = true
+is_found (value_ref.AtPositions f) = true
+is_found (value_ref.Positions f) = true
+is_found (value_ref.TextureReference s) = true
+is_found (value_ref.OneTexture s n) = true
+is_found (value_ref.TwoTextures s r n m) = true
+is_found _ = false
+
+-- an item of a list, or a value that holds all its errors
+abbrev pub is_looked_at : ValueRef → Bool
+is_looked_at (value_ref.Accessor x) = true
+is_looked_at (value_ref.View x) = true
+is_looked_at (value_ref.Image x) = true
+is_looked_at (value_ref.Sampler x) = true
+is_looked_at (value_ref.Texture x) = true
+is_looked_at (value_ref.Material (Some m) e) = true
+is_looked_at (value_ref.PlainMaterial m) = true
+is_looked_at (value_ref.Mesh x) = true
+is_looked_at (value_ref.Primitive x) = true
+is_looked_at (value_ref.MorphTarget x) = true
+is_looked_at (value_ref.Node x) = true
+is_looked_at (value_ref.Scene x) = true
+is_looked_at (value_ref.Skin x) = true
+is_looked_at (value_ref.Camera x) = true
+is_looked_at (value_ref.Light x) = true
+is_looked_at (value_ref.Animation x) = true
+is_looked_at (value_ref.AnimationSampler x) = true
+is_looked_at (value_ref.Channel x a) = true
+is_looked_at (value_ref.RequiredExtension x) = true
+is_looked_at v = is_found v

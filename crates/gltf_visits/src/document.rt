@@ -10,6 +10,7 @@ ghost use Rattle.gltf_nodes.specs.Light.{variant_rows};
 use crate::always_valid::AlwaysValid;
 use crate::event::EventBuilder;
 use crate::events::Events;
+use crate::lists::are_names_quiet;
 use crate::quiet::{Quiet, is_object_quiet};
 use crate::value_ref::ValueRef;
 use crate::visitable::Visitable;
@@ -51,7 +52,7 @@ impl<'a, E: EventBuilder<'a>> Events<'a, E> for Root {
             14 => E::enter(
                 Step::Field("extensionsRequired"),
                 ValueRef::RequiredExtensions(&self.extensions_required),
-                false,
+                are_names_quiet(&self.extensions_required, context),
                 context,
             ),
             _ => E::end(),

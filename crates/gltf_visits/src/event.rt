@@ -1,11 +1,11 @@
 //! The events of a walk, and how an object or a list makes them.
 
-ghost use Rattle.std.specs.Prelude.{◌≡◌, true};
+ghost use Rattle.std.specs.Prelude.{◌≡◌};
 ghost use Rattle.gltf_paths.specs.Steps.{field, item as at_number, step_of};
 ghost use Rattle.gltf_schema.specs.Tree.{absent};
 ghost use Rattle.gltf_faults.specs.Context.{Context as MathematicalContext};
 ghost use Rattle.gltf_visits.specs.ValueRefs.{outline_of};
-ghost use Rattle.gltf_visits.specs.Outline.{Move, down, first_move, leaf, over, IsQuiet};
+ghost use Rattle.gltf_visits.specs.Outline.{Move, down, first_move, leaf, over, quiet};
 ghost use Rattle.gltf_visits.specs.OutlineOf.{outline};
 ghost use Rattle.gltf_visits.specs.Moves.{IsGiven, IsMore};
 ghost use Rattle.gltf_visits.specs.References.{reference_outline};
@@ -70,7 +70,7 @@ pub trait EventBuilder<'a>: Sized {
         is_quiet: bool,
         context: &C,
     ) -> Self
-        requires { is_quiet ≡ true → IsQuiet (outline_of (C.context context.now) value) }
+        requires { is_quiet ≡ quiet (outline_of (C.context context.now) value) }
         ensures { (move : Move)
             → down (step_of step.entry) (outline_of (C.context context.now) value.entry) ≡ move
             → gives (C.context context.now) move result };

@@ -27,7 +27,7 @@ pub use event::{Event, EventBuilder};
 pub use events::Events;
 pub use lists::{
     at_attributes, channel_at, extension_at, in_attribute, in_channel, in_extension, in_positions,
-    is_channel_quiet, item_at, leaf_at,
+    is_channel_quiet, is_name_quiet, item_at, leaf_at,
 };
 pub use look::Look;
 pub use material::{MaterialFaults, at_material, in_material, is_material_quiet};

@@ -1,19 +1,18 @@
 //! The events of lists, of attributes, and of the places that the rules of objects name.
 #![tactic(auto, using(crate::proofs::Past::past, crate::proofs::Past::one_error))]
 
-ghost use Rattle.std.specs.Prelude.{◌≡◌, ◌+◌, ◌<◌, ◌^◌, [], true};
+ghost use Rattle.std.specs.Prelude.{◌≡◌, ◌+◌, ◌<◌, ◌^◌, []};
 ghost use Rattle.gltf_animations.specs.Animation.{animation_channel_kind, animation_channel_members, animation_members};
 ghost use Rattle.gltf_schema.specs.Fields.{closed_object, list_tree, text_tree};
 ghost use Rattle.gltf_schema.specs.Kind.{ListOf};
 ghost use Rattle.gltf_schema.specs.Tree.{absent, items_in};
 ghost use Rattle.gltf_faults.specs.Context.{context_of};
 ghost use Rattle.gltf_visits.specs.ValueRefs.{faults_outline};
-ghost use Rattle.gltf_visits.specs.Moves.{move_of, IsMore};
-ghost use Rattle.gltf_visits.specs.Outline.{IsQuiet, move_at, first_move, leaf, rest_after, place};
+ghost use Rattle.gltf_visits.specs.Moves.{IsGiven, IsMore};
+ghost use Rattle.gltf_visits.specs.Outline.{move_at, first_move, leaf, place, quiet, rest_after};
 ghost use Rattle.gltf_visits.specs.OutlineOf.{at_positions, entry_outline, item_outlines, name_outline, outline};
 
-use crate::event::EventBuilder;
-use crate::look::Look;
+use crate::event::{Event, EventBuilder};
 use crate::quiet::Quiet;
 use crate::value_ref::ValueRef;
 use gltf_animations::animation::{Animation, Channel};
@@ -71,25 +70,15 @@ pub fn in_attribute<'a, E: EventBuilder<'a>>(
 }
 
 /// The channel of an animation at a number.
-pub fn channel_at<'a, E: EventBuilder<'a>, C: HasContext>(
-    animation: &'a Animation,
-    number: usize,
-    context: &C,
-) -> E
-    ensures comes { E.gives (C.context context.now)
-        (move_at (outline (ListOf animation_channel_kind)
+pub fn channel_at<'a>(animation: &'a Animation, number: usize) -> Event<'a>
+    ensures comes { (context : _) → IsGiven context (move_at (outline (ListOf animation_channel_kind)
         (list_tree (λ x. closed_object (animation_channel_members x)) animation.now.channels.items)
-        (C.context context.now) (closed_object (animation_members animation.now))) number) result }
-    ensures small { E.is_more result → number + 1 < 2 ^ 64 }
+        context (closed_object (animation_members animation.now))) number) result }
+    ensures small { IsMore result → number + 1 < 2 ^ 64 }
 {
     match animation.channels.get(number) {
-        Some(channel) => E::enter(
-            Step::Index(number),
-            ValueRef::Channel(channel, animation),
-            false,
-            context,
-        ),
-        None => E::end(),
+        Some(channel) => Event::Enter(Step::Index(number), ValueRef::Channel(channel, animation)),
+        None => Event::End,
     }
 }
 
@@ -116,7 +105,7 @@ pub fn in_channel<'a, E: EventBuilder<'a>, C: HasContext>(
 
 /// Whether nothing is wrong in the channels of an animation.
 pub(crate) fn are_channels_quiet<C: HasContext>(animation: &Animation, context: &C) -> bool
-    ensures { result ≡ true → IsQuiet (outline (ListOf animation_channel_kind)
+    ensures { result ≡ quiet (outline (ListOf animation_channel_kind)
         (list_tree (λ x. closed_object (animation_channel_members x)) animation.now.channels.items)
         (C.context context.now) (closed_object (animation_members animation.now))) }
 {
@@ -129,43 +118,28 @@ pub(crate) fn are_channels_quiet<C: HasContext>(animation: &Animation, context: 
 }
 
 /// Whether nothing is wrong in a channel.
+#[tactic(auto, unfolding(gltf_animations::specs::Animation::animation_channel_rows, gltf_animations::specs::Animation::animation_target_rows, gltf_animations::specs::Animation::animation_channel_members, gltf_animations::specs::Animation::animation_target_members))]
 pub fn is_channel_quiet<C: HasContext>(
     channel: &Channel,
     animation: &Animation,
     context: &C,
 ) -> bool
-    ensures { result ≡ true → IsQuiet (outline animation_channel_kind
+    ensures { result ≡ quiet (outline animation_channel_kind
         (closed_object (animation_channel_members channel.now)) (C.context context.now)
         (closed_object (animation_members animation.now))) }
 {
-    for number in 0..usize::MAX {
-        match in_channel(channel, animation, number, context) {
-            Look::Quiet => {}
-            Look::Loud => return false,
-            Look::Over => return true,
-        }
-    }
-    false
+    sampler_fault(channel, animation).is_none() && channel.target.is_quiet(context)
 }
 
 /// The event at a number of the attributes of a primitive, as its rule looks at them.
-pub fn at_attributes<'a, E: EventBuilder<'a>, C: HasContext>(
-    faults: PositionFaults,
-    number: usize,
-    context: &C,
-) -> E
-    ensures comes { E.gives (C.context context.now)
-        (move_at (at_positions (faults_outline faults)) number) result }
-    ensures small { E.is_more result → number + 1 < 2 ^ 64 }
+pub fn at_attributes<'a>(faults: PositionFaults, number: usize) -> Event<'a>
+    ensures comes { (context : _)
+        → IsGiven context (move_at (at_positions (faults_outline faults)) number) result }
+    ensures small { IsMore result → number + 1 < 2 ^ 64 }
 {
     match number {
-        0 => E::enter(
-            Step::Key("POSITION"),
-            ValueRef::Positions(faults),
-            false,
-            context,
-        ),
-        _ => E::end(),
+        0 => Event::Enter(Step::Key("POSITION"), ValueRef::Positions(faults)),
+        _ => Event::End,
     }
 }
 
@@ -186,51 +160,59 @@ pub fn in_positions<'a, E: EventBuilder<'a>>(faults: PositionFaults, number: usi
 
 /// Whether nothing is wrong in the positions of a primitive.
 pub(crate) fn are_positions_quiet(faults: PositionFaults) -> bool
-    ensures { result ≡ true → IsQuiet (at_positions (faults_outline faults)) }
+    ensures positions { result ≡ quiet (faults_outline faults) }
+    ensures attributes { result ≡ quiet (at_positions (faults_outline faults)) }
 {
     faults.positions.is_none() && faults.min.is_none() && faults.max.is_none()
 }
 
 /// The required extension at a number.
-pub fn extension_at<'a, E: EventBuilder<'a>, C: HasContext>(
-    names: &'a Vec<String>,
-    number: usize,
-    context: &C,
-) -> E
-    ensures comes { E.gives (C.context context.now)
-        (move_at (place (item_outlines (name_outline (C.context context.now).rules.enabled) 0
-        (items_in (list_tree text_tree names.now.items))) []) number) result }
-    ensures small { E.is_more result → number + 1 < 2 ^ 64 }
+pub fn extension_at<'a>(names: &'a Vec<String>, number: usize) -> Event<'a>
+    ensures comes { (context : _) → IsGiven context (move_at (place (item_outlines
+        (name_outline context.rules.enabled) 0 (items_in (list_tree text_tree names.now.items))) [])
+        number) result }
+    ensures small { IsMore result → number + 1 < 2 ^ 64 }
 {
     match names.get(number) {
-        Some(name) => E::enter(
-            Step::Index(number),
-            ValueRef::RequiredExtension(name),
-            false,
-            context,
-        ),
-        None => E::end(),
+        Some(name) => Event::Enter(Step::Index(number), ValueRef::RequiredExtension(name)),
+        None => Event::End,
     }
 }
 
 /// The event at a number of the name of a required extension: the name, as a step.
-pub fn in_extension<'a, E: EventBuilder<'a>, C: HasContext>(
-    name: &'a String,
-    number: usize,
-    context: &C,
-) -> E
-    ensures comes { E.gives (C.context context.now)
+pub fn in_extension<'a, C: HasContext>(name: &'a String, number: usize, context: &C) -> Event<'a>
+    ensures comes { IsGiven (C.context context.now)
         (move_at (name_outline (C.context context.now).rules.enabled (text_tree name.now)) number)
         result }
-    ensures small { E.is_more result → number + 1 < 2 ^ 64 }
+    ensures small { IsMore result → number + 1 < 2 ^ 64 }
 {
     match number {
-        0 => E::enter(
+        0 => Event::Enter(
             Step::Value(name),
             ValueRef::Leaf(extension_fault(context.context().rules, name)),
-            false,
-            context,
         ),
-        _ => E::end(),
+        _ => Event::End,
     }
+}
+
+/// Whether nothing is wrong with the name of a required extension.
+pub fn is_name_quiet<C: HasContext>(name: &String, context: &C) -> bool
+    ensures { result ≡ quiet (name_outline (C.context context.now).rules.enabled
+        (text_tree name.now)) }
+{
+    extension_fault(context.context().rules, name).is_none()
+}
+
+/// Whether nothing is wrong with the names of the required extensions.
+pub(crate) fn are_names_quiet<C: HasContext>(names: &Vec<String>, context: &C) -> bool
+    ensures { result ≡ quiet (place (item_outlines
+        (name_outline (C.context context.now).rules.enabled) 0
+        (items_in (list_tree text_tree names.now.items))) []) }
+{
+    for name in names {
+        if !is_name_quiet(name, context) {
+            return false;
+        }
+    }
+    true
 }

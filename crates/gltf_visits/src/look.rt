@@ -1,9 +1,9 @@
-//! A look at a move: whether anything can be wrong there.
+//! A look at a move: whether anything is wrong there.
 
-ghost use Rattle.std.specs.Prelude.{◌≡◌, true};
+ghost use Rattle.std.specs.Prelude.{◌≡◌};
 ghost use Rattle.gltf_paths.specs.Steps.{Step as MathematicalStep};
 ghost use Rattle.gltf_visits.specs.Moves.{IsSeen, IsSomething};
-ghost use Rattle.gltf_visits.specs.Outline.{Outline, Move, down, IsQuiet};
+ghost use Rattle.gltf_visits.specs.Outline.{Outline, Move, down, quiet};
 
 use crate::event::EventBuilder;
 use crate::quiet::Quiet;
@@ -18,7 +18,7 @@ use gltf_faults::HasContext;
 pub enum Look {
     /// A step down to a value in which nothing is wrong.
     Quiet,
-    /// Something may be wrong.
+    /// Something is wrong: at the place itself, or in the value that the step leads to.
     Loud,
     /// Nothing more.
     Over,
@@ -27,8 +27,8 @@ pub enum Look {
 impl Look {
     /// What a look sees of a step down to a value that is quiet or not.
     fn quiet_if(is_quiet: bool) -> Look
-        ensures { (s : _) (p : Outline) (move : Move) → (is_quiet ≡ true → IsQuiet p)
-            → down s p ≡ move → IsSeen move result }
+        ensures { (s : _) (p : Outline) (move : Move) → is_quiet ≡ quiet p → down s p ≡ move
+            → IsSeen move result }
     {
         if is_quiet { Look::Quiet } else { Look::Loud }
     }

@@ -6,18 +6,20 @@ ghost use Rattle.gltf_schema.specs.Kind.{ListOf, Number};
 ghost use Rattle.gltf_schema.specs.Leaves.{checked_tree, choice_of};
 ghost use Rattle.gltf_schema.specs.Tree.{absent, tree_or_absent};
 ghost use Rattle.gltf_faults.specs.Context.{Context as MathematicalContext, context_of};
-ghost use Rattle.gltf_visits.specs.Outline.{IsQuiet, leaf, move_at};
+ghost use Rattle.gltf_visits.specs.Outline.{leaf, move_at, quiet};
 ghost use Rattle.gltf_visits.specs.OutlineOf.{outline};
 ghost use Rattle.gltf_visits.specs.References.{extensions_outline, invalid_if, material_outline, parameters_outline};
 ghost use Rattle.gltf_visits.specs.ValueRefs.{outline_of};
 ghost use Rattle.gltf_visits.specs.declared.value_ref.ValueRef.TheVariants.{Material as material_ref};
-ghost use Rattle.std.specs.Prelude.{◌≡◌, ◌+◌, ◌<◌, ◌^◌, true, refl};
+ghost use Rattle.std.specs.Prelude.{◌≡◌, ◌+◌, ◌<◌, ◌^◌, refl};
 
 use crate::always_valid::AlwaysValid;
 use crate::event::EventBuilder;
 use crate::events::Events;
-use crate::quiet::{Quiet, are_quiet, is_found_quiet};
-use crate::references::{MemberName, ReferenceState, TextureReference, index_state, member_state};
+use crate::quiet::{Quiet, are_quiet};
+use crate::references::{
+    MemberName, ReferenceState, TextureReference, index_state, is_reference_quiet, member_state,
+};
 use crate::value_ref::ValueRef;
 use crate::visitable::Visitable;
 use gltf_base::Step;
@@ -107,7 +109,7 @@ pub fn in_material<'a, E: EventBuilder<'a>, C: HasContext>(
         1 => E::enter(
             Step::Field("pbrMetallicRoughness"),
             parameters_ref(faults.base_color, faults.metallic_roughness),
-            false,
+            are_parameters_quiet(faults.base_color, faults.metallic_roughness),
             context,
         ),
         2 => E::reference_at("normalTexture", faults.normal),
@@ -148,18 +150,24 @@ fn parameters_ref<'a>(
     )
 }
 
+/// Whether nothing is wrong in the parameters of the metallic-roughness model.
+fn are_parameters_quiet(base_color: ReferenceState, metallic_roughness: ReferenceState) -> bool
+    ensures { result ≡ quiet (parameters_outline base_color metallic_roughness) }
+{
+    base_color.is_quiet() && metallic_roughness.is_quiet()
+}
+
 /// Whether nothing is wrong in a material.
 pub fn is_material_quiet<C: HasContext>(
     faults: &MaterialFaults,
     extensions: Option<&MaterialExtensions>,
     context: &C,
 ) -> bool
-    ensures { result ≡ true → IsQuiet (material_outline (C.context context.now) faults.now
+    ensures { result ≡ quiet (material_outline (C.context context.now) faults.now
         (tree_or_absent (λ e. material_extensions e.now) extensions.entry)) }
 {
     !faults.is_alpha_mode_invalid
-        && faults.base_color.is_quiet()
-        && faults.metallic_roughness.is_quiet()
+        && are_parameters_quiet(faults.base_color, faults.metallic_roughness)
         && faults.normal.is_quiet()
         && faults.occlusion.is_quiet()
         && faults.emissive.is_quiet()
@@ -168,7 +176,7 @@ pub fn is_material_quiet<C: HasContext>(
 
 /// Whether nothing is wrong in the extensions of a material.
 fn are_extensions_quiet<C: HasContext>(extensions: Option<&MaterialExtensions>, context: &C) -> bool
-    ensures { result ≡ true → IsQuiet (extensions_outline (C.context context.now)
+    ensures { result ≡ quiet (extensions_outline (C.context context.now)
         (tree_or_absent (λ e. material_extensions e.now) extensions.entry)) }
 {
     match extensions {
@@ -232,8 +240,10 @@ impl Visitable for PbrMetallicRoughness {
 }
 
 impl Quiet for PbrMetallicRoughness {
+    #[tactic(auto, unfolding(gltf_materials::specs::Material::pbr_metallic_roughness_rows, gltf_textures::specs::Texture::info_rows, gltf_materials::specs::Material::pbr_metallic_roughness_members))]
     fn is_quiet<C: HasContext>(&self, context: &C) -> bool {
-        is_found_quiet(self, context)
+        self.base_color_texture.is_quiet(context)
+            && self.metallic_roughness_texture.is_quiet(context)
     }
 }
 
@@ -256,7 +266,7 @@ impl TextureReference for NormalTexture {
 
 impl Quiet for NormalTexture {
     fn is_quiet<C: HasContext>(&self, context: &C) -> bool {
-        is_found_quiet(self, context)
+        is_reference_quiet(self, context)
     }
 }
 
@@ -279,7 +289,7 @@ impl TextureReference for OcclusionTexture {
 
 impl Quiet for OcclusionTexture {
     fn is_quiet<C: HasContext>(&self, context: &C) -> bool {
-        is_found_quiet(self, context)
+        is_reference_quiet(self, context)
     }
 }
 

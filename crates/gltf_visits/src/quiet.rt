@@ -1,10 +1,10 @@
-//! Whether anything is wrong in a value.
+//! Whether nothing is wrong in a value.
 
-ghost use Rattle.std.specs.Prelude.{◌≡◌, true};
+ghost use Rattle.std.specs.Prelude.{◌≡◌};
 ghost use Rattle.gltf_schema.specs.Fields.{list_tree};
 ghost use Rattle.gltf_schema.specs.Kind.{ListOf};
 ghost use Rattle.gltf_schema.specs.Tree.{absent};
-ghost use Rattle.gltf_visits.specs.Outline.{IsQuiet};
+ghost use Rattle.gltf_visits.specs.Outline.{quiet};
 ghost use Rattle.gltf_visits.specs.OutlineOf.{outline};
 
 use crate::always_valid::AlwaysValid;
@@ -23,11 +23,10 @@ use std::collections::BTreeMap;
 
 /// A value that one call looks at as a whole.
 pub trait Quiet: Visitable {
-    /// Whether nothing is wrong in the value or below it. If it returns `true`, the value has no
-    /// report.
+    /// Whether nothing is wrong in the value or below it.
     fn is_quiet<C: HasContext>(&self, context: &C) -> bool
-        ensures { result ≡ true → IsQuiet (outline Self.kind (Self.tree self.now)
-            (C.context context.now) absent) };
+        ensures { result ≡ quiet (outline Self.kind (Self.tree self.now) (C.context context.now)
+            absent) };
 }
 
 impl<T: AlwaysValid> Quiet for T {
@@ -79,7 +78,7 @@ impl Quiet for BTreeMap<Checked<Semantic>, Index<Accessor>> {
 
 /// Whether nothing is wrong in the items of a list.
 pub(crate) fn are_quiet<T: Quiet, C: HasContext>(items: &Vec<T>, context: &C) -> bool
-    ensures { result ≡ true → IsQuiet (outline (ListOf T.kind) (list_tree T.tree items.now.items)
+    ensures { result ≡ quiet (outline (ListOf T.kind) (list_tree T.tree items.now.items)
         (C.context context.now) absent) }
 {
     for item in items {
@@ -90,28 +89,19 @@ pub(crate) fn are_quiet<T: Quiet, C: HasContext>(items: &Vec<T>, context: &C) ->
     true
 }
 
-/// Whether nothing is wrong in a value of which `value_ref` finds all errors.
-pub(crate) fn is_found_quiet<T: Visitable, C: HasContext>(value: &T, context: &C) -> bool
-    ensures { result ≡ true → IsQuiet (outline T.kind (T.tree value.now)
-        (C.context context.now) absent) }
-{
-    value.value_ref(&context.context()).has_no_fault()
-}
-
 /// Whether nothing is wrong in an object.
 pub(crate) fn is_object_quiet<'a, T: Events<'a, Look>, C: HasContext>(
     object: &'a T,
     context: &C,
 ) -> bool
-    ensures { result ≡ true → IsQuiet (outline T.kind (T.tree object.now)
-        (C.context context.now) absent) }
+    ensures { result ≡ quiet (outline T.kind (T.tree object.now) (C.context context.now) absent) }
 {
-    for number in 0..usize::MAX {
+    let mut number = 0;
+    loop {
         match object.event(number, context) {
-            Look::Quiet => {}
+            Look::Quiet => number += 1,
             Look::Loud => return false,
             Look::Over => return true,
         }
     }
-    false
 }

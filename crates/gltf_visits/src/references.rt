@@ -1,12 +1,12 @@
 //! References to textures, and the objects in which only such references can be wrong.
 #![tactic(auto, using(crate::proofs::Past::past))]
 
-ghost use Rattle.std.specs.Prelude.{◌≡◌, ◌+◌, ◌<◌, ◌^◌, true};
+ghost use Rattle.std.specs.Prelude.{◌≡◌, ◌+◌, ◌<◌, ◌^◌};
 ghost use Rattle.gltf_schema.specs.Fields.{index_tree};
 ghost use Rattle.gltf_schema.specs.Tree.{absent, tree_or_absent};
 ghost use Rattle.gltf_faults.specs.Context.{Context as MathematicalContext, context_of};
 ghost use Rattle.gltf_visits.specs.Moves.{IsGiven, IsMore};
-ghost use Rattle.gltf_visits.specs.Outline.{IsQuiet, move_at};
+ghost use Rattle.gltf_visits.specs.Outline.{move_at, quiet};
 ghost use Rattle.gltf_visits.specs.OutlineOf.{outline};
 ghost use Rattle.gltf_visits.specs.References.{index_outline, one_texture, reference_outline, two_textures};
 
@@ -14,7 +14,7 @@ use crate::event::{Event, EventBuilder};
 use crate::visitable::Visitable;
 use gltf_base::Index;
 use gltf_base::validation::Error;
-use gltf_faults::{Context, index_fault};
+use gltf_faults::{Context, HasContext, index_fault};
 use gltf_textures::texture::Texture;
 
 /// What was found at a member that is a reference to a texture. Only its index can be wrong.
@@ -41,7 +41,7 @@ impl MemberName {
 impl ReferenceState {
     /// Whether nothing is wrong with the reference.
     pub(crate) fn is_quiet(self) -> bool
-        ensures { result ≡ true → IsQuiet (reference_outline self) }
+        ensures { result ≡ quiet (reference_outline self) }
     {
         match self {
             ReferenceState::Absent | ReferenceState::Resolved => true,
@@ -67,6 +67,16 @@ pub(crate) fn index_state(index: &Index<Texture>, context: &Context<'_>) -> Refe
         None => ReferenceState::Resolved,
         Some(_) => ReferenceState::OutOfBounds,
     }
+}
+
+/// Whether nothing is wrong in a reference to a texture.
+pub(crate) fn is_reference_quiet<T: TextureReference, C: HasContext>(
+    reference: &T,
+    context: &C,
+) -> bool
+    ensures { result ≡ quiet (outline T.kind (T.tree reference.now) (C.context context.now) absent) }
+{
+    reference.state(&context.context()).is_quiet()
 }
 
 /// What is found at a member that may be absent.

@@ -8,7 +8,7 @@ ghost use Rattle.std.specs.Prelude.{refl};
 use crate::always_valid::AlwaysValid;
 use crate::event::EventBuilder;
 use crate::events::Events;
-use crate::quiet::{Quiet, is_found_quiet, is_object_quiet};
+use crate::quiet::{Quiet, is_object_quiet};
 use crate::references::{MemberName, member_state};
 use crate::value_ref::ValueRef;
 use crate::visitable::Visitable;
@@ -71,8 +71,9 @@ impl Visitable for PbrSpecularGlossiness {
 }
 
 impl Quiet for PbrSpecularGlossiness {
+    #[tactic(auto, unfolding(gltf_shading::specs::MaterialExtension::pbr_specular_glossiness_rows, gltf_textures::specs::Texture::info_rows, gltf_shading::specs::MaterialExtension::pbr_specular_glossiness_members))]
     fn is_quiet<C: HasContext>(&self, context: &C) -> bool {
-        is_found_quiet(self, context)
+        self.diffuse_texture.is_quiet(context) && self.specular_glossiness_texture.is_quiet(context)
     }
 }
 
@@ -91,8 +92,9 @@ impl Visitable for Transmission {
 }
 
 impl Quiet for Transmission {
+    #[tactic(auto, unfolding(gltf_shading::specs::MaterialExtension::transmission_rows, gltf_textures::specs::Texture::info_rows, gltf_shading::specs::MaterialExtension::transmission_members))]
     fn is_quiet<C: HasContext>(&self, context: &C) -> bool {
-        is_found_quiet(self, context)
+        self.transmission_texture.is_quiet(context)
     }
 }
 
@@ -111,8 +113,9 @@ impl Visitable for Volume {
 }
 
 impl Quiet for Volume {
+    #[tactic(auto, unfolding(gltf_shading::specs::MaterialExtension::volume_rows, gltf_textures::specs::Texture::info_rows, gltf_shading::specs::MaterialExtension::volume_members))]
     fn is_quiet<C: HasContext>(&self, context: &C) -> bool {
-        is_found_quiet(self, context)
+        self.thickness_texture.is_quiet(context)
     }
 }
 
@@ -133,8 +136,9 @@ impl Visitable for Specular {
 }
 
 impl Quiet for Specular {
+    #[tactic(auto, unfolding(gltf_shading::specs::MaterialExtension::specular_rows, gltf_textures::specs::Texture::info_rows, gltf_shading::specs::MaterialExtension::specular_members))]
     fn is_quiet<C: HasContext>(&self, context: &C) -> bool {
-        is_found_quiet(self, context)
+        self.specular_texture.is_quiet(context) && self.specular_color_texture.is_quiet(context)
     }
 }
 

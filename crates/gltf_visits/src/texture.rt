@@ -8,8 +8,8 @@ ghost use Rattle.std.specs.Prelude.{refl};
 use crate::always_valid::AlwaysValid;
 use crate::event::EventBuilder;
 use crate::events::Events;
-use crate::quiet::{Quiet, are_quiet, is_found_quiet, is_object_quiet};
-use crate::references::{ReferenceState, TextureReference, index_state};
+use crate::quiet::{Quiet, are_quiet, is_object_quiet};
+use crate::references::{ReferenceState, TextureReference, index_state, is_reference_quiet};
 use crate::value_ref::ValueRef;
 use crate::visitable::Visitable;
 use gltf_faults::{Context, HasContext, source_fault};
@@ -126,7 +126,7 @@ impl TextureReference for Info {
 
 impl Quiet for Info {
     fn is_quiet<C: HasContext>(&self, context: &C) -> bool {
-        is_found_quiet(self, context)
+        is_reference_quiet(self, context)
     }
 }
 

@@ -1,10 +1,11 @@
 //! A borrowed value of a document.
 
-ghost use Rattle.std.specs.Prelude.{◌≡◌, true};
+ghost use Rattle.std.specs.Prelude.{◌≡◌, ◌&&◌};
 ghost use Rattle.gltf_faults.specs.Context.{Context as MathematicalContext};
-ghost use Rattle.gltf_visits.specs.ValueRefs.{outline_of};
-ghost use Rattle.gltf_visits.specs.Outline.{IsQuiet};
+ghost use Rattle.gltf_visits.specs.ValueRefs.{is_found, outline_of};
+ghost use Rattle.gltf_visits.specs.Outline.{quiet};
 
+use crate::lists::are_positions_quiet;
 use crate::material::MaterialFaults;
 use crate::references::{MemberName, ReferenceState};
 use gltf_animations::animation::{Animation, Channel, Sampler as AnimationSampler, Target};
@@ -100,10 +101,10 @@ pub enum ValueRef<'a> {
 }
 
 impl<'a> ValueRef<'a> {
-    /// Whether a value of which all errors were found has none.
+    /// Whether this is a value that holds all its errors, and holds none.
     pub fn has_no_fault(&self) -> bool
-        ensures { result ≡ true → (context : MathematicalContext)
-            → IsQuiet (outline_of context self.now) }
+        ensures { (context : MathematicalContext)
+            → result ≡ is_found self.now && quiet (outline_of context self.now) }
     {
         match self {
             ValueRef::Leaf(fault) => fault.is_none(),
@@ -111,6 +112,9 @@ impl<'a> ValueRef<'a> {
             ValueRef::TextureReference(state) => state.is_quiet(),
             ValueRef::OneTexture(state, _) => state.is_quiet(),
             ValueRef::TwoTextures(first, second, ..) => first.is_quiet() && second.is_quiet(),
+            ValueRef::AtPositions(faults) | ValueRef::Positions(faults) => {
+                are_positions_quiet(*faults)
+            }
             _ => false,
         }
     }

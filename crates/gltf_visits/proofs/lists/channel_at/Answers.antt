@@ -7,15 +7,13 @@ use Rattle.gltf_visits.proofs.Items.{item_comes, items_end}
 use Rattle.gltf_visits.proofs.lists.channel_at.Goals as goal
 
 pub returns-in-Some-clause-comes : goal.returns-in-Some-clause-comes
-returns-in-Some-clause-comes g c =
+returns-in-Some-clause-comes c context =
     let a = c.args.animation.now in
-    let context = g.C.HasContext.context c.args.context.now in
-    c.enter.ensures _ (item_comes (λ t. outline animation_channel_kind t context (closed_object (animation_members a))) (λ x. closed_object (animation_channel_members x))
-    a.channels.items _ c.args.number c.in-Some.channel.now (search rules) c.in-Some.ensures.lookup.3.0 c.in-Some.ensures.lookup.1)
+    item_comes (λ t. outline animation_channel_kind t context (closed_object (animation_members a))) (λ x. closed_object (animation_channel_members x))
+    a.channels.items _ c.args.number c.in-Some.channel.now (search rules) c.in-Some.ensures.lookup.3.0 c.in-Some.ensures.lookup.1
 
 pub returns-in-None-clause-comes : goal.returns-in-None-clause-comes
-returns-in-None-clause-comes g c =
+returns-in-None-clause-comes c context =
     let a = c.args.animation.now in
-    let context = g.C.HasContext.context c.args.context.now in
-    c.end.ensures.comes context _ (items_end (λ t. outline animation_channel_kind t context (closed_object (animation_members a))) (λ x. closed_object (animation_channel_members x))
-    a.channels.items c.args.number (search rules))
+    items_end (λ t. outline animation_channel_kind t context (closed_object (animation_members a))) (λ x. closed_object (animation_channel_members x))
+    a.channels.items c.args.number (search rules)

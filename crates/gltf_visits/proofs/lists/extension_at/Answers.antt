@@ -6,11 +6,9 @@ use Rattle.gltf_visits.proofs.Items.{item_comes, items_end}
 use Rattle.gltf_visits.proofs.lists.extension_at.Goals as goal
 
 pub returns-in-Some-clause-comes : goal.returns-in-Some-clause-comes
-returns-in-Some-clause-comes g c =
-    let context = g.C.HasContext.context c.args.context.now in
-    c.enter.ensures _ (item_comes (name_outline context.rules.enabled) text_tree c.args.names.now.items _ c.args.number c.in-Some.name.now (search rules) c.in-Some.ensures.lookup.3.0 c.in-Some.ensures.lookup.1)
+returns-in-Some-clause-comes c context =
+    item_comes (name_outline context.rules.enabled) text_tree c.args.names.now.items _ c.args.number c.in-Some.name.now (search rules) c.in-Some.ensures.lookup.3.0 c.in-Some.ensures.lookup.1
 
 pub returns-in-None-clause-comes : goal.returns-in-None-clause-comes
-returns-in-None-clause-comes g c =
-    let context = g.C.HasContext.context c.args.context.now in
-    c.end.ensures.comes context _ (items_end (name_outline context.rules.enabled) text_tree c.args.names.now.items c.args.number (search rules))
+returns-in-None-clause-comes c context =
+    items_end (name_outline context.rules.enabled) text_tree c.args.names.now.items c.args.number (search rules)

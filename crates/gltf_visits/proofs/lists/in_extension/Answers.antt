@@ -11,11 +11,10 @@ use Rattle.gltf_visits.proofs.lists.in_extension.Goals as goal
 
 pub returns-in-0-clause-comes : goal.returns-in-0-clause-comes
 returns-in-0-clause-comes g c =
-    let context = g.C.HasContext.context c.args.context.now in
     let s = string_bytes c.args.name.now in
     let here : c.deref.result.now ≡ s = search rules in
     let e : c.deref-in-0.result.now ≡ s = search rules in
     let enabled = (context_of c.context.result).rules.enabled in
     let at_name : Context → Outline = λ context. leaf_of (extension_faults context.rules.enabled (text s)) in
     let found = found_leaf (extension_faults enabled (text s)) _ (value s) (rw e at c.extension_fault.ensures) in
-    rw c.in-0.is ((rw here at c.enter.ensures) _ (ap (down (value s)) (found ∙ ap at_name c.context.ensures)))
+    rw (c.in-0.is, here) (ap (down (value s)) (found ∙ ap at_name c.context.ensures))

@@ -1,19 +1,27 @@
--- Each item that comes is quiet.
-use Rattle.std.proofs.Common.{rules, arith}
+-- An item that isn't quiet decides; past the last one all were quiet.
+use Rattle.std.proofs.Common.{◌≡◌, ◌∙◌, sym, rules, arith, true, false}
 use Rattle.gltf_schema.specs.Tree.{Tree, absent}
 use Rattle.gltf_visits.specs.Outline.{Outline}
 use Rattle.gltf_visits.specs.OutlineOf.{outline}
-use Rattle.gltf_visits.proofs.QuietOutlines.{from_item, past_items}
+use Rattle.gltf_visits.proofs.QuietOutlines.{quiet_item, loud_item, past_items}
 use Rattle.gltf_visits.proofs.quiet.are_quiet.Goals as goal
 
 pub loop-item-preserved : goal.loop-item-preserved
-loop-item-preserved g c q =
+loop-item-preserved g c =
     let v = g.T.Visitable in
     let f : Tree → Outline = λ t. outline v.kind t (g.C.HasContext.context c.args.context.now) absent in
-    c.loop-item.invariant (from_item f v.tree c.args.items.now.items c.loop-item.item-index c.item-item.result (omega arith) (search rules) (c.is_quiet.ensures (search rules)) q)
+    let yes : c.is_quiet.result ≡ true = search rules in
+    quiet_item f v.tree c.args.items.now.items c.loop-item.item-index c.item-item.result (omega arith) (search rules) (sym c.is_quiet.ensures ∙ yes) ∙ c.loop-item.invariant
+
+pub returns-then-not-is_quiet : goal.returns-then-not-is_quiet
+returns-then-not-is_quiet g c =
+    let v = g.T.Visitable in
+    let f : Tree → Outline = λ t. outline v.kind t (g.C.HasContext.context c.args.context.now) absent in
+    let no : c.is_quiet.result ≡ false = search rules in
+    loud_item f v.tree c.args.items.now.items c.loop-item.item-index c.item-item.result (omega arith) (search rules) (sym c.is_quiet.ensures ∙ no) c.loop-item.invariant
 
 pub returns : goal.returns
-returns g c h =
+returns g c =
     let v = g.T.Visitable in
     let f : Tree → Outline = λ t. outline v.kind t (g.C.HasContext.context c.args.context.now) absent in
-    c.loop-item.invariant (past_items f v.tree c.args.items.now.items c.loop-item.item-index (omega arith)) 0
+    past_items f v.tree c.args.items.now.items c.loop-item.item-index (omega arith) c.loop-item.invariant

@@ -1,12 +1,25 @@
--- What was looked at reports nothing.
+-- A move that isn't quiet decides; at the end all were quiet.
 use Rattle.std.proofs.Common.{◌∙◌}
 use Rattle.gltf_schema.specs.Tree.{absent}
+use Rattle.gltf_visits.specs.Outline.{rest_after}
 use Rattle.gltf_visits.specs.OutlineOf.{outline}
-use Rattle.gltf_visits.proofs.QuietOutlines.{passed}
+use Rattle.gltf_visits.proofs.QuietOutlines.{passed, stopped, ended}
 use Rattle.gltf_visits.proofs.quiet.is_object_quiet.Goals as goal
 
 pub loop-number-preserved : goal.loop-number-preserved
-loop-number-preserved g c base =
+loop-number-preserved g c =
     let v = g.T.Visitable in
-    let context = g.C.HasContext.context c.args.context.now in
-    c.loop-number.invariant base ∙ passed (outline v.kind (v.tree c.args.object.now) context absent) c.loop-number.number c.in-Quiet.ensures.comes base
+    let whole = outline v.kind (v.tree c.args.object.now) (g.C.HasContext.context c.args.context.now) absent in
+    passed whole c.loop-number.number c.in-Quiet.ensures.comes ∙ c.loop-number.invariant
+
+pub returns-in-Loud : goal.returns-in-Loud
+returns-in-Loud g c =
+    let v = g.T.Visitable in
+    let whole = outline v.kind (v.tree c.args.object.now) (g.C.HasContext.context c.args.context.now) absent in
+    stopped (rest_after whole c.loop-number.number) c.in-Loud.ensures.comes ∙ c.loop-number.invariant
+
+pub returns-in-Over : goal.returns-in-Over
+returns-in-Over g c =
+    let v = g.T.Visitable in
+    let whole = outline v.kind (v.tree c.args.object.now) (g.C.HasContext.context c.args.context.now) absent in
+    ended (rest_after whole c.loop-number.number) c.in-Over.ensures.comes ∙ c.loop-number.invariant

@@ -1,8 +1,7 @@
--- Nothing that was passed is reported.
-use Rattle.std.proofs.Common.{◌≡◌, List}
-use Rattle.gltf_paths.specs.Steps.{Step}
+-- The moves that are to come decide.
+use Rattle.std.proofs.Common.{◌≡◌, ◌-◌, ◌^◌}
 use Rattle.gltf_schema.specs.Tree.{absent}
-use Rattle.gltf_visits.specs.Outline.{reports_of, rest_after}
+use Rattle.gltf_visits.specs.Outline.{quiet, rest_after}
 use Rattle.gltf_visits.specs.OutlineOf.{outline}
 use Rattle.gltf_visits.proofs.quiet.is_object_quiet.Given as goal
 
@@ -10,4 +9,7 @@ abbrev pub invariant-loop-number : goal.invariant-loop-number
 invariant-loop-number g l =
     let v = g.T.Visitable in
     let whole = outline v.kind (v.tree l.object) (g.C.HasContext.context l.context) absent in
-    (base : List Step) → reports_of whole base ≡ reports_of (rest_after whole l.number) base
+    quiet (rest_after whole l.number) ≡ quiet whole
+
+abbrev pub decreases-loop-number : goal.decreases-loop-number
+decreases-loop-number g l = 2 ^ 64 - l.number

@@ -1,10 +1,11 @@
 -- Each move leaves what is still to come, less what it reports.
-use Rattle.std.proofs.Common.{arith, rules, ap, sym, ◌∙◌, ◌++◌, ◌∷◌, [], length, map, ◌≡◌, ◌-◌}
+use Rattle.std.proofs.Common.{arith, rules, ap, sym, ◌∙◌, ◌++◌, ◌∷◌, [], length, map, ◌≡◌, ◌-◌, true}
 use Rattle.std.proofs.lemmas.List.{length-take}
 use Rattle.gltf_paths.specs.Steps.{step_of}
 use Rattle.gltf_visits.specs.ValueRefs.{outline_of}
 use Rattle.gltf_walk.specs.Rest.{outline_left, outlines_left}
-use Rattle.gltf_visits.specs.Outline.{height, IsQuiet}
+use Rattle.gltf_visits.specs.Outline.{height}
+use Rattle.gltf_visits.proofs.QuietOutlines.{looked_at}
 use Rattle.gltf_walk.specs.Stacks.{to_come_of}
 use Rattle.gltf_walk.specs.ToCome.{context_in}
 use Rattle.gltf_walk.proofs.Stacks.{weight, reported_by, weight_by, weight_move, weight_least}
@@ -97,13 +98,14 @@ loop-frame-preserved c =
     let d = c.push-in-Enter.ensures.items in
     let next = c.in-Enter.ensures.rest tt ∙ left_one (outline_left context c.in-Some.frame) in
     let steps = map step_of c.loop-frame.self.steps.items in
-    let quiet : IsQuiet (outline_of context c.in-Enter.value) = c.is_quiet.ensures (search rules) in
+    let yes : c.is_quiet.result ≡ true = search rules in
+    let silent = looked_at _ (outline_of context c.in-Enter.value) (sym c.is_quiet.ensures ∙ yes) in
     let below = to_come_of steps (outlines_left context c.push-in-Enter.new.self.items) in
     let stays = moved_fits context _ _ _ c.in-Some.frame c.next_event.new.frame e d next in
     record {
       same = c.loop-frame.invariant.same
           ∙ (move_made context _ _ _ c.in-Some.frame c.next_event.new.frame c.loop-frame.self.steps.items e d next c.loop-frame.self.beside
-          ∙ (ap (λ m. reported_by m steps ++ below) (sym c.in-Enter.ensures.comes) ∙ ap (λ rs. rs ++ below) (quiet (steps ++ step_of c.in-Enter.step ∷ []))));
+          ∙ (ap (λ m. reported_by m steps ++ below) (sym c.in-Enter.ensures.comes) ∙ ap (λ rs. rs ++ below) (silent (steps ++ step_of c.in-Enter.step ∷ []))));
       base = omega (arith, c.loop-frame.invariant.base, frames_length _ _ _ e, frames_length _ _ _ d);
       depth = omega (arith, c.loop-frame.invariant.depth, stays);
     }

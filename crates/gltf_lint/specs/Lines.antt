@@ -10,6 +10,7 @@ use Rattle.gltf_sinks.specs.Report.{Report}
 use Rattle.gltf_devices.specs.Device.{saturated}
 use Rattle.gltf_lint.specs.declared.arguments.Format.{Format}
 use Rattle.gltf_lint.specs.declared.arguments.Format.TheVariants.{Text, Json}
+use Rattle.gltf_lint.specs.declared.tally.Tally.{Tally}
 
 -- a text with the end of its line
 abbrev pub line : List ℕ → List ℕ
@@ -34,6 +35,19 @@ rest_data file rest = object (member (codes "file") (string file) (member (codes
 abbrev pub rest_line : Format → List ℕ → ℕ → List ℕ
 rest_line Text file rest = line (file ++ codes ": and " ++ decimal rest ++ codes " more")
 rest_line Json file rest = line (compact_text (rest_data file rest))
+
+-- that a file is refused, as text
+abbrev pub refused_line : List ℕ → List ℕ → List ℕ
+refused_line file why = line (file ++ codes ": refused: " ++ why)
+
+-- the counts of all files, as JSON and as text
+abbrev pub summary_data : Tally → Data
+summary_data t = object (member (codes "faults") (number (unsigned t.faults))
+    (member (codes "files") (number (unsigned t.files))
+    (member (codes "refused") (number (unsigned t.refused)) no_members)))
+
+abbrev pub counts_line : Tally → List ℕ
+counts_line t = line (codes "files: " ++ decimal t.files ++ codes ", faults: " ++ decimal t.faults ++ codes ", refused: " ++ decimal t.refused)
 
 -- the line behind those of the reports, if not all of them are printed
 abbrev pub end_line : Format → List ℕ → ℕ → ℕ → List ℕ

@@ -10,8 +10,6 @@ mod messages;
 mod refusal;
 mod reports;
 mod tally;
-#[cfg(test)]
-mod tests;
 
 use anyhow::Result;
 use arguments::{Options, command, enabled_extensions};

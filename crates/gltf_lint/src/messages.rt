@@ -1,5 +1,9 @@
 //! The lines that are no reports.
 
+ghost use Rattle.std.specs.Prelude.{◌≡◌, ◌++◌, IfOk, OnOk, string_bytes};
+ghost use Rattle.serde_json.specs.View.{view};
+ghost use Rattle.gltf_lint.specs.Lines.{counts_line, refused_line, summary_data};
+
 use crate::arguments::Format;
 use crate::refusal::Refusal;
 use crate::reports::push_value;
@@ -27,6 +31,14 @@ fn refusal_value(alloc: Global, file: &str, refusal: &Refusal) -> Result<Value, 
     })
 }
 
+/// Appends the text for a file that is refused.
+fn push_refused(lines: &mut String, file: &str, why: &str) -> Result<(), AllocError>
+    ensures { OnOk result (string_bytes lines.new
+        ≡ string_bytes lines.old ++ refused_line file.now why.now) }
+{
+    writeln!(lines, "{file}: refused: {why}")
+}
+
 /// The line for a file that is refused.
 pub fn refusal_line(
     alloc: Global,
@@ -36,14 +48,16 @@ pub fn refusal_line(
 ) -> Result<String, AllocError> {
     let mut line = String::new(alloc);
     match format {
-        Format::Text => writeln!(line, "{file}: refused: {refusal}")?,
+        Format::Text => push_refused(&mut line, file, &refusal.to_string(alloc)?)?,
         Format::Json => push_value(alloc, &mut line, &refusal_value(alloc, file, refusal)?)?,
     }
     Ok(line)
 }
 
 /// The counts as a JSON object.
-fn summary_value(alloc: Global, tally: &Tally) -> Result<Value, AllocError> {
+fn summary_value(alloc: Global, tally: &Tally) -> Result<Value, AllocError>
+    ensures { IfOk result (λ value. view value ≡ summary_data tally.now) }
+{
     json!(in alloc; {
         "faults": tally.faults,
         "files": tally.files,
@@ -51,12 +65,22 @@ fn summary_value(alloc: Global, tally: &Tally) -> Result<Value, AllocError> {
     })
 }
 
+/// Appends the counts as text.
+fn push_counts(lines: &mut String, tally: &Tally) -> Result<(), AllocError>
+    ensures { OnOk result (string_bytes lines.new ≡ string_bytes lines.old ++ counts_line tally.now) }
+{
+    let (files, faults, refused) = (tally.files, tally.faults, tally.refused);
+    writeln!(
+        lines,
+        "files: {files}, faults: {faults}, refused: {refused}"
+    )
+}
+
 /// The line behind those of all files.
 pub fn summary_line(alloc: Global, format: Format, tally: &Tally) -> Result<String, AllocError> {
     let mut line = String::new(alloc);
-    let (files, faults, refused) = (tally.files, tally.faults, tally.refused);
     match format {
-        Format::Text => writeln!(line, "files: {files}, faults: {faults}, refused: {refused}")?,
+        Format::Text => push_counts(&mut line, tally)?,
         Format::Json => push_value(alloc, &mut line, &summary_value(alloc, tally)?)?,
     }
     Ok(line)

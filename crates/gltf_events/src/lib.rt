@@ -5,15 +5,30 @@ ghost use Rattle.std.specs.Prelude.{◌≡◌, ◌+◌, ◌<◌, ◌^◌, ◌&&�
 ghost use Rattle.gltf_faults.specs.Context.{context_of};
 ghost use Rattle.gltf_visits.specs.ValueRefs.{outline_of, is_looked_at, IsNumbered};
 ghost use Rattle.gltf_visits.specs.Moves.{IsGiven, IsMore};
-ghost use Rattle.gltf_visits.specs.Outline.{move_at, quiet};
+ghost use Rattle.gltf_visits.specs.Outline.{Move, move_at, quiet};
 
 use gltf_faults::{Context, HasContext};
 use gltf_visits::{
-    Event, Events, Quiet, ValueRef, at_attributes, at_material, channel_at, extension_at,
-    in_attribute, in_channel, in_extension, in_material, in_one_texture, in_positions,
-    in_reference, in_two_textures, is_channel_quiet, is_material_quiet, is_name_quiet, item_at,
-    leaf_at,
+    Event, EventBuilder, Events, Quiet, ValueRef, at_attributes, at_material, channel_at,
+    extension_at, in_attribute, in_channel, in_extension, in_material, in_one_texture,
+    in_positions, in_reference, in_two_textures, is_channel_quiet, is_material_quiet,
+    is_name_quiet, item_at, leaf_at,
 };
+
+/// What can be made of an event.
+trait FromEvent<'a>: EventBuilder<'a> {
+    /// The same move.
+    fn from_event(event: Event<'a>) -> Self
+        ensures comes { (context : _) (move : Move) → IsGiven context move event.entry
+            → Self.gives context move result }
+        ensures small { Self.is_more result → IsMore event.entry };
+}
+
+impl<'a> FromEvent<'a> for Event<'a> {
+    fn from_event(event: Event<'a>) -> Event<'a> {
+        event
+    }
+}
 
 /// The event at a number of a value.
 pub fn event<'a>(value: ValueRef<'a>, number: usize, context: &Context<'_>) -> Event<'a>
@@ -22,16 +37,31 @@ pub fn event<'a>(value: ValueRef<'a>, number: usize, context: &Context<'_>) -> E
         (move_at (outline_of (context_of context.now) value.entry) number) result }
     ensures small { IsMore result → number + 1 < 2 ^ 64 }
 {
+    event_of(value, number, context)
+}
+
+/// [`event`] as anything that can be made of one. Code that doesn't name `Event` and `Context` is
+/// cheaper to prove.
+fn event_of<'a, E: FromEvent<'a>, C: HasContext>(
+    value: ValueRef<'a>,
+    number: usize,
+    context: &C,
+) -> E
+    requires { IsNumbered value }
+    ensures comes { E.gives (C.context context.now)
+        (move_at (outline_of (C.context context.now) value.entry) number) result }
+    ensures small { E.is_more result → number + 1 < 2 ^ 64 }
+{
     match value {
         ValueRef::Leaf(fault) => leaf_at(fault, number),
-        ValueRef::Channels(animation) => channel_at(animation, number),
+        ValueRef::Channels(animation) => E::from_event(channel_at(animation, number)),
         ValueRef::Channel(channel, animation) => in_channel(channel, animation, number, context),
         ValueRef::Attributes(_) => unreachable!(),
         ValueRef::Attribute(key, index) => in_attribute(key, index, number),
-        ValueRef::AtPositions(faults) => at_attributes(faults, number),
+        ValueRef::AtPositions(faults) => E::from_event(at_attributes(faults, number)),
         ValueRef::Positions(faults) => in_positions(faults, number),
-        ValueRef::RequiredExtensions(names) => extension_at(names, number),
-        ValueRef::RequiredExtension(name) => in_extension(name, number, context),
+        ValueRef::RequiredExtensions(names) => E::from_event(extension_at(names, number)),
+        ValueRef::RequiredExtension(name) => E::from_event(in_extension(name, number, context)),
         ValueRef::NodeIndexes(indexes) => item_at(indexes, number, context),
         ValueRef::Accessors(items) => item_at(items, number, context),
         ValueRef::Accessor(object) => object.event(number, context),
@@ -50,13 +80,9 @@ pub fn event<'a>(value: ValueRef<'a>, number: usize, context: &Context<'_>) -> E
         ValueRef::Material(faults, extensions) => at_material(faults, extensions, number, context),
         ValueRef::PlainMaterial(faults) => in_material(faults, None, number, context),
         ValueRef::TextureReference(state) => in_reference(state, number),
-        ValueRef::OneTexture(state, name) => in_one_texture(state, name, number),
-        ValueRef::TwoTextures(first, second, first_name, second_name) => in_two_textures(
-            first,
-            second,
-            first_name,
-            second_name,
-            number,
+        ValueRef::OneTexture(state, name) => E::from_event(in_one_texture(state, name, number)),
+        ValueRef::TwoTextures(first, second, first_name, second_name) => E::from_event(
+            in_two_textures(first, second, first_name, second_name, number),
         ),
         ValueRef::Meshes(items) => item_at(items, number, context),
         ValueRef::Mesh(object) => object.event(number, context),

@@ -1,5 +1,5 @@
 -- The outlines of the objects of a material, from what was found in them.
-use Rattle.std.specs.Prelude.{[], Bool, cond, codes, Option, Some, None}
+use Rattle.std.specs.Prelude.{ℕ, List, [], Bool, cond, codes, Option, Some, None}
 use Rattle.gltf_paths.specs.Lists.{textures}
 use Rattle.gltf_paths.specs.Steps.{field}
 use Rattle.gltf_paths.specs.declared.validation.Error.{Error}
@@ -10,10 +10,11 @@ use Rattle.gltf_schema.specs.Tree.{Tree, absent}
 use Rattle.gltf_faults.specs.Context.{Context}
 use Rattle.gltf_visits.specs.Outline.{Outline, place, nothing, below, leaf}
 use Rattle.gltf_visits.specs.OutlineOf.{outline}
-use Rattle.gltf_visits.specs.declared.references.MemberName.{MemberName}
 use Rattle.gltf_visits.specs.declared.references.ReferenceState.{ReferenceState}
 use Rattle.gltf_visits.specs.declared.references.ReferenceState.TheVariants as reference_state
 use Rattle.gltf_visits.specs.declared.material.MaterialFaults.{MaterialFaults}
+use Rattle.gltf_visits.specs.declared.shading.MemberName.{MemberName}
+use Rattle.gltf_visits.specs.declared.shading.MemberName.TheVariants as member_name
 
 -- a reference to a texture, by what was found there
 abbrev pub reference_outline : ReferenceState → Outline
@@ -25,12 +26,23 @@ reference_outline reference_state.OutOfBounds = place (below (field (codes "inde
 abbrev pub index_outline : Context → Tree → Outline
 index_outline context t = place (below (field (codes "index")) (outline (IndexInto textures) t context absent) nothing) []
 
+-- the names of members that refer to textures
+abbrev pub member_text : MemberName → List ℕ
+member_text member_name.BaseColorTexture = codes "baseColorTexture"
+member_text member_name.MetallicRoughnessTexture = codes "metallicRoughnessTexture"
+member_text member_name.DiffuseTexture = codes "diffuseTexture"
+member_text member_name.SpecularGlossinessTexture = codes "specularGlossinessTexture"
+member_text member_name.TransmissionTexture = codes "transmissionTexture"
+member_text member_name.ThicknessTexture = codes "thicknessTexture"
+member_text member_name.SpecularTexture = codes "specularTexture"
+member_text member_name.SpecularColorTexture = codes "specularColorTexture"
+
 -- objects in which one reference or two can be wrong
 abbrev pub one_texture : ReferenceState → MemberName → Outline
-one_texture s n = place (below (field n.0.now.now) (reference_outline s) nothing) []
+one_texture s n = place (below (field (member_text n)) (reference_outline s) nothing) []
 
 abbrev pub two_textures : ReferenceState → ReferenceState → MemberName → MemberName → Outline
-two_textures s r n m = place (below (field n.0.now.now) (reference_outline s) (below (field m.0.now.now) (reference_outline r) nothing)) []
+two_textures s r n m = place (below (field (member_text n)) (reference_outline s) (below (field (member_text m)) (reference_outline r) nothing)) []
 
 -- the extensions of a material, or none
 abbrev pub extensions_outline : Context → Tree → Outline

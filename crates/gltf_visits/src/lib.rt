@@ -32,6 +32,7 @@ pub use lists::{
 pub use look::Look;
 pub use material::{MaterialFaults, at_material, in_material, is_material_quiet};
 pub use quiet::Quiet;
-pub use references::{MemberName, ReferenceState, in_one_texture, in_reference, in_two_textures};
+pub use references::{ReferenceState, in_one_texture, in_reference, in_two_textures};
+pub use shading::MemberName;
 pub use value_ref::ValueRef;
 pub use visitable::Visitable;

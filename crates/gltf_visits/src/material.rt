@@ -18,8 +18,9 @@ use crate::event::EventBuilder;
 use crate::events::Events;
 use crate::quiet::{Quiet, are_quiet};
 use crate::references::{
-    MemberName, ReferenceState, TextureReference, index_state, is_reference_quiet, member_state,
+    ReferenceState, TextureReference, index_state, is_reference_quiet, member_state,
 };
+use crate::shading::MemberName;
 use crate::value_ref::ValueRef;
 use crate::visitable::Visitable;
 use gltf_base::Step;
@@ -145,8 +146,8 @@ fn parameters_ref<'a>(
     ValueRef::TwoTextures(
         base_color,
         metallic_roughness,
-        MemberName(&"baseColorTexture"),
-        MemberName(&"metallicRoughnessTexture"),
+        MemberName::BaseColorTexture,
+        MemberName::MetallicRoughnessTexture,
     )
 }
 

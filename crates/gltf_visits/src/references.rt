@@ -11,6 +11,7 @@ ghost use Rattle.gltf_visits.specs.OutlineOf.{outline};
 ghost use Rattle.gltf_visits.specs.References.{index_outline, one_texture, reference_outline, two_textures};
 
 use crate::event::{Event, EventBuilder};
+use crate::shading::MemberName;
 use crate::visitable::Visitable;
 use gltf_base::Index;
 use gltf_base::validation::Error;
@@ -23,19 +24,6 @@ pub enum ReferenceState {
     Absent,
     Resolved,
     OutOfBounds,
-}
-
-/// The name of a member.
-#[derive(Clone, Copy, Drop)]
-pub struct MemberName(pub(crate) &'static &'static str);
-
-impl MemberName {
-    fn text(self) -> &'static str
-        ensures { result.now ≡ self.0.now.now }
-    {
-        let text = self.0;
-        *text
-    }
 }
 
 impl ReferenceState {

@@ -3,13 +3,14 @@
 ghost use Rattle.gltf_shading.specs.MaterialExtension.{material_extensions_kind, pbr_specular_glossiness_kind, transmission_kind, volume_kind, specular_kind, unlit_kind, ior_kind, ior_rows, emissive_strength_kind, emissive_strength_rows, pbr_specular_glossiness_tree, transmission_members, volume_members, specular_members, unlit_tree, ior_members, emissive_strength_members};
 ghost use Rattle.gltf_materials.specs.Material.{material_extensions};
 ghost use Rattle.gltf_schema.specs.Fields.{closed_object};
-ghost use Rattle.std.specs.Prelude.{refl};
+ghost use Rattle.std.specs.Prelude.{◌≡◌, refl};
+ghost use Rattle.gltf_visits.specs.References.{member_text};
 
 use crate::always_valid::AlwaysValid;
 use crate::event::EventBuilder;
 use crate::events::Events;
 use crate::quiet::{Quiet, is_object_quiet};
-use crate::references::{MemberName, member_state};
+use crate::references::member_state;
 use crate::value_ref::ValueRef;
 use crate::visitable::Visitable;
 use gltf_faults::{Context, HasContext};
@@ -20,6 +21,37 @@ use gltf_shading::extensions::material::{
     SpecularColorFactor, SpecularFactor, ThicknessFactor, Transmission, TransmissionFactor, Unlit,
     Volume,
 };
+
+/// The members that refer to textures, of the parameters and the extension objects of materials.
+#[derive(Clone, Copy, Drop)]
+pub enum MemberName {
+    BaseColorTexture,
+    MetallicRoughnessTexture,
+    DiffuseTexture,
+    SpecularGlossinessTexture,
+    TransmissionTexture,
+    ThicknessTexture,
+    SpecularTexture,
+    SpecularColorTexture,
+}
+
+impl MemberName {
+    /// The name in a document.
+    pub(crate) fn text(self) -> &'static str
+        ensures { result.now ≡ member_text self }
+    {
+        match self {
+            MemberName::BaseColorTexture => "baseColorTexture",
+            MemberName::MetallicRoughnessTexture => "metallicRoughnessTexture",
+            MemberName::DiffuseTexture => "diffuseTexture",
+            MemberName::SpecularGlossinessTexture => "specularGlossinessTexture",
+            MemberName::TransmissionTexture => "transmissionTexture",
+            MemberName::ThicknessTexture => "thicknessTexture",
+            MemberName::SpecularTexture => "specularTexture",
+            MemberName::SpecularColorTexture => "specularColorTexture",
+        }
+    }
+}
 
 impl Visitable for extensions::Material {
     ghost kind = { material_extensions_kind };
@@ -64,8 +96,8 @@ impl Visitable for PbrSpecularGlossiness {
         ValueRef::TwoTextures(
             member_state(&self.diffuse_texture, context),
             member_state(&self.specular_glossiness_texture, context),
-            MemberName(&"diffuseTexture"),
-            MemberName(&"specularGlossinessTexture"),
+            MemberName::DiffuseTexture,
+            MemberName::SpecularGlossinessTexture,
         )
     }
 }
@@ -86,7 +118,7 @@ impl Visitable for Transmission {
     fn value_ref<'a>(&'a self, context: &Context<'_>) -> ValueRef<'a> {
         ValueRef::OneTexture(
             member_state(&self.transmission_texture, context),
-            MemberName(&"transmissionTexture"),
+            MemberName::TransmissionTexture,
         )
     }
 }
@@ -107,7 +139,7 @@ impl Visitable for Volume {
     fn value_ref<'a>(&'a self, context: &Context<'_>) -> ValueRef<'a> {
         ValueRef::OneTexture(
             member_state(&self.thickness_texture, context),
-            MemberName(&"thicknessTexture"),
+            MemberName::ThicknessTexture,
         )
     }
 }
@@ -129,8 +161,8 @@ impl Visitable for Specular {
         ValueRef::TwoTextures(
             member_state(&self.specular_texture, context),
             member_state(&self.specular_color_texture, context),
-            MemberName(&"specularTexture"),
-            MemberName(&"specularColorTexture"),
+            MemberName::SpecularTexture,
+            MemberName::SpecularColorTexture,
         )
     }
 }

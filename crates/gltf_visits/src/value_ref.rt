@@ -7,7 +7,8 @@ ghost use Rattle.gltf_visits.specs.Outline.{quiet};
 
 use crate::lists::are_positions_quiet;
 use crate::material::MaterialFaults;
-use crate::references::{MemberName, ReferenceState};
+use crate::references::ReferenceState;
+use crate::shading::MemberName;
 use gltf_animations::animation::{Animation, Channel, Sampler as AnimationSampler, Target};
 use gltf_base::Index;
 use gltf_base::mesh::Semantic;

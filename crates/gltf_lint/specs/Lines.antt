@@ -46,8 +46,8 @@ summary_data t = object (member (codes "faults") (number (unsigned t.faults))
     (member (codes "files") (number (unsigned t.files))
     (member (codes "refused") (number (unsigned t.refused)) no_members)))
 
-abbrev pub counts_line : Tally → List ℕ
-counts_line t = line (codes "files: " ++ decimal t.files ++ codes ", faults: " ++ decimal t.faults ++ codes ", refused: " ++ decimal t.refused)
+abbrev pub summary_text : Tally → List ℕ
+summary_text t = line (codes "files: " ++ decimal t.files ++ codes ", faults: " ++ decimal t.faults ++ codes ", refused: " ++ decimal t.refused)
 
 -- the line behind those of the reports, if not all of them are printed
 abbrev pub end_line : Format → List ℕ → ℕ → ℕ → List ℕ

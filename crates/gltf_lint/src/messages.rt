@@ -2,7 +2,7 @@
 
 ghost use Rattle.std.specs.Prelude.{◌≡◌, ◌++◌, IfOk, OnOk, string_bytes};
 ghost use Rattle.serde_json.specs.View.{view};
-ghost use Rattle.gltf_lint.specs.Lines.{counts_line, refused_line, summary_data};
+ghost use Rattle.gltf_lint.specs.Lines.{refused_line, summary_data, summary_text};
 
 use crate::arguments::Format;
 use crate::refusal::Refusal;
@@ -66,8 +66,9 @@ fn summary_value(alloc: Global, tally: &Tally) -> Result<Value, AllocError>
 }
 
 /// Appends the counts as text.
-fn push_counts(lines: &mut String, tally: &Tally) -> Result<(), AllocError>
-    ensures { OnOk result (string_bytes lines.new ≡ string_bytes lines.old ++ counts_line tally.now) }
+fn push_summary(lines: &mut String, tally: &Tally) -> Result<(), AllocError>
+    ensures { OnOk result (string_bytes lines.new
+        ≡ string_bytes lines.old ++ summary_text tally.now) }
 {
     let (files, faults, refused) = (tally.files, tally.faults, tally.refused);
     writeln!(
@@ -80,7 +81,7 @@ fn push_counts(lines: &mut String, tally: &Tally) -> Result<(), AllocError>
 pub fn summary_line(alloc: Global, format: Format, tally: &Tally) -> Result<String, AllocError> {
     let mut line = String::new(alloc);
     match format {
-        Format::Text => push_counts(&mut line, tally)?,
+        Format::Text => push_summary(&mut line, tally)?,
         Format::Json => push_value(alloc, &mut line, &summary_value(alloc, tally)?)?,
     }
     Ok(line)

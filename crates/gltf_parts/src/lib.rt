@@ -95,17 +95,17 @@ pub mod laws {
 
     /// Of the factors of materials.
     pub mod material {
-        pub use gltf_materials::laws::factors_are_absent_by_default;
+        pub use gltf_materials::laws::{defaults_are_listed, factors_are_absent_by_default};
     }
 
     /// Of the factors of materials' extensions.
     pub mod shading {
-        pub use gltf_shading::laws::factors_are_absent_by_default;
+        pub use gltf_shading::laws::{defaults_are_listed, factors_are_absent_by_default};
     }
 
     /// Of the factors of textures' extensions.
     pub mod texture {
-        pub use gltf_textures::laws::factors_are_absent_by_default;
+        pub use gltf_textures::laws::{defaults_are_listed, factors_are_absent_by_default};
     }
 }
 

@@ -5,9 +5,10 @@ It writes crates/gltf_corpus/data/objects.json. What is expected is worked out b
 taken from the program.
 
 objects.json has the values that stand in for each member in turn; the names of the fields that a
-Debug text has; for each object its place, a document in which each of its members has a value that
-isn't its default, and for each member a line that says what becomes of the values; and the objects
-of object_forms.py, each as the member of a document that holds it, with such a line.
+Debug text has; what absent numbers mean; for each object its place, a document in which each of its
+members has a value that isn't its default, and for each member a line that says what becomes of the
+values; and the objects of object_forms.py, each as the member of a document that holds it, with
+such a line.
 """
 import collections
 import json
@@ -15,7 +16,8 @@ import pathlib
 import re
 
 from object_forms import FORMS
-from table import ABSENT, CHOICES, INVALID, KEEPERS, OBJECTS, REFUSED, answer, answer_of_object
+from table import ABSENT, CHOICES, INVALID, KEEPERS, MEANT, OBJECTS, REFUSED
+from table import answer, answer_of_object
 
 CORPUS = pathlib.Path(__file__).resolve().parent.parent / "crates" / "gltf_corpus"
 
@@ -210,6 +212,7 @@ def data():
     """What the program reads."""
     yield f'{{"values":{compact(VALUES)},'
     yield f'"fields":{compact(collections.Counter(fields_of("Root")))},'
+    yield f'"absent":{compact(MEANT)},'
     yield '"objects":['
     yield from objects()
     yield f'],"least":{compact(least("Root"))},'

@@ -1,8 +1,8 @@
 #!/usr/bin/env python3
 """gen_objects.py: what gltf_corpus tries at each object of the format, and what it expects.
 
-It writes crates/gltf_corpus/data/objects.json. What is expected is worked out by table.py, never
-taken from the program.
+It writes crates/gltf_corpus/data/objects.json, or compares it (`--check`). What is expected is
+worked out by table.py, never taken from the program.
 
 objects.json has the values that stand in for each member in turn; the names of the fields that a
 Debug text has; what absent numbers mean; for each object its place, a document in which each of its
@@ -12,14 +12,15 @@ such a line.
 """
 import collections
 import json
-import pathlib
 import re
 
 from object_forms import FORMS
+from settle import settle
+from sources import ROOT
 from table import ABSENT, CHOICES, INVALID, KEEPERS, MEANT, OBJECTS, REFUSED
 from table import answer, answer_of_object
 
-CORPUS = pathlib.Path(__file__).resolve().parent.parent / "crates" / "gltf_corpus"
+CORPUS = ROOT / "crates" / "gltf_corpus"
 
 # The name of a member that no object has.
 UNKNOWN = "zz"
@@ -222,4 +223,4 @@ def data():
 
 
 if __name__ == "__main__":
-    (CORPUS / "data" / "objects.json").write_text("".join(f"{line}\n" for line in data()))
+    settle({CORPUS / "data" / "objects.json": "".join(f"{line}\n" for line in data())})

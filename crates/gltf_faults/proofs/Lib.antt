@@ -13,3 +13,9 @@ pub mod Parting
 pub mod Primitives
 pub mod Silent
 pub mod Enabled
+pub mod InvalidReported
+pub mod ReportedData
+pub mod ReportedMaterials
+pub mod ReportedScenes
+pub mod ReportedDocuments
+pub mod PlainPushes

@@ -63,12 +63,16 @@ compact_of d ts bytes w printed back utf8 =
     }
 
 pretty_of : (d : Data) (ts : List Token) (bytes : List ℕ) → WritesValue d [] ts → tokens bytes ≡ ts → bytes ≡ pretty_print ts → IsUtf8 bytes → IsPretty d bytes
-pretty_of d ts bytes w same printed utf8 = record {
-  utf8 = utf8;
-  laid_out = printed ∙ ap pretty_print (sym same);
-  in_order = in_order d ts bytes w same;
-  reads_back = read_again d ts bytes w same;
-}
+pretty_of d ts bytes w same printed utf8 =
+    let laid_out : bytes ≡ pretty_print (tokens bytes) = printed ∙ ap pretty_print (sym same) in
+    let order = in_order d ts bytes w same in
+    record {
+      utf8 = utf8;
+      exact = λ none. laid_out ∙ ap pretty_print (tokens_from_order bytes d order none);
+      laid_out = laid_out;
+      in_order = order;
+      reads_back = read_again d ts bytes w same;
+    }
 
 -- the text in one line, from what a writer had at first and has at the end
 pub compact_bytes : (d : Option Data) (old ts : List Token) (before start bytes : List ℕ) → IsSomeAnd d (λ x. WritesValue x old ts) → old ≡ [] → before ≡ start → start ≡ []

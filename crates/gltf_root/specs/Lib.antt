@@ -11,3 +11,4 @@ pub mod Items
 pub mod ItemTrees
 pub mod Answer
 pub mod Written
+pub mod Rewritten

@@ -1,18 +1,20 @@
 -- What a document is written as.
-use Rattle.std.specs.Prelude.{◌≡◌, ◌≤◌, ℕ, List, true, false, Some, IsUtf8, IsSomeAnd}
+use Rattle.std.specs.Prelude.{◌≡◌, ◌≤◌, ℕ, List, true, false, Some, IsUtf8, IsSomeAnd, ⊤}
 use Rattle.json.specs.Print.{print}
 use Rattle.json.specs.Layout.{pretty as pretty_print}
 use Rattle.json.specs.Lex.{tokens}
+use Rattle.json.specs.Tree.{json_tokens}
 use Rattle.serde_json.specs.Data.{Data, depth}
 use Rattle.serde_json.specs.Read.{read as read_json, max_depth}
 use Rattle.json.specs.Token.{Token}
-use Rattle.serde_json.specs.Written.{has_float, compact_text, IsInOrder, WritesValue}
+use Rattle.serde_json.specs.Written.{outline, has_float, compact_text, IsInOrder, WritesValue}
 use Rattle.gltf_schema.specs.Invalid.{holds_invalid}
 use Rattle.gltf_schema.specs.Outcome.{Withholds}
 use Rattle.gltf_schema.specs.Plain.{is_plain}
 use Rattle.gltf_schema.specs.Tree.{Tree}
 use Rattle.gltf_schema.specs.Write.{write}
 use Rattle.gltf_paths.specs.declared.error.Error.{Error}
+use Rattle.gltf_paths.specs.declared.error.Error.TheVariants as errors
 use Rattle.gltf_root.specs.Answer.{answer, document}
 use Rattle.gltf_root.specs.Root.{root_kind}
 
@@ -25,9 +27,15 @@ pub record IsCompact (d : Data) (bytes : List ℕ) : Type 0 where
   pub in_order : IsInOrder bytes d
   pub reads_back : depth d ≤ max_depth → read_json bytes ≡ Some d
 
--- the bytes are a text that prints a value in lines, two blanks deeper at each level
+-- the text in lines of a value that holds no float: that of its tokens
+abbrev pub pretty_text : Data → List ℕ
+pretty_text d = pretty_print (json_tokens (outline d))
+
+-- the bytes are a text that prints a value in lines, two blanks deeper at each level; there is one
+-- such text if the value holds no float
 pub record IsPretty (d : Data) (bytes : List ℕ) : Type 0 where
   pub utf8 : IsUtf8 bytes
+  pub exact : has_float d ≡ false → bytes ≡ pretty_text d
   pub laid_out : bytes ≡ pretty_print (tokens bytes)
   pub in_order : IsInOrder bytes d
   pub reads_back : depth d ≤ max_depth → read_json bytes ≡ Some d
@@ -48,6 +56,11 @@ IsReadBack t bytes = (d : Data) → write root_kind t ≡ Some d → depth d ≤
 -- why a document is not written: something in it is invalid, or memory was refused
 abbrev pub IsWithheld : Tree → Error → Type 0
 IsWithheld t e = Withholds e (write root_kind t) (holds_invalid t)
+
+-- memory was refused, and nothing else
+abbrev pub IsOutOfMemory : Error → Type 0
+IsOutOfMemory (errors.Memory e) = ⊤
+IsOutOfMemory _ = ⊥
 
 -- the new tokens are those of a document's JSON
 abbrev pub IsShown : Tree → List Token → List Token → Type 0

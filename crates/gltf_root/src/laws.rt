@@ -9,6 +9,9 @@ ghost use Rattle.gltf_root.specs.Root.{root_tree};
 ghost use Rattle.gltf_root.specs.Undone.{mark_in, undone};
 ghost use Rattle.gltf_root.specs.declared.root.Root.{Root as Document};
 
+pub mod lists;
+pub mod rewriting;
+
 /// A push that is taken back, by the mark that the document had before it, leaves that document.
 pub fn pushes_are_taken_back()
     ensures { (r : Document) (named : ListName) (x : Tree)

@@ -13,3 +13,5 @@ pub mod Parting
 pub mod Primitives
 pub mod Silent
 pub mod Enabled
+pub mod Shifting
+pub mod Widening

@@ -27,6 +27,7 @@ ghost use Rattle.gltf_sinks.specs.Handed.{run};
 ghost use Rattle.gltf_sinks.specs.Sinks.{one_more};
 ghost use Rattle.gltf_root.specs.declared.root.Root.{Root as Document};
 
+pub mod further;
 pub mod worked;
 
 /// The reports of a value are the faults of its places, in order, whatever the rules.

@@ -39,6 +39,9 @@ pub mod extensions {
 pub mod laws {
     pub use gltf_base::laws as base;
     pub use gltf_faults::constant_is_listed;
+    pub use gltf_faults::laws::further::{
+        reports_from_a_base_have_it_in_front, rules_that_allow_more_leave_fewer_reports,
+    };
     pub use gltf_faults::laws::worked::{
         worked_documents, worked_plainness, worked_pushes, worked_rules, worked_writings,
     };

@@ -58,11 +58,9 @@ fn borrowed(alloc: Global, steps: &[OwnedStep]) -> Result<Vec<Step<'_>>, AllocEr
     Ok(found)
 }
 
-/// Returns the place that the table refuses in a text, or `None` if the table reads it. The place
-/// is a value, or a required member that is missing. Of an object it is in the first row, in the
-/// table's order, that refuses its member; of a list it is in the first item that is refused. Fails
-/// with `Json` if the text is no JSON; `Memory` may come in place of any result if a growth was
-/// refused.
+/// Returns the innermost place that the table refuses in a text, or `None` if the table reads it.
+/// Fails with `Json` if the text is no JSON; `Memory` may come in place of any result if a growth
+/// was refused.
 pub fn refused_in_text<T: Schema>(alloc: Global, text: &str) -> Result<Option<Place>, Error>
     ensures { IsPlaceIn T.kind text.now result }
 {

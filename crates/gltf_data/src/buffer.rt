@@ -15,7 +15,7 @@ use crate::extras::Extras;
 use gltf_base::buffer::Target;
 use gltf_base::validation::{Checked, USize64};
 use gltf_base::{Index, Listed};
-use gltf_schema::{Error, Object, ReadRows, Schema, Source, Tabled, WriteRows};
+use gltf_schema::{Error, Object, ReadRows, Refusal, Schema, Source, Tabled, WriteRows, whole_or_refused};
 use serde_json::Value;
 use std::alloc::Global;
 
@@ -34,6 +34,10 @@ impl Schema for Stride {
 
     fn decode_from<S: Source>(_alloc: Global, source: S) -> Result<Stride, Error> {
         Ok(Stride(source.whole().ok_or(Error::Schema)? as usize))
+    }
+
+    fn decode_or_place<S: Source>(alloc: Global, source: S) -> Result<Stride, Refusal> {
+        whole_or_refused(alloc, Self::decode_from(alloc, source))
     }
 
     fn encode(&self, _alloc: Global) -> Result<Value, Error> {

@@ -14,7 +14,7 @@ use crate::buffer::View;
 use crate::extensions;
 use crate::extras::Extras;
 use gltf_base::{Index, Listed};
-use gltf_schema::{Error, Object, ReadRows, Schema, Source, Tabled, WriteRows};
+use gltf_schema::{Error, Object, ReadRows, Refusal, Schema, Source, Tabled, WriteRows};
 use serde_json::Value;
 use std::alloc::Global;
 
@@ -33,6 +33,10 @@ impl Schema for MimeType {
 
     fn decode_from<S: Source>(alloc: Global, source: S) -> Result<MimeType, Error> {
         Ok(MimeType(String::decode_from(alloc, source)?))
+    }
+
+    fn decode_or_place<S: Source>(alloc: Global, source: S) -> Result<MimeType, Refusal> {
+        Ok(MimeType(String::decode_or_place(alloc, source)?))
     }
 
     fn encode(&self, alloc: Global) -> Result<Value, Error> {

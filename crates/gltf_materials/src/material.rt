@@ -16,7 +16,7 @@ use gltf_base::material::AlphaMode;
 use gltf_base::validation::Checked;
 use gltf_base::{Index, Listed, Real};
 use gltf_data::extras::Extras;
-use gltf_schema::{Blank, Error, Object, ReadRows, Schema, Source, Tabled, WriteRows};
+use gltf_schema::{Blank, Error, Object, ReadRows, Refusal, Schema, Source, Tabled, WriteRows};
 use gltf_shading::extensions;
 use gltf_shading::material::StrengthFactor;
 use gltf_textures::texture::{Info, Texture};
@@ -470,6 +470,10 @@ impl Schema for AlphaCutoff {
 
     fn decode_from<S: Source>(alloc: Global, source: S) -> Result<AlphaCutoff, Error> {
         Ok(AlphaCutoff(Real::decode_from(alloc, source)?))
+    }
+
+    fn decode_or_place<S: Source>(alloc: Global, source: S) -> Result<AlphaCutoff, Refusal> {
+        Ok(AlphaCutoff(Real::decode_or_place(alloc, source)?))
     }
 
     fn encode(&self, alloc: Global) -> Result<Value, Error> {

@@ -17,7 +17,7 @@ use crate::skin::Skin;
 use gltf_base::{Index, Listed, Real};
 use gltf_data::extras::Extras;
 use gltf_meshes::mesh::Mesh;
-use gltf_schema::{Error, Object, ReadRows, Schema, Source, Tabled, WriteRows};
+use gltf_schema::{Error, Object, ReadRows, Refusal, Schema, Source, Tabled, WriteRows};
 use serde_json::Value;
 use std::alloc::Global;
 
@@ -312,6 +312,10 @@ impl Schema for UnitQuaternion {
 
     fn decode_from<S: Source>(alloc: Global, source: S) -> Result<UnitQuaternion, Error> {
         Ok(UnitQuaternion(Schema::decode_from(alloc, source)?))
+    }
+
+    fn decode_or_place<S: Source>(alloc: Global, source: S) -> Result<UnitQuaternion, Refusal> {
+        Ok(UnitQuaternion(Schema::decode_or_place(alloc, source)?))
     }
 
     fn encode(&self, alloc: Global) -> Result<Value, Error> {

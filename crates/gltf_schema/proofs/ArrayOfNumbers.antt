@@ -14,7 +14,7 @@ use Rattle.gltf_schema.specs.Write.{write, write_items, number_items}
 use Rattle.gltf_schema.specs.Invalid.{any_holds_invalid}
 use Rattle.gltf_schema.specs.Outcome.{Reads, Refuses, Withholds}
 use Rattle.gltf_schema.specs.Maybe.{◌>>=◌}
-use Rattle.gltf_schema.specs.Tree.{Tree, number, numbers, Trees, end, with_tree, trees}
+use Rattle.gltf_schema.specs.Tree.{Tree, number, numbers, list, Trees, end, with_tree, trees}
 use Rattle.gltf_schema.specs.Kind.{Number}
 use Rattle.gltf_schema.specs.Read.{read, read_items, all_numbers}
 use Rattle.gltf_schema.specs.Fields.{real_tree, reals_tree}
@@ -40,7 +40,7 @@ next None ds later = refl
 next (Some x) ds later = rw later (behind x (read_items (read Number) ds))
 
 -- the numbers of an array are its items, each read as a number
-numbers_are_items : (ds : Items) → all_numbers ds ≡ option_map numbers_of (read_items (read Number) ds)
+pub numbers_are_items : (ds : Items) → all_numbers ds ≡ option_map numbers_of (read_items (read Number) ds)
 numbers_are_items no_items = refl
 numbers_are_items (item d ds) = next (as_number d) ds (numbers_are_items ds)
 
@@ -65,6 +65,24 @@ pub array_read : (r : Result (List Real) Error) (ds : Items) (xs : List Real) (n
     → Reads reals_tree r (if nat_eq (length xs) n then Some (reals_tree xs) else None)
     → Reads reals_tree r (all_numbers ds >>= λ ys. if nat_eq (length ys) n then Some (numbers ys) else None)
 array_read r ds xs n items h = rw (reals_are_numbers ds xs items, length-map xs real_number) h
+
+list_back : (r : Option Trees) (ts : Trees) → option_map list r ≡ Some (list ts) → r ≡ Some ts
+list_back None ts h = absurd cc
+list_back (Some t) ts h = let same : t ≡ ts = cc in rw same refl
+
+-- reals that were read as a list are its items
+pub reals_read : (ds : Items) (xs : List Real) → option_map list (read_items (read Number) ds) ≡ Some (list (trees (map real_tree xs))) → read_items (read Number) ds ≡ Some (trees (map real_tree xs))
+reals_read ds xs h = list_back (read_items (read Number) ds) (trees (map real_tree xs)) h
+
+-- as many reals as the array has places are the array
+pub array_of_list : (ds : Items) (xs : List Real) (n : ℕ) → read_items (read Number) ds ≡ Some (trees (map real_tree xs)) → length xs ≡ n
+    → (all_numbers ds >>= λ ys. if nat_eq (length ys) n then Some (numbers ys) else None) ≡ Some (reals_tree xs)
+array_of_list ds xs n h long = rw (reals_are_numbers ds xs h, length-map xs real_number, eq-eqb (length xs) n long) refl
+
+-- and more or fewer are none
+pub no_array_of_list : (ds : Items) (xs : List Real) (n : ℕ) → read_items (read Number) ds ≡ Some (trees (map real_tree xs)) → length xs ≢ n
+    → (all_numbers ds >>= λ ys. if nat_eq (length ys) n then Some (numbers ys) else None) ≡ None
+no_array_of_list ds xs n h other = rw (reals_are_numbers ds xs h, length-map xs real_number, ne_eqb (length xs) n other) refl
 
 -- an item that is refused refuses the array
 pub array_refused : (e : Error) (ds : Items) (n : ℕ) → Refuses e (read_items (read Number) ds)

@@ -4,6 +4,7 @@ pub mod Choosing
 pub mod RowByRow
 pub mod OneRow
 pub mod Placed
+pub mod OnePlace
 pub mod OneRowPlaced
 pub mod Putting
 pub mod RowsPut

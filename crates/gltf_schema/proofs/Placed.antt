@@ -1,20 +1,28 @@
 -- Rows read one after another by a driver that keeps the place of what is refused: it is that of the
 -- first row that refuses its member.
-use Rattle.std.proofs.Common.{◌≡◌, ℕ, suc, List, [], ◌∷◌, Bool, true, false, Option, Some, None, option_map, is_none, if◌then◌else◌, Result, Ok, Err, bytes_eq, refl, sym, ap, ◌∙◌, subst}
+use Rattle.std.proofs.Common.{◌≡◌, ◌==◌, ℕ, suc, List, [], ◌∷◌, length, Bool, true, false, Option, Some, None, option_map, is_none, if◌then◌else◌, map, Vec, Global, Result, Ok, Err, bytes_eq, refl, sym, ap, ◌∙◌, subst}
 use Rattle.std.proofs.lemmas.Bool.{or_parts}
+use Rattle.std.specs.BTreeMap.{insert_entry}
 use Rattle.serde_json.specs.Data as json
 use Rattle.serde_json.specs.Data.{Data, Items, Members, no_members}
 use Rattle.serde_json.specs.Find.{get_member, as_array, as_object}
+use Rattle.gltf_checked.specs.Keys.{Key, key_cmp}
+use Rattle.gltf_checked.specs.Names.{key_named}
+use Rattle.gltf_paths.specs.Lists.{ListName}
 use Rattle.gltf_paths.specs.Steps.{Step, field, item, key, value}
 use Rattle.gltf_schema.specs.Maybe.{◌>>=◌}
-use Rattle.gltf_schema.specs.Tree.{Tree, object, list, Trees, end, with_tree}
-use Rattle.gltf_schema.specs.Kind.{Mark, Kind, ListOf, Object, Rows, no_rows, row, has_row, Rule}
-use Rattle.gltf_schema.specs.Read.{read, read_member, read_items, read_rows}
+use Rattle.gltf_schema.specs.Tree.{Tree, index, numbers, attributes, object, list, Trees, end, with_tree}
+use Rattle.gltf_schema.specs.Kind.{Mark, Kind, IndexInto, Number, Numbers, Attributes, ListOf, Object, Rows, no_rows, row, has_row, Rule}
+use Rattle.gltf_schema.specs.Read.{read, read_member, read_items, read_entries, read_rows, all_numbers, small_number}
 use Rattle.gltf_schema.specs.Readings.{RowsFrom, OthersFrom, ReadsMembers}
-use Rattle.gltf_schema.specs.Refused.{refused_row, refused_item, IsMissingOr, IsRefusedAt}
+use Rattle.gltf_schema.specs.Refused.{refused_row, refused_item, refused_entry, IsMissingOr, IsRefusedAt}
 use Rattle.gltf_schema.specs.Sound.{is_sound, are_sound}
 use Rattle.gltf_schema.specs.Taken.{without, take_member, take_rows, take_all}
-use Rattle.gltf_schema.specs.Placings.{IsWithin, IsInside, IsPlaceIn, IsPlaceUnder, IsPlaceOfRow, PlacesMember, PlacesOthers}
+use Rattle.gltf_schema.specs.declared.placing.OwnedStep.{OwnedStep}
+use Rattle.gltf_schema.specs.declared.placing.Refusal.{Refusal}
+use Rattle.gltf_schema.specs.declared.placing.Refusal.TheVariants.{At}
+use Rattle.gltf_schema.specs.Placings.{owned_step, place_of, IsWithin, IsInside, IsPlaceIn, IsPlaceUnder, IsPlaceOfRow, PlacesMember, PlacesOthers}
+use Rattle.gltf_schema.proofs.ArrayOfNumbers.{numbers_are_items}
 use Rattle.gltf_schema.proofs.RowByRow.{row_taken, all_taken}
 use Rattle.gltf_schema.proofs.TakingOut.{get_without, decoded, sound_row, sound_rows}
 
@@ -45,13 +53,34 @@ inside : {A B C : Type 0} (o : Option A) (f : A → Option B) (g : A → Option 
 inside None f g x stops h = refl
 inside (Some a) f g x stops h = stops a h
 
+-- an item that is no number refuses an array of numbers
+numbers_stop : (ds : Items) (n : ℕ) (x : ℕ × Data) → refused_item Number 0 ds ≡ Some x → (all_numbers ds >>= λ xs. if length xs == n then Some (numbers xs) else None) ≡ None
+numbers_stop ds n x h = rw (numbers_are_items ds, items_stop Number 0 ds x h) refl
+
+entry_stops : (o : Option ℕ) (n : List ℕ) (d : Data) (r : Option (List ℕ × Data)) (f : ℕ → Option (List (Key × ℕ))) (x : List ℕ × Data) → (if is_none (option_map index o) then Some (n, d) else r) ≡ Some x
+    → ((i : ℕ) → r ≡ Some x → f i ≡ None) → (o >>= f) ≡ None
+entry_stops None n d r f x h later = refl
+entry_stops (Some i) n d r f x h later = later i h
+
+-- a member that is no index refuses the attributes
+entries_stop : (named : ListName) (es : List (Key × ℕ)) (ms : Members) (x : List ℕ × Data) → refused_entry (IndexInto named) ms ≡ Some x → read_entries es ms ≡ None
+entries_stop named es no_members x h = absurd cc
+entries_stop named es (json.member n d ms) x h = entry_stops (small_number d) n d (refused_entry (IndexInto named) ms) _ x h (λ i. entries_stop named (insert_entry key_cmp es (key_named n) i) ms x)
+
 -- what steps lead to is refused, and so is the value that they begin at
-at_refused : (steps : List Step) (kind : Kind) (d : Data) → IsRefusedAt steps kind d → read kind d ≡ None
+pub at_refused : (steps : List Step) (kind : Kind) (d : Data) → IsRefusedAt steps kind d → read kind d ≡ None
+at_refused [] (Object rule rows keeps) d h = rw h refl
+at_refused [] (Attributes named) d h = rw h refl
+at_refused [] (ListOf kind) d h = rw h refl
+at_refused [] (Numbers n) d h = h.1
 at_refused [] kind d h = h
 at_refused (item i ∷ steps) (ListOf kind) d h =
     inside (as_array d) (refused_item kind 0) _ (i, h.0) (λ ds is. ap (option_map list) (items_stop kind 0 ds (i, h.0) is)) h.1
+at_refused (item i ∷ steps) (Numbers n) d h = inside (as_array d) (refused_item Number 0) _ (i, h.0) (λ ds is. numbers_stop ds n (i, h.0) is) h.1
 at_refused (field n ∷ steps) (Object rule rows keeps) d h =
     inside (as_object d) (refused_row rows) _ (n, h.0) (λ ms is. ap (option_map _) (rows_stop rows ms (n, h.0) is)) h.1
+at_refused (field n ∷ steps) (Attributes named) d h =
+    inside (as_object d) (refused_entry (IndexInto named)) _ (n, h.0) (λ ms is. ap (option_map attributes) (entries_stop named [] ms (n, h.0) is)) h.1
 at_refused (item i ∷ steps) kind d h = absurd h
 at_refused (field n ∷ steps) kind d h = absurd h
 at_refused (key t ∷ steps) kind d h = absurd h
@@ -272,3 +301,45 @@ item_refused_inside None inner step within = tt
 item_refused_inside (Some []) None step within = absurd cc
 item_refused_inside (Some []) (Some rest) step within = absurd cc
 item_refused_inside (Some (first ∷ steps)) inner step within = tt
+
+-- ---- an array of numbers
+
+-- what is refused in an array of numbers is refused as it is in a list of numbers
+pub number_refused : (place : Option (List Step)) (n : ℕ) (ds : Items) → IsPlaceIn place (ListOf Number) (json.array ds) → IsPlaceIn place (Numbers n) (json.array ds)
+number_refused None n ds h = tt
+number_refused (Some []) n ds h = absurd cc
+number_refused (Some (item i ∷ steps)) n ds h = h
+number_refused (Some (field m ∷ steps)) n ds h = absurd h
+number_refused (Some (key t ∷ steps)) n ds h = absurd h
+number_refused (Some (value t ∷ steps)) n ds h = absurd h
+
+none_stops : (o : Option Tree) (i : ℕ) (d : Data) (ts : Option Trees) (later : Option (ℕ × Data)) (t : Trees) → (o >>= λ x. option_map (with_tree x) ts) ≡ Some t → ((t' : Trees) → ts ≡ Some t' → later ≡ None)
+    → (if is_none o then Some (i, d) else later) ≡ None
+none_stops None i d ts later t h rest = absurd cc
+none_stops (Some x) i d None later t h rest = absurd cc
+none_stops (Some x) i d (Some t') later t h rest = rest t' refl
+
+-- of items that are read none is refused
+pub none_refused : (kind : Kind) (i : ℕ) (ds : Items) (ts : Trees) → read_items (read kind) ds ≡ Some ts → refused_item kind i ds ≡ None
+none_refused kind i json.no_items ts h = refl
+none_refused kind i (json.item d ds) ts h = none_stops (read kind d) i d (read_items (read kind) ds) (refused_item kind (suc i) ds) ts h (λ t' is. none_refused kind (suc i) ds t' is)
+
+-- ---- attributes
+
+-- a member that is read is not the one that is refused
+pub entry_passed : (named : ListName) (n : List ℕ) (d : Data) (ms : Members) (t : Tree) → read (IndexInto named) d ≡ Some t → refused_entry (IndexInto named) (json.member n d ms) ≡ refused_entry (IndexInto named) ms
+entry_passed named n d ms t h = rw h refl
+
+-- the place of what is refused in a member is within the attributes at the member's name
+pub entry_placed : (place inner : Option (List Step)) (named : ListName) (n : List ℕ) (d : Data) (ms all : Members) → refused_entry (IndexInto named) (json.member n d ms) ≡ refused_entry (IndexInto named) all
+    → IsPlaceIn inner (IndexInto named) d → IsWithin (field n) inner place → IsPlaceIn place (Attributes named) (json.object all)
+entry_placed None inner named n d ms all same h within = tt
+entry_placed (Some steps) None named n d ms all same h within = absurd cc
+entry_placed (Some steps) (Some rest) named n d ms all same h within =
+    let is : field n ∷ rest ≡ steps = cc in
+    let here : refused_entry (IndexInto named) all ≡ Some (n, d) = sym same ∙ rw (at_refused rest (IndexInto named) d h) refl in
+    subst (λ s. IsRefusedAt s (Attributes named) (json.object all)) is (d, here, h)
+
+-- what is refused at a place is not read
+pub refused_at : (r : Refusal) (steps : Vec OwnedStep Global) (kind : Kind) (d : Data) → r ≡ At steps → IsPlaceIn (place_of r) kind d → read kind d ≡ None
+refused_at r steps kind d is h = at_refused (map owned_step steps.items) kind d (subst (λ (q : Refusal). IsPlaceIn (place_of q) kind d) is h)

@@ -53,6 +53,12 @@ abbrev pub ReadsOrPlaces : {X : Type 0} → (X → Tree) → Result X Refusal �
 ReadsOrPlaces view (Ok x) kind d = read kind d ≡ Some (view x)
 ReadsOrPlaces view (Err r) kind d = IsPlaceIn (place_of r) kind d
 
+-- what was decoded of a value, or the place of the value itself
+abbrev pub IsWhole : {X : Type 0} → Result X Error → Result X Refusal → Type 0
+IsWhole (Ok x) r = r ≡ Ok x
+IsWhole (Err e) (Ok x) = ⊥
+IsWhole (Err e) (Err r) = place_of r ≡ error_place e
+
 -- ---- the rows of an object
 
 -- the place begins at a member of this name and leads to what the kind refuses in its value

@@ -1,16 +1,17 @@
 //! The attributes of a primitive: an object whose names are semantics and whose values are indexes.
 
-ghost use Rattle.std.specs.Prelude.{◌≡◌, [], map, true, OnOk, refl, string_bytes};
-ghost use Rattle.serde_json.specs.Data.{no_members};
+ghost use Rattle.std.specs.Prelude.{◌≡◌, map, true, OnOk, refl, string_bytes};
+ghost use Rattle.serde_json.specs.Data.{no_members, object};
 ghost use Rattle.serde_json.specs.View.{members_view};
 ghost use Rattle.gltf_checked.specs.Semantics.{checked_key};
 ghost use Rattle.gltf_schema.specs.Kind.{Attributes};
-ghost use Rattle.gltf_schema.specs.Read.{read_entries};
 ghost use Rattle.gltf_schema.specs.Fields.{entry_of, attributes_tree};
 ghost use Rattle.gltf_schema.specs.Invalid.{is_unknown, any_unknown};
 ghost use Rattle.gltf_schema.specs.Write.{key_name, are_in_order, write_entries};
-ghost use Rattle.gltf_schema.specs.Outcome.{Reads, Writes};
+ghost use Rattle.gltf_schema.specs.Outcome.{Writes};
+ghost use Rattle.gltf_schema.specs.Placings.{ReadsOrPlaces};
 
+use crate::placing::{OwnedStep, Refusal};
 use crate::schema::Schema;
 use crate::source::Source;
 use crate::tabled::Tabled;
@@ -37,7 +38,21 @@ impl<P: Names> Schema for BTreeMap<Checked<Semantic>, IndexTo<P>> {
         let Some(members) = source.into_fields() else {
             return Err(Error::Schema);
         };
-        decode_entries(alloc, S::into_others(members, alloc)?)
+        match decode_entries(alloc, S::into_others(members, alloc)?) {
+            Ok(attributes) => Ok(attributes),
+            Err(Refusal::At(_)) => Err(Error::Schema),
+            Err(Refusal::Memory(refused)) => Err(Error::Memory(refused)),
+        }
+    }
+
+    fn decode_or_place<S: Source>(
+        alloc: Global,
+        source: S,
+    ) -> Result<BTreeMap<Checked<Semantic>, IndexTo<P>>, Refusal> {
+        match source.into_fields() {
+            Some(members) => decode_entries(alloc, S::into_others(members, alloc)?),
+            None => Err(Refusal::here(alloc, Error::Schema)),
+        }
     }
 
     fn encode(&self, alloc: Global) -> Result<Value, Error> {
@@ -46,18 +61,22 @@ impl<P: Names> Schema for BTreeMap<Checked<Semantic>, IndexTo<P>> {
 }
 
 /// Each member's index under the key that its name means; of names with one key the last one's
-/// stays.
+/// stays. Fails with the place of the first member that is no index.
 fn decode_entries<P: Names>(
     alloc: Global,
     members: Map<String, Value>,
-) -> Result<BTreeMap<Checked<Semantic>, IndexTo<P>>, Error>
-    ensures { Reads (λ m. map entry_of m.entries) result
-        (read_entries [] (members_view members.entries)) }
+) -> Result<BTreeMap<Checked<Semantic>, IndexTo<P>>, Refusal>
+    ensures { ReadsOrPlaces attributes_tree result (Attributes P.Item.list)
+        (object (members_view members.entries)) }
 {
     let mut found = BTreeMap::new(alloc);
     for (name, value) in members {
-        let index = IndexTo::decode(alloc, value)?;
-        found.insert(Semantic::checked(alloc, name.as_str())?, index)?;
+        match IndexTo::decode_or_place(alloc, value) {
+            Ok(index) => {
+                found.insert(Semantic::checked(alloc, name.as_str())?, index)?;
+            }
+            Err(refusal) => return Err(refusal.within(OwnedStep::Field(name))),
+        }
     }
     Ok(found)
 }

@@ -4,6 +4,7 @@
 ghost use Rattle.std.specs.Prelude.{◌≡◌, ◌↔◌, ◌∷◌, ℕ, List, [], true, false, Some, None, codes};
 ghost use Rattle.serde_json.specs.Data.{Data, Members, member, no_members, number, object, unsigned};
 ghost use Rattle.gltf_paths.specs.Lists.{ListName};
+ghost use Rattle.gltf_paths.specs.Steps.{Step};
 ghost use Rattle.gltf_checked.specs.Keys.{Key, colors};
 ghost use Rattle.gltf_schema.specs.Attributes.{index_at, last_index};
 ghost use Rattle.gltf_schema.specs.Tree.{Tree, attributes};
@@ -13,6 +14,7 @@ ghost use Rattle.gltf_schema.specs.Sound.{is_sound};
 ghost use Rattle.gltf_schema.specs.Invalid.{holds_invalid};
 ghost use Rattle.gltf_schema.specs.OfKind.{is_of_kind};
 ghost use Rattle.gltf_schema.specs.Read.{read};
+ghost use Rattle.gltf_schema.specs.Refused.{IsRefusedAt};
 ghost use Rattle.gltf_schema.specs.Write.{write};
 
 /// What a sound kind reads is plain.
@@ -58,4 +60,12 @@ pub fn keys_have_the_indexes_of_their_last_names()
         (member (codes "COLOR_01") (number (unsigned 1))
         (member (codes "COLOR_1") (number (unsigned 2)) no_members))))
         ≡ Some (attributes ((colors 1, 2) ∷ [])) }
+{}
+
+/// What the table refuses at a place it doesn't read, and it refuses a value at one place.
+pub fn values_are_refused_at_one_place()
+    ensures refused { (kind : Kind) (d : Data) (steps : List Step) → IsRefusedAt steps kind d
+        → read kind d ≡ None }
+    ensures unique { (kind : Kind) (d : Data) (steps others : List Step)
+        → IsRefusedAt steps kind d → IsRefusedAt others kind d → steps ≡ others }
 {}

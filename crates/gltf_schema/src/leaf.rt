@@ -15,7 +15,7 @@ ghost use Rattle.gltf_schema.specs.Placings.{place_of, IsInside, ReadsOrPlaces};
 ghost use Rattle.gltf_schema.specs.Printings.{printing_state, PrintsValue};
 ghost use Rattle.gltf_schema.specs.Leaves.{checked_tree, choice_of, checked_tree-present};
 
-use crate::placing::{OwnedStep, Refusal};
+use crate::placing::{OwnedStep, Refusal, whole_or_refused};
 use crate::printing::Printing;
 use crate::schema::Schema;
 use crate::source::Source;
@@ -40,6 +40,10 @@ impl Schema for u32 {
         small_number(&source).ok_or(Error::Schema)
     }
 
+    fn decode_or_place<S: Source>(alloc: Global, source: S) -> Result<u32, Refusal> {
+        whole_or_refused(alloc, Self::decode_from(alloc, source))
+    }
+
     fn encode(&self, _alloc: Global) -> Result<Value, Error> {
         Ok(Value::from(*self))
     }
@@ -62,6 +66,10 @@ impl Schema for USize64 {
         Ok(USize64(source.whole().ok_or(Error::Schema)?))
     }
 
+    fn decode_or_place<S: Source>(alloc: Global, source: S) -> Result<USize64, Refusal> {
+        whole_or_refused(alloc, Self::decode_from(alloc, source))
+    }
+
     fn encode(&self, _alloc: Global) -> Result<Value, Error> {
         Ok(Value::from(self.0))
     }
@@ -82,6 +90,10 @@ impl<P: Names> Schema for IndexTo<P> {
 
     fn decode_from<S: Source>(_alloc: Global, source: S) -> Result<IndexTo<P>, Error> {
         Ok(IndexTo::from_number(small_number(&source).ok_or(Error::Schema)?))
+    }
+
+    fn decode_or_place<S: Source>(alloc: Global, source: S) -> Result<IndexTo<P>, Refusal> {
+        whole_or_refused(alloc, Self::decode_from(alloc, source))
     }
 
     fn encode(&self, _alloc: Global) -> Result<Value, Error> {
@@ -107,6 +119,10 @@ impl Schema for Real {
             Ok(x) => Ok(x),
             Err(_) => Err(Error::Schema),
         }
+    }
+
+    fn decode_or_place<S: Source>(alloc: Global, source: S) -> Result<Real, Refusal> {
+        whole_or_refused(alloc, Self::decode_from(alloc, source))
     }
 
     fn encode(&self, _alloc: Global) -> Result<Value, Error> {
@@ -135,6 +151,17 @@ impl<const N: usize> Schema for [Real; N] {
         <[Real; N]>::try_from(found).map_err(|_| Error::Schema)
     }
 
+    fn decode_or_place<S: Source>(alloc: Global, source: S) -> Result<[Real; N], Refusal> {
+        let Some(items) = source.into_items() else {
+            return Err(Refusal::here(alloc, Error::Schema));
+        };
+        let found: Vec<Real> = place_items::<S, Real>(alloc, items)?;
+        match <[Real; N]>::try_from(found) {
+            Ok(numbers) => Ok(numbers),
+            Err(_) => Err(Refusal::here(alloc, Error::Schema)),
+        }
+    }
+
     fn encode(&self, alloc: Global) -> Result<Value, Error> {
         let numbers: &[Real] = self;
         Ok(Value::Array(encode_items(alloc, numbers)?))
@@ -159,6 +186,10 @@ impl Schema for bool {
         source.truth().ok_or(Error::Schema)
     }
 
+    fn decode_or_place<S: Source>(alloc: Global, source: S) -> Result<bool, Refusal> {
+        whole_or_refused(alloc, Self::decode_from(alloc, source))
+    }
+
     fn encode(&self, _alloc: Global) -> Result<Value, Error> {
         Ok(Value::Bool(*self))
     }
@@ -181,6 +212,10 @@ impl Schema for String {
         source.into_text(alloc)?.ok_or(Error::Schema)
     }
 
+    fn decode_or_place<S: Source>(alloc: Global, source: S) -> Result<String, Refusal> {
+        whole_or_refused(alloc, Self::decode_from(alloc, source))
+    }
+
     fn encode(&self, _alloc: Global) -> Result<Value, Error> {
         Ok(Value::String(self.clone()?))
     }
@@ -201,6 +236,10 @@ impl Schema for Value {
 
     fn decode_from<S: Source>(alloc: Global, source: S) -> Result<Value, Error> {
         Ok(source.into_value(alloc)?)
+    }
+
+    fn decode_or_place<S: Source>(alloc: Global, source: S) -> Result<Value, Refusal> {
+        whole_or_refused(alloc, Self::decode_from(alloc, source))
     }
 
     fn encode(&self, _alloc: Global) -> Result<Value, Error> {
@@ -248,10 +287,7 @@ impl<T: Choice> Schema for Checked<T> {
     }
 
     fn decode_or_place<S: Source>(alloc: Global, source: S) -> Result<Checked<T>, Refusal> {
-        match Self::decode_from(alloc, source) {
-            Ok(value) => Ok(value),
-            Err(e) => Err(Refusal::here(alloc, e)),
-        }
+        whole_or_refused(alloc, Self::decode_from(alloc, source))
     }
 
     fn encode(&self, alloc: Global) -> Result<Value, Error> {

@@ -21,7 +21,7 @@ mod writing;
 pub use blank::Blank;
 pub use gltf_base::Error;
 pub use omittable::Omittable;
-pub use placing::{OwnedStep, Placing, Refusal};
+pub use placing::{OwnedStep, Placing, Refusal, whole_or_refused};
 pub use printing::Printing;
 pub use reading::{ReadRows, Reading};
 pub use schema::{Object, Schema};

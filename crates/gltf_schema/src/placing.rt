@@ -7,7 +7,7 @@ ghost use Rattle.gltf_paths.specs.Steps.{Step as AnyStep, step_of, field};
 ghost use Rattle.gltf_schema.specs.Tree.{object};
 ghost use Rattle.gltf_schema.specs.Kind.{Object as object_kind};
 ghost use Rattle.gltf_schema.specs.Readings.{TakesOut};
-ghost use Rattle.gltf_schema.specs.Placings.{owned_step, place_of, error_place, IsWithin, IsInside, ReadsOrPlaces, PlacesValue, PlacesMissing, members_or_place, PlacesMember, PlacesOthers};
+ghost use Rattle.gltf_schema.specs.Placings.{owned_step, place_of, error_place, IsWithin, IsInside, IsWhole, ReadsOrPlaces, PlacesValue, PlacesMissing, members_or_place, PlacesMember, PlacesOthers};
 ghost use Rattle.gltf_schema.specs.PlacedAs.{source_placed, sampler_placed};
 
 use crate::blank::Blank;
@@ -81,6 +81,17 @@ impl Refusal {
             Ok(name) => self.within(OwnedStep::Field(name)),
             Err(refused) => Refusal::Memory(refused),
         }
+    }
+}
+
+/// What was decoded, or the refusal of the value itself: for a kind that has no places inside its
+/// values.
+pub fn whole_or_refused<T: Drop>(alloc: Global, decoded: Result<T, Error>) -> Result<T, Refusal>
+    ensures { IsWhole decoded result }
+{
+    match decoded {
+        Ok(value) => Ok(value),
+        Err(e) => Err(Refusal::here(alloc, e)),
     }
 }
 

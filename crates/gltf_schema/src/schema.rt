@@ -71,16 +71,12 @@ pub trait Schema: Tabled + Drop {
     }
 
     /// Returns the value that a JSON value is, as the table reads it. Fails with the place of what
-    /// the table refuses: in each object the first row that refuses its member, and in each array
-    /// the first item that is refused. A type without places inside it gives its own.
+    /// the table refuses: in each object in the first row that refuses its member, in attributes
+    /// the first member that is no index, in each array in the first item that is refused. For a
+    /// kind without places inside it, [`whole_or_refused`](crate::whole_or_refused) gives the value
+    /// itself.
     fn decode_or_place<S: Source>(alloc: Global, source: S) -> Result<Self, Refusal>
-        ensures by_table { ReadsOrPlaces Self.tree result Self.kind (S.given source) }
-    {
-        match Self::decode_from(alloc, source) {
-            Ok(value) => Ok(value),
-            Err(e) => Err(Refusal::here(alloc, e)),
-        }
-    }
+        ensures by_table { ReadsOrPlaces Self.tree result Self.kind (S.given source) };
 
     /// Returns the JSON value that the value is written as. Fails with `InvalidItem` if and only if
     /// an item of a choice or the key of an attribute is invalid, here or below; `Memory` may come

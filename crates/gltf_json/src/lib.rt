@@ -38,6 +38,7 @@ pub mod extensions {
 /// here of documents and of validation, and in the modules of what these are made of.
 pub mod laws {
     pub use gltf_base::laws as base;
+    pub use gltf_clean::changes::changes_leave_no_reports;
     pub use gltf_faults::constant_is_listed;
     pub use gltf_faults::laws::further::{
         reports_from_a_base_have_it_in_front, rules_that_allow_more_leave_fewer_reports,

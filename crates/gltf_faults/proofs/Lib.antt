@@ -15,3 +15,9 @@ pub mod Silent
 pub mod Enabled
 pub mod Shifting
 pub mod Widening
+pub mod Leading
+pub mod KeysThere
+pub mod Pointing
+pub mod PointingRoot
+pub mod PointerText
+pub mod KeyFound

@@ -70,7 +70,7 @@ entries_shift count (e ∷ es) base more =
     (further_shifts own steps (both_shift (key_faults e.0) (number_faults count e.1) (key_shifts e.0) (λ b m. if_shifts _ _ b m)))
     (entries_shift count es) base more
 
-items_shift : (f : Tree → From) → ((t : Tree) → Shifts (f t)) → (i : ℕ) (ts : Trees) → Shifts (items_reports f i ts)
+pub items_shift : (f : Tree → From) → ((t : Tree) → Shifts (f t)) → (i : ℕ) (ts : Trees) → Shifts (items_reports f i ts)
 items_shift f each i end base more = refl
 items_shift f each i (with_tree t ts) base more =
     both_shift (λ at. f t (at ++ item i ∷ [])) (items_reports f (suc i) ts) (further_shifts (f t) (item i ∷ []) (each t)) (items_shift f each (suc i) ts) base more
@@ -95,7 +95,7 @@ positions_shift : (found : Option ℕ) (root : Tree) → Shifts (positions_fault
 positions_shift None root base more = refl
 positions_shift (Some n) root base more = bounds_shift _ base more
 
-extension_shifts : (enabled : List (List ℕ)) (t : Tree) → Shifts (extension_faults enabled t)
+pub extension_shifts : (enabled : List (List ℕ)) (t : Tree) → Shifts (extension_faults enabled t)
 extension_shifts enabled (tree.text s) base more = further_shifts (report_if _ _) (value s ∷ []) (if_shifts _ _) base more
 extension_shifts enabled t base more = refl
 
@@ -121,7 +121,7 @@ object_shifts rule t context base more = refl
 -- ---- a whole tree
 
 mutual
-  reports_shift : (kind : Kind) (t : Tree) (context : Context) (above : Tree) → Shifts (reports kind t context above)
+  pub reports_shift : (kind : Kind) (t : Tree) (context : Context) (above : Tree) → Shifts (reports kind t context above)
   reports_shift (IndexInto named) t context above base more = index_shifts (count_in named context.root) t base more
   reports_shift SourceImage t context above base more = source_shifts context.rules.empty_texture (count_in ListName.images context.root) t base more
   reports_shift ChannelSampler t context above base more = index_shifts (sampler_count above) t base more
@@ -143,7 +143,11 @@ mutual
       (further_shifts (reports kind t context above) (field name ∷ []) (λ b m. reports_shift kind t context above b m))
       (λ b m. members_shift ts rows context above b m) base more
 
--- the law: from a base as from nothing, with the base in front
+-- from a base as from nothing, with the base in front
+pub from_nothing : (f : From) → Shifts f → (base : List Step) → f base ≡ map (behind base) (f [])
+from_nothing f h base = ap f (sym (append-nil base)) ∙ h base []
+
+-- the law
 pub from_a_base : (kind : Kind) (t : Tree) (context : Context) (above : Tree) (base : List Step)
     → reports kind t context above base ≡ map (behind base) (reports kind t context above [])
-from_a_base kind t context above base = ap (reports kind t context above) (sym (append-nil base)) ∙ reports_shift kind t context above base []
+from_a_base kind t context above base = from_nothing (reports kind t context above) (reports_shift kind t context above) base

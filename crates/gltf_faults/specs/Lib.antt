@@ -12,3 +12,4 @@ pub mod Standing
 pub mod Worked
 pub mod Bases
 pub mod Wider
+pub mod Found

@@ -1,16 +1,24 @@
 #!/usr/bin/env python3
-"""gen_document.py [--mb N] [--faults K] [--faulty items|leaves] [--seed S] > FILE.gltf
+"""gen_document.py [--mb N] [--faults K] [--faulty items|leaves] [--seed S] [--shape NAME] > FILE.gltf
 
 A large document of everything that the format lists, of close to N million bytes of compact JSON, to measure with: a tree
 of nodes with transforms, meshes with indices and four attributes each, materials and textures, animations, skins, lights.
 It has no faults. --faults K breaks K indexes, spread evenly over the meshes of nodes. --faulty items breaks an index or a
 choice in each item of each list; --faulty leaves adds a morph target to each mesh and breaks its last index, which is the
 last leaf of the mesh. The same parameters give the same bytes.
+
+--shape NAME writes a document of N million bytes of one thing repeated instead, such as members of one name; shapes.py
+prints the names.
 """
 import json
 import sys
 
 from parameters import chance, given
+from shapes import document_of
+
+if given.shape:
+    sys.stdout.write(document_of(given.shape, int(given.mb * 1e6)))
+    sys.exit()
 
 BYTES_OF_A_MESH = 1660  # with all that is listed for it, about
 MESHES = max(1, int(given.mb * 1e6 / BYTES_OF_A_MESH))

@@ -5,3 +5,4 @@ pub mod FirstReports
 pub mod Reporting
 pub mod Setting
 pub mod Replacing
+pub mod HeldAgain

@@ -1,12 +1,12 @@
 """Writes docs/API.md: each public module of `gltf_json`, with its items as users name them.
 
 `python3 tools/gen_api.py` writes the page; `--check` says whether the page is current, and ends
-with status 1 if it isn't.
+with status 1 and a short diff if it isn't.
 """
 import re
-import sys
 import textwrap
 
+from settle import settle
 from sources import ROOT, crates, trait_and_type
 
 PAGE = ROOT / "docs" / "API.md"
@@ -286,14 +286,7 @@ def order(found):
 
 
 def main():
-    text = Page().text()
-    if "--check" in sys.argv[1:]:
-        current = PAGE.exists() and PAGE.read_text() == text
-        print("docs/API.md is current" if current else "docs/API.md is not current: "
-              "run python3 tools/gen_api.py")
-        sys.exit(0 if current else 1)
-    PAGE.write_text(text)
-    print(f"docs/API.md: {len(text.split())} words")
+    settle({PAGE: Page().text()})
 
 
 if __name__ == "__main__":

@@ -2,16 +2,18 @@
 """gen_cases.py: documents that gltf_corpus reads and writes in two ways, and what becomes of them.
 
 It writes crates/gltf_corpus/data/cases.jsonl, a case a line, and their number into the last line of
-crates/gltf_corpus/stdout. A case has a title, a text or bytes, and what becomes of them: the line
-that the document is written as, or the error. A case may also have members that objects are to keep
-in `others`, under the names of src/kept.rt, and extras, and the place that the table refuses, as a
-path and as a JSON pointer.
+crates/gltf_corpus/stdout, or compares both (`--check`). A case has a title, a text or bytes, and
+what becomes of them: the line that the document is written as, or the error. A case may also have
+members that objects are to keep in `others`, under the names of src/kept.rt, and extras, and the
+place that the table refuses, as a path and as a JSON pointer.
 What is expected is worked out by hand or by Python's json, never taken from the program.
 """
 import json
-import pathlib
 
-CORPUS = pathlib.Path(__file__).resolve().parent.parent / "crates" / "gltf_corpus"
+from settle import settle
+from sources import ROOT
+
+CORPUS = ROOT / "crates" / "gltf_corpus"
 
 NO_JSON = "not JSON"
 NO_DOCUMENT = "not a glTF document"
@@ -241,8 +243,18 @@ def places():
          "bufferViews[0].buffer", "/bufferViews/0/buffer"),
         (document(behind='"nodes":[1],"nodes":[{},2,3]'), "nodes[1]", "/nodes/1"),
         (document(behind='"extensionsUsed":["a",1]'), "extensionsUsed[1]", "/extensionsUsed/1"),
-        (primitive('"POSITION":"a"'), "meshes[0].primitives[0].attributes",
-         "/meshes/0/primitives/0/attributes"),
+        (document(behind='"nodes":[{"matrix":[1,2,3,"a",4]}]'), "nodes[0].matrix[3]",
+         "/nodes/0/matrix/3"),
+        (document(behind='"nodes":[{"matrix":{}}]'), "nodes[0].matrix", "/nodes/0/matrix"),
+        (primitive('"POSITION":"a"'), "meshes[0].primitives[0].attributes.POSITION",
+         "/meshes/0/primitives/0/attributes/POSITION"),
+        (primitive('"POSITION":0,"NORMAL":-1,"JOINTS_0":1'),
+         "meshes[0].primitives[0].attributes.NORMAL",
+         "/meshes/0/primitives/0/attributes/NORMAL"),
+        (primitive('"a/~":4294967296,"z":null'), "meshes[0].primitives[0].attributes.a/~",
+         "/meshes/0/primitives/0/attributes/a~1~0"),
+        (document(behind='"meshes":[{"primitives":[{"attributes":[]}]}]'),
+         "meshes[0].primitives[0].attributes", "/meshes/0/primitives/0/attributes"),
         (document(behind='"extensions":{"KHR_lights_punctual":{"lights":[{"type":"point"},{}]}}'),
          "extensions.KHR_lights_punctual.lights[1].type",
          "/extensions/KHR_lights_punctual/lights/1/type"),
@@ -633,10 +645,11 @@ def main():
     ):
         make()
     lines = [json.dumps(case_, separators=(",", ":")) for case_ in CASES]
-    (CORPUS / "data" / "cases.jsonl").write_text("".join(line_ + "\n" for line_ in lines))
-    before, _, _ = (CORPUS / "stdout").read_bytes().rpartition(b"# both ways")
+    there = (CORPUS / "stdout").read_text()
+    before = there[:there.rfind("# both ways")] if "# both ways" in there else there
     last = f"# both ways, and {len(CASES)} cases: as expected\n"
-    (CORPUS / "stdout").write_bytes(before + last.encode())
+    cases = "".join(line_ + "\n" for line_ in lines)
+    settle({CORPUS / "data" / "cases.jsonl": cases, CORPUS / "stdout": before + last})
 
 
 if __name__ == "__main__":

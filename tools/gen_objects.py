@@ -1,23 +1,26 @@
 #!/usr/bin/env python3
 """gen_objects.py: what gltf_corpus tries at each object of the format, and what it expects.
 
-It writes crates/gltf_corpus/data/objects.json. What is expected is worked out by table.py, never
-taken from the program.
+It writes crates/gltf_corpus/data/objects.json, or compares it (`--check`). What is expected is
+worked out by table.py, never taken from the program.
 
 objects.json has the values that stand in for each member in turn; the names of the fields that a
-Debug text has; for each object its place, a document in which each of its members has a value that
-isn't its default, and for each member a line that says what becomes of the values; and the objects
-of object_forms.py, each as the member of a document that holds it, with such a line.
+Debug text has; what absent numbers mean; for each object its place, a document in which each of its
+members has a value that isn't its default, and for each member a line that says what becomes of the
+values; and the objects of object_forms.py, each as the member of a document that holds it, with
+such a line.
 """
 import collections
 import json
-import pathlib
 import re
 
 from object_forms import FORMS
-from table import ABSENT, CHOICES, INVALID, KEEPERS, OBJECTS, REFUSED, answer, answer_of_object
+from settle import settle
+from sources import ROOT
+from table import ABSENT, CHOICES, INVALID, KEEPERS, MEANT, OBJECTS, REFUSED
+from table import answer, answer_of_object
 
-CORPUS = pathlib.Path(__file__).resolve().parent.parent / "crates" / "gltf_corpus"
+CORPUS = ROOT / "crates" / "gltf_corpus"
 
 # The name of a member that no object has.
 UNKNOWN = "zz"
@@ -210,6 +213,7 @@ def data():
     """What the program reads."""
     yield f'{{"values":{compact(VALUES)},'
     yield f'"fields":{compact(collections.Counter(fields_of("Root")))},'
+    yield f'"absent":{compact(MEANT)},'
     yield '"objects":['
     yield from objects()
     yield f'],"least":{compact(least("Root"))},'
@@ -219,4 +223,4 @@ def data():
 
 
 if __name__ == "__main__":
-    (CORPUS / "data" / "objects.json").write_text("".join(f"{line}\n" for line in data()))
+    settle({CORPUS / "data" / "objects.json": "".join(f"{line}\n" for line in data())})

@@ -1,5 +1,5 @@
 """Reads the items of the crates' sources: what each module declares and re-exports, with
-docstrings, signatures and the names of contract clauses. Bodies and contracts are skipped."""
+docstrings, signatures, contract clauses and ghost members. Bodies are skipped."""
 import re
 from dataclasses import dataclass, field
 from pathlib import Path
@@ -12,7 +12,9 @@ CLOSING = {"{": "}", "(": ")", "[": "]"}
 
 @dataclass
 class Item:
-    """A declared item. `kind` is fn, struct, enum, trait, type, const, static, impl, mod or use."""
+    """A declared item. `kind` is fn, struct, enum, trait, type, const, static, impl, mod or use.
+    A clause is a kind, a name and a text. `ghost_texts` has the texts of the ghost members, and
+    `ghost_uses` the paths that their names and those of the clauses stand for."""
     kind: str
     name: str
     signature: str = ""
@@ -22,6 +24,8 @@ class Item:
     clauses: list = field(default_factory=list)
     members: list = field(default_factory=list)
     ghosts: list = field(default_factory=list)
+    ghost_texts: list = field(default_factory=list)
+    ghost_uses: dict = field(default_factory=dict)
 
 
 class Module:
@@ -30,6 +34,7 @@ class Module:
     def __init__(self, crate, path, doc):
         self.crate, self.path, self.doc = crate, path, doc
         self.items, self.modules, self.uses, self.impls = {}, {}, {}, []
+        self.ghost_uses = {}
         self.public_uses = set()
         self.public_modules = set()
 
@@ -227,7 +232,7 @@ class Reader:
         self.modifiers(scanner)
         kind = scanner.word()
         if kind == "ghost":
-            self.ghost(scanner)
+            self.ghost(scanner, module)
         elif kind == "use":
             scanner.take("use")
             for name, path in use_tree(scanner.until(";")):
@@ -265,12 +270,13 @@ class Reader:
             return False
         return True
 
-    def ghost(self, scanner):
-        """Goes past a ghost item, and returns its name."""
+    def ghost(self, scanner, holder):
+        """Goes past a ghost item of a module, type, trait or impl, and returns its name."""
         scanner.take("ghost")
         name = scanner.word()
         if name == "use":
-            scanner.line()
+            line = scanner.line().partition(";")[0].removeprefix("use ").replace(".", "::")
+            holder.ghost_uses.update((used, ".".join(path)) for used, path in use_tree(line))
             return None
         if scanner.until(";{") and scanner.text[scanner.at] == ";":
             scanner.at += 1
@@ -340,7 +346,7 @@ class Reader:
         while scanner.skip() and scanner.text[scanner.at] != "}":
             docs = scanner.docs
             if scanner.word() == "ghost":
-                self.ghost(scanner)
+                self.ghost(scanner, item)
                 continue
             public = self.visibility(scanner) or item.kind == "enum"
             text = scanner.until(",}") if item.kind == "struct" else self.variant(scanner)
@@ -360,8 +366,9 @@ class Reader:
             clause = scanner.word()
             scanner.at += len(clause)
             label = scanner.until("{").lstrip("* ")
-            item.clauses.append((clause, label))
+            start = scanner.at
             scanner.balanced()
+            item.clauses.append((clause, label, scanner.text[start:scanner.at]))
             while scanner.skip() and scanner.text[scanner.at] == ",":
                 scanner.at += 1
         if scanner.text[scanner.at] == "{":
@@ -380,7 +387,9 @@ class Reader:
         while scanner.skip() and scanner.text[scanner.at] != "}":
             docs = scanner.docs
             if scanner.word() == "ghost":
-                item.ghosts.append(self.ghost(scanner))
+                start = scanner.at
+                item.ghosts.append(self.ghost(scanner, item))
+                item.ghost_texts.append(scanner.text[start:scanner.at])
                 continue
             if scanner.word() not in ("pub", "fn", "const", "type", "unsafe", "extern"):
                 scanner.until(";}")

@@ -1,11 +1,12 @@
 """The tables of docs/SCHEMA.md, read from that page: each object, its members, the mark and the kind
-of each, and the values of each choice; and `answer`, which says what the marks and kinds of
-SCHEMA.md mean for a value.
+of each, what it means if it is absent, and the values of each choice; and `answer`, which says what
+the marks and kinds of SCHEMA.md mean for a value.
 
 Nothing here is taken from the program: the tests of gltf_corpus are worked out by it
 (gen_objects.py).
 """
 import json
+import math
 import re
 from itertools import takewhile
 from pathlib import Path
@@ -60,6 +61,18 @@ def default_of(kind, text):
     return json.dumps(CALLED[kind][text]) if text and kind in CALLED else text
 
 
+# What each member that has brackets means if it is absent, by the object's and the member's name.
+MEANT = {}
+
+
+def meaning_of(kind, text):
+    """What a member of numbers means if it is absent, by the text in its brackets."""
+    words = {"zeros": 0.0, "ones": 1.0, "a quarter of pi": math.pi / 4, "infinite": None}
+    found = [words[part] if part in words else float(part) for part in text.split(", ")]
+    count = int(kind.removeprefix("Numbers")) if kind.startswith("Numbers") else 0
+    return found[0] if count == 0 else found * count if len(found) == 1 else found
+
+
 def rows_of(name, text, has_ee):
     """The rows of an object: member, mark, default if the mark has one, kind."""
     rows = text.removesuffix(" (no ee)").split("; ")
@@ -70,8 +83,11 @@ def rows_of(name, text, has_ee):
             yield "extensions", "?", None, f"{name}.extensions"
             yield "extras", "?", None, "Any"
         elif row != "none":
-            member, mark, kind = re.match(r"(\w+) (\S+) ?(.*?)(?: \[.*\])?$", row).groups()
+            row = re.match(r"(\w+) (\S+) ?(.*?)(?: \[(.*)\])?$", row).groups()
+            member, mark, kind, meant = row
             kind = kind_of_row(name, member, kind) or f"{name}.extensions"
+            if meant:
+                MEANT[f"{name}.{member}"] = meaning_of(kind, meant)
             yield member, mark[0], default_of(kind, mark[1:]), kind
 
 

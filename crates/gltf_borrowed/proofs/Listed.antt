@@ -27,7 +27,7 @@ without_named n (e ∷ es) = cond (bytes_eq e.0.now n) (without_named n es) (e �
 
 -- ---- what is found
 
-or_assoc : (a b c : Option Data) → or_else a (or_else b c) ≡ or_else (or_else a b) c
+pub or_assoc : (a b c : Option Data) → or_else a (or_else b c) ≡ or_else (or_else a b) c
 or_assoc None b c = refl
 or_assoc (Some d) b c = refl
 

@@ -1,6 +1,6 @@
 //! From tokens to a value, in one pass.
 
-ghost use Rattle.std.specs.Prelude.{◌≡◌, ◌<◌, ◌≤◌, ◌∷◌, length, Some, None, Err, IfOk, OnOk};
+ghost use Rattle.std.specs.Prelude.{◌≡◌, ◌<◌, ◌≤◌, ◌∷◌, ◌++◌, [], length, Some, None, Err, IfOk, OnOk};
 ghost use Rattle.json.specs.Json.{value, items, members};
 ghost use Rattle.json.specs.Reads.{token_of};
 ghost use Rattle.serde_json.specs.Data.{no_members};
@@ -10,9 +10,9 @@ ghost use Rattle.gltf_borrowed.specs.Borrowed.{data_of, items_data, members_data
 use crate::numeral;
 use crate::value::Borrowed;
 use json::{Invalid, Reader, Token};
-use std::alloc::Global;
+use std::alloc::{AllocError, Global};
 
-/// How many members an object mostly has at most: memory for them is asked for at once.
+/// How many members an object mostly has at most: room for them is asked for with the first one.
 const FEW: usize = 8;
 
 /// Why no value was read.
@@ -135,14 +135,29 @@ fn read_members<'a>(
         → converted (λ ms. of_members ms no_members)
         (members (value depth) (length reader.old) reader.old) ≡ None }
 {
-    let Ok(mut entries) = Vec::with_capacity(alloc, FEW) else {
-        return Err(NoValue::Memory);
-    };
+    let mut entries = Vec::new(alloc);
     'members: while let Some(name) = reader.next_key()? {
         let member = read_value(alloc, reader, depth)?;
-        let Ok(()) = entries.push((name, member)) else {
+        let Ok(()) = add_member(&mut entries, name, member) else {
             return Err(NoValue::Memory);
         };
     }
     Ok(entries)
+}
+
+/// Adds a member behind the others. Fails if a growth was refused.
+#[inline(always)]
+fn add_member<'a>(
+    entries: &mut Vec<(&'a str, Borrowed<'a>)>,
+    name: &'a str,
+    member: Borrowed<'a>,
+) -> Result<(), AllocError>
+    ensures { OnOk result
+        (entries.new.items ≡ entries.old.items ++ (name.entry, member.entry) ∷ []) }
+{
+    if entries.is_empty() {
+        entries.reserve_exact(FEW)?;
+    }
+    entries.push((name, member))?;
+    Ok(())
 }

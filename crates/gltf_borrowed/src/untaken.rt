@@ -63,12 +63,26 @@ impl<'a> Untaken<'a> {
         ensures left { members_data (drop self.new.start self.new.entries.items)
             ≡ without name.now (members_data (drop self.old.start self.old.entries.items)) }
     {
-        let mut found = self.take_at(first);
-        let mut i = first;
-        'scan: while let Some(next) = self.find(name, i) {
-            found = self.take_at(next);
-            i = next;
+        let found = self.take_at(first);
+        match self.find(name, first) {
+            Some(next) => self.take_repeated(name, next),
+            None => found,
         }
+    }
+
+    /// As `take_all`, in one pass over all that are left. `take_at` would move the others once for
+    /// each member of the name.
+    #[cold]
+    #[inline(never)]
+    fn take_repeated(&mut self, name: &str, first: usize) -> Borrowed<'a>
+        requires { IsFirst name.now (drop self.old.start self.old.entries.items) first }
+        ensures taken { get_member name.now
+            (members_data (drop self.old.start self.old.entries.items)) ≡ Some (data_of result) }
+        ensures left { members_data (drop self.new.start self.new.entries.items)
+            ≡ without name.now (members_data (drop self.old.start self.old.entries.items)) }
+    {
+        let (kept, found) = keep_others(&mut self.entries[self.start..], name, first);
+        self.entries.truncate(self.start + kept);
         found
     }
 
@@ -92,6 +106,35 @@ impl<'a> Untaken<'a> {
         }
         found
     }
+}
+
+/// Moves the entries of other names to the front, in their order. Returns how many there are, and
+/// the last value of the name. The first entry of the name is at `first`.
+fn keep_others<'a>(
+    entries: &mut [(&'a str, Borrowed<'a>)],
+    name: &str,
+    first: usize,
+) -> (usize, Borrowed<'a>)
+    requires { IsFirst name.now entries.old first }
+    ensures within { result.0 ≤ length entries.new }
+    ensures same { length entries.new ≡ length entries.old }
+    ensures left { members_data (take result.0 entries.new)
+        ≡ without name.now (members_data entries.old) }
+    ensures taken { get_member name.now (members_data entries.old) ≡ Some (data_of result.1) }
+{
+    let mut found = mem::replace(&mut entries[first].1, Borrowed::Null);
+    let mut kept = first;
+    let mut i = first + 1;
+    'scan: while i < entries.len() {
+        if is_same(entries[i].0, name) {
+            found = mem::replace(&mut entries[i].1, Borrowed::Null);
+        } else {
+            entries.swap(kept, i);
+            kept += 1;
+        }
+        i += 1;
+    }
+    (kept, found)
 }
 
 /// Whether two names are the same. Names of one length mostly differ in the last byte, so the bytes

@@ -1,5 +1,5 @@
 -- What the calls return.
-use Rattle.std.specs.Prelude.{◌≡◌, ◌⊎◌, true, ℕ, Bool, List, Result, Ok, Err, ⊤}
+use Rattle.std.specs.Prelude.{◌≡◌, ◌⊎◌, true, ℕ, Bool, List, Result, Ok, Err, ⊤, if◌then◌else◌}
 use Rattle.std.specs.Str.Lines.{lines}
 use Rattle.std.specs.Global.{Vec}
 use Rattle.gltf_schema.specs.Invalid.{holds_invalid}
@@ -43,6 +43,12 @@ IsRewriting due (Err errors.Schema) = due ≡ no_document
 IsRewriting due (Err errors.InvalidItem) = IsUnwritable due
 IsRewriting due (Err (errors.Memory e)) = ⊤
 IsRewriting due (Err _) = ⊥
+
+-- the status that the bytes alone decide
+abbrev pub rewrite_status : Answer → ℕ
+rewrite_status no_json = 2
+rewrite_status no_document = 3
+rewrite_status (document t) = if holds_invalid t then 5 else 0
 
 -- a call wrote a document anew, as far as the buffer has room
 abbrev pub IsRewritten : Answer → List ℕ → List ℕ → ℕ → Type 0

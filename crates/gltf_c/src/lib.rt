@@ -6,10 +6,11 @@
 //! there is room for to the front of the caller's buffer, and leaves the rest as it was.
 #![tactic(auto)]
 
-ghost use Rattle.std.specs.Prelude.{◌≡◌, ◌≢◌, ◌≤◌, [], IsUtf8};
+ghost use Rattle.std.specs.Prelude.{◌≡◌, ◌≢◌, ◌≤◌, ◌⊎◌, [], IsUtf8};
 ghost use Rattle.gltf_root.specs.Answer.{answer, no_json, no_document};
 ghost use Rattle.gltf_faults.specs.Context.{standard_rules};
-ghost use Rattle.gltf_c.specs.Calls.{IsChecked, IsRewritten, IsUnwritable, given_rules};
+ghost use Rattle.gltf_c.specs.Calls.{IsChecked, given_rules};
+ghost use Rattle.gltf_c.specs.Calls.{IsRewritten, IsUnwritable, rewrite_status};
 ghost use Rattle.gltf_c.specs.Filled.{IsFilled};
 
 use gltf_faults::Rules;
@@ -88,7 +89,8 @@ pub extern "C" fn gltf_c_check_by(
 }
 
 /// Writes a document anew: in one line, without blanks between its tokens, and with each default of
-/// the format left out or put in as `Root::to_vec` does. Output comes with the status 0 alone.
+/// the format left out or put in as `Root::to_vec` does. Output comes with the status 0 alone. The
+/// bytes decide the status, except that it is 4 if memory was refused.
 ///
 /// | Status | Meaning |
 /// |---|---|
@@ -105,6 +107,8 @@ pub extern "C" fn gltf_c_rewrite(alloc: Global, document: &[u8], output: &mut [u
     ensures not_json { result.status ≡ 2 → answer document.now ≡ no_json }
     ensures not_document { result.status ≡ 3 → answer document.now ≡ no_document }
     ensures invalid { result.status ≡ 5 → IsUnwritable (answer document.now) }
+    ensures memory { (result.status ≡ rewrite_status (answer document.now))
+        ⊎ (result.status ≡ 4) }
     ensures status { (result.status ≢ 1) × (result.status ≤ 5) }
 {
     match rewritten(alloc, document) {

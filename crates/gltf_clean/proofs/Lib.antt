@@ -6,3 +6,4 @@ pub mod Reporting
 pub mod Setting
 pub mod Replacing
 pub mod HeldAgain
+pub mod Changing

@@ -5,4 +5,5 @@ pub mod FirstReport
 pub mod Reported
 pub mod Replaced
 pub mod Set
+pub mod Changes
 pub mod ErrorText

@@ -1,6 +1,7 @@
 //! Documents that have no report, and pushes that leave them so.
 #![tactic(auto)]
 
+pub mod changes;
 mod clean;
 mod fault;
 mod held;

@@ -7,6 +7,7 @@
 
 mod both;
 mod cases;
+mod defaults;
 mod kept;
 mod objects;
 

@@ -1,8 +1,10 @@
 //! Tries each member of each object of the format with many values, and compares what becomes of
 //! them with what `data/objects.json` expects. The file also has documents, each with a value for
-//! each member of an object, and the fields that the Debug text of the first document names.
-//! `tools/gen_objects.py` writes it from the table of the format. Only what differs is printed.
+//! each member of an object, the fields that the Debug text of the first document names, and what
+//! absent numbers mean (`defaults.rt`). `tools/gen_objects.py` writes it from the table of the
+//! format. Only what differs is printed.
 
+use crate::defaults::are_defaults_expected;
 use anyhow::{Context, Result};
 use gltf_json::{Error, Root, Value};
 use serde_json::Map;
@@ -176,7 +178,7 @@ fn is_same(
 }
 
 /// Whether an object has the expected members, and no more.
-fn are_same(
+pub fn are_same(
     rt: &HostRuntime,
     place: &str,
     expected: &Map<String, Value>,
@@ -316,6 +318,7 @@ pub fn print_objects(rt: &HostRuntime) -> Result<()> {
     let bytes = fs::read(rt, "objects.json")?;
     let data = Value::from_slice(rt.alloc(), bytes.as_slice())?;
     let mut well = are_fields_expected(rt, &data)?;
+    well = are_defaults_expected(rt, &data)? && well;
     well = are_objects_expected(rt, &data)? && well;
     well = are_forms_expected(rt, &data)? && well;
     let verdict = if well {

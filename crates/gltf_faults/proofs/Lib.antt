@@ -19,3 +19,11 @@ pub mod ReportedMaterials
 pub mod ReportedScenes
 pub mod ReportedDocuments
 pub mod PlainPushes
+pub mod Shifting
+pub mod Widening
+pub mod Leading
+pub mod KeysThere
+pub mod Pointing
+pub mod PointingRoot
+pub mod PointerText
+pub mod KeyFound

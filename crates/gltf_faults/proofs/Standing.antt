@@ -106,7 +106,7 @@ bounds_below (tree.object ts others) base =
     (further_below base most _ (bound_below (accessor_max ts) (base ++ most)))
 bounds_below t base = none_below base
 
-positions_below : (found : Option ℕ) (root : Tree) (base : List Step) → AllBelow base (positions_faults found root base)
+pub positions_below : (found : Option ℕ) (root : Tree) (base : List Step) → AllBelow base (positions_faults found root base)
 positions_below None root base = here_below _ base
 positions_below (Some n) root base = bounds_below _ base
 

@@ -10,3 +10,6 @@ pub mod Naming
 pub mod Inserted
 pub mod Standing
 pub mod Worked
+pub mod Bases
+pub mod Wider
+pub mod Found

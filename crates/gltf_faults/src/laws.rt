@@ -28,6 +28,7 @@ ghost use Rattle.gltf_sinks.specs.Sinks.{one_more};
 ghost use Rattle.gltf_root.specs.declared.root.Root.{Root as Document};
 
 pub mod clean;
+pub mod further;
 pub mod plain;
 pub mod worked;
 

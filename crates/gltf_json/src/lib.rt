@@ -38,9 +38,15 @@ pub mod extensions {
 /// here of documents and of validation, and in the modules of what these are made of.
 pub mod laws {
     pub use gltf_base::laws as base;
+    pub use gltf_clean::changes::changes_leave_no_reports;
     pub use gltf_clean::laws::written_roots_are_held_again;
     pub use gltf_faults::constant_is_listed;
     pub use gltf_faults::laws::clean::clean_documents_are_written;
+    pub use gltf_faults::laws::further::{
+        attributes_spelled_as_their_keys_are_found, pointers_find_what_their_steps_lead_to,
+        reports_from_a_base_have_it_in_front, reports_lead_to_places_in_the_json,
+        rules_that_allow_more_leave_fewer_reports,
+    };
     pub use gltf_faults::laws::plain::pushes_leave_documents_plain;
     pub use gltf_faults::laws::worked::{
         worked_documents, worked_plainness, worked_pushes, worked_rules, worked_writings,

@@ -1,5 +1,7 @@
 -- The rows of lights, by KHR_lights_punctual, and of variants, by KHR_materials_variants.
-use Rattle.std.specs.Prelude.{◌≡◌, true, false, codes, refl, [], ◌∷◌}
+use Rattle.std.specs.Prelude.{◌≡◌, ◌*◌, ◌^◌, true, false, codes, refl, [], ◌∷◌}
+use Rattle.std.specs.Float.{Float, binary64}
+use Rattle.std.specs.Float.Ieee.{round}
 use Rattle.gltf_paths.specs.Lists.{lights}
 use Rattle.gltf_choices.specs.SceneChoices.{light_type_spelling, light_types}
 use Rattle.gltf_checked.specs.declared.choice.Form.TheVariants as form
@@ -13,6 +15,10 @@ use Rattle.gltf_nodes.specs.declared.extensions.scene.khr_lights_punctual.KhrLig
 use Rattle.gltf_nodes.specs.declared.extensions.scene.khr_lights_punctual.Light.{Light}
 use Rattle.gltf_nodes.specs.declared.extensions.scene.khr_lights_punctual.Spot.{Spot}
 use Rattle.gltf_nodes.specs.declared.extensions.scene.khr_materials_variants.Variant.{Variant}
+
+-- the float that is nearest to pi / 4, from the first 37 digits of pi
+abbrev pub quarter_of_pi : Float
+quarter_of_pi = round binary64 false 3141592653589793238462643383279502884 (4 * 10 ^ 36)
 
 abbrev pub light_type_kind : Kind
 light_type_kind = choice_of form.Name light_type_spelling light_types

@@ -87,25 +87,21 @@ pub mod image {
 /// What holds of the table and of the objects, as contracts of functions that do nothing.
 pub mod laws {
     pub use gltf_data::laws::strides_are_compared_as_numbers;
-    pub use gltf_schema::laws::{
-        keys_have_the_indexes_of_their_last_names, read_trees_are_plain,
-        read_trees_are_refused_where_invalid, trees_of_a_kind_are_refused_where_invalid,
-        written_trees_are_read_back, written_trees_hold_nothing_invalid,
-    };
+    pub use gltf_schema::laws::{keys_have_the_indexes_of_their_last_names, read_trees_are_plain, read_trees_are_refused_where_invalid, trees_of_a_kind_are_refused_where_invalid, written_trees_are_read_back, written_trees_hold_nothing_invalid, values_are_refused_at_one_place,};
 
     /// Of the factors of materials.
     pub mod material {
-        pub use gltf_materials::laws::factors_are_absent_by_default;
+        pub use gltf_materials::laws::{defaults_are_listed, factors_are_absent_by_default};
     }
 
     /// Of the factors of materials' extensions.
     pub mod shading {
-        pub use gltf_shading::laws::factors_are_absent_by_default;
+        pub use gltf_shading::laws::{defaults_are_listed, factors_are_absent_by_default};
     }
 
     /// Of the factors of textures' extensions.
     pub mod texture {
-        pub use gltf_textures::laws::factors_are_absent_by_default;
+        pub use gltf_textures::laws::{defaults_are_listed, factors_are_absent_by_default};
     }
 }
 

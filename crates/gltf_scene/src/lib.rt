@@ -74,7 +74,7 @@ pub mod extensions {
 
 /// What holds of the objects, as contracts of functions that do nothing.
 pub mod laws {
-    pub use gltf_nodes::laws::quaternions_turn_nothing_by_default;
+    pub use gltf_nodes::laws::{defaults_are_listed, quaternions_turn_nothing_by_default};
 }
 
 /// Geometry, and what its attributes mean.

@@ -90,7 +90,7 @@ read_members-members-preserved t c =
     let r = c.read_value.new.reader in
     let less = read_key-shorter l.reader (Some k) s named in
     let lesser = done.shorter in
-    let put_last : members_data c.push.new.self.items ≡ put k (data_of v) old = ap members_data c.in-Ok-push.ensures.items ∙ put_entries-push l.entries.items e no_members in (
+    let put_last : members_data c.add_member.new.entries.items ≡ put k (data_of v) old = ap members_data c.in-Ok.ensures ∙ put_entries-push l.entries.items e no_members in (
       n - 1,
       omega (arith, l.invariant.1),
       l.invariant.2 ∙ member_read p old n k l.reader s r (data_of v) (omega (arith, l.invariant.1)) named done.ok

@@ -5,4 +5,5 @@ pub mod FirstReports
 pub mod Reporting
 pub mod Setting
 pub mod Replacing
+pub mod HeldAgain
 pub mod Changing

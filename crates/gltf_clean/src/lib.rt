@@ -6,6 +6,7 @@ mod clean;
 mod fault;
 mod held;
 mod item;
+pub mod laws;
 mod push;
 mod refused;
 mod replace;

@@ -39,12 +39,15 @@ pub mod extensions {
 pub mod laws {
     pub use gltf_base::laws as base;
     pub use gltf_clean::changes::changes_leave_no_reports;
+    pub use gltf_clean::laws::written_roots_are_held_again;
     pub use gltf_faults::constant_is_listed;
+    pub use gltf_faults::laws::clean::clean_documents_are_written;
     pub use gltf_faults::laws::further::{
         attributes_spelled_as_their_keys_are_found, pointers_find_what_their_steps_lead_to,
         reports_from_a_base_have_it_in_front, reports_lead_to_places_in_the_json,
         rules_that_allow_more_leave_fewer_reports,
     };
+    pub use gltf_faults::laws::plain::pushes_leave_documents_plain;
     pub use gltf_faults::laws::worked::{
         worked_documents, worked_plainness, worked_pushes, worked_rules, worked_writings,
     };
@@ -55,7 +58,11 @@ pub mod laws {
         read_documents_are_refused_where_invalid, reports_are_the_faults_of_places,
     };
     pub use gltf_parts::laws as parts;
+    pub use gltf_root::laws::lists::lists_are_those_of_the_document;
     pub use gltf_root::laws::pushes_are_taken_back;
+    pub use gltf_root::laws::rewriting::{
+        documents_have_one_text, plain_documents_are_read_back, plain_documents_are_written_again,
+    };
     pub use gltf_scene::laws as scene;
     pub use gltf_sinks::laws::{collections_hold_the_reports, counts_are_numbers_of_reports};
 }

@@ -15,7 +15,9 @@ use crate::extras::Extras;
 use gltf_base::buffer::Target;
 use gltf_base::validation::{Checked, USize64};
 use gltf_base::{Index, Listed};
-use gltf_schema::{Error, Object, ReadRows, Refusal, Schema, Source, Tabled, WriteRows, whole_or_refused};
+use gltf_schema::{
+    Error, Object, ReadRows, Refusal, Schema, Source, Tabled, WriteRows, whole_or_refused,
+};
 use serde_json::Value;
 use std::alloc::Global;
 

@@ -87,7 +87,12 @@ pub mod image {
 /// What holds of the table and of the objects, as contracts of functions that do nothing.
 pub mod laws {
     pub use gltf_data::laws::strides_are_compared_as_numbers;
-    pub use gltf_schema::laws::{keys_have_the_indexes_of_their_last_names, read_trees_are_plain, read_trees_are_refused_where_invalid, trees_of_a_kind_are_refused_where_invalid, written_trees_are_read_back, written_trees_hold_nothing_invalid, values_are_refused_at_one_place,};
+    pub use gltf_schema::laws::{
+        keys_have_the_indexes_of_their_last_names, read_trees_are_plain,
+        read_trees_are_refused_where_invalid, trees_of_a_kind_are_refused_where_invalid,
+        values_are_refused_at_one_place, written_trees_are_read_back,
+        written_trees_hold_nothing_invalid,
+    };
 
     /// Of the factors of materials.
     pub mod material {

@@ -10,19 +10,23 @@ from derive_crate import CrateTexts
 from derive_layout import Files
 from derive_objects import Table
 from derive_rows import Wrong
+from derive_walk import Walk
 from settle import settle
 
 
 def derive():
     """The objects, the files with every block as it should be, and what is wrong by hand."""
     table, files = Table(), Files()
-    problems = table.problems
+    problems, walk = table.problems, Walk(table, files)
     for made in table.objects.values():
         try:
             table.fit_types(made)
             CrateTexts(table, made).write(files)
+            walk.write(made)
         except Wrong as wrong:
             problems.append(str(wrong))
+    walk.write_factors()
+    walk.write_lists()
     return table, files, [*problems, *files.problems]
 
 

@@ -43,3 +43,28 @@ FACTS = {
         "(marked (ap (λ ts. always (closed_object ts)) c.new.ensures) {})", ["marked"],
         (AP, f"{KIND}.{{always}}", "use Rattle.gltf_schema.specs.Fields.{closed_object}")),
 }
+
+# The blocks that are written by hand, or the call that a block makes in place of the usual one.
+BY_HAND = {
+    # What is wrong in a material is found at once, before a walk enters it.
+    ("material", "Visitable"): "",
+    # A channel is visited by its animation, whose samplers it names.
+    ("animation_channel", "Visitable"): "",
+    ("animation_channel", "TableObject"): "",
+    # The parameters of a material without references of their own are made by the same call.
+    ("pbr_metallic_roughness", "value_ref"): "parameters_ref",
+    # A distance that is absent has no end, and so no number.
+    ("AttenuationDistance", "value"): "",
+}
+
+# The variant of `ValueRef` for an object, if it holds more than a reference to it: the extensions of
+# a material share one with the material, because the compiler limits what references reach.
+VALUE_REFS = {"material_extension": "Material(None, self)"}
+
+# The arms of `event` that are written by hand in the place of a row: the channels of an animation
+# need the animation, and the image of a texture may be none.
+ARMS_IN_ROWS = {("animation", "channels"), ("texture", "source")}
+
+# The variants of `ValueRef` that hold a reference to an object and mean something else: the channels
+# of an animation.
+VARIANTS_BY_HAND = {"Channels"}

@@ -1,5 +1,6 @@
 """Texts as `rt fmt` lays them out, and the files whose blocks are written in place."""
 import re
+import textwrap
 
 from sources import ROOT
 
@@ -30,7 +31,12 @@ def struct(front, fields, end=""):
 
 def ghosts(pairs):
     """Ghost members, with an empty line after each."""
-    return [line for name, text in pairs for line in (f"ghost {name} = {{ {text} }};", "")]
+    lines = []
+    for name, text in pairs:
+        lines += textwrap.wrap(f"ghost {name} = {{ {text} }};", LINE - 4, subsequent_indent="    ",
+                               break_long_words=False)
+        lines.append("")
+    return lines
 
 
 def block(head, parts):
@@ -85,6 +91,22 @@ class Files:
         if there != wanted and not (free and bare(there) == bare(wanted)):
             self.differing.append(f"{path.relative_to(ROOT)}:{at + 1}: {head}")
             self.after[path][at:last + 1] = wanted
+        return True
+
+    def put_end(self, made, path, head, begin, wanted):
+        """Writes what stands in a block below the line that begins with `begin`. Returns False if
+        there is no such line."""
+        found = self.find(path, head, ends_item)
+        first, last = found or (0, 0)
+        lines = self.lines(path)[first:last]
+        at = next((k for k, line in enumerate(lines) if line.startswith(begin)), None)
+        if at is None:
+            return False
+        self.count(made, wanted)
+        new = [*lines[:at + 1], "", *indented(wanted), "}"]
+        if self.lines(path)[first:last + 1] != new:
+            self.differing.append(f"{path.relative_to(ROOT)}:{first + at + 1}: {head}")
+            self.after[path][first:last + 1] = new
         return True
 
     def insert(self, made, path, after, wanted):

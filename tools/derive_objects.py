@@ -271,7 +271,7 @@ class Table:
         item = self.sources.item(path)
         found = item and item.kind == "struct" and re.search(r"\(pub (.*)\)$", item.signature)
         if found and found.group(1).startswith("Option<"):
-            self.factors[path] = found.group(1)
+            self.factors.setdefault(path, (found.group(1), made.base))
             return found.group(1)
         return ""
 

@@ -4,12 +4,14 @@ Writes what follows from the struct, the rows, the kind and the members of each 
 in place: derive_crate.py says what of its own crate, derive_walk.py what of the crates above. What
 can't be derived is in derive_exceptions.py. With `--check` it writes nothing and ends with status 1
 if a block has another text. With `--report` it prints how many lines of each object are derived."""
+import re
 import sys
 
 from derive_crate import CrateTexts
-from derive_layout import Files
+from derive_exceptions import ARMS_IN_ROWS, BY_HAND
+from derive_layout import Files, ends_item
 from derive_objects import Table
-from derive_rows import Wrong
+from derive_rows import Wrong, definition_lines
 from derive_walk import Walk
 from settle import settle
 
@@ -27,34 +29,62 @@ def derive():
             problems.append(str(wrong))
     walk.write_factors()
     walk.write_lists()
-    return table, files, [*problems, *files.problems]
+    return table, walk, files, [*problems, *files.problems]
 
 
-def by_hand(made):
-    """The lines of an object that are written by hand: its struct, its rows, kind and members."""
-    struct = len(made.fields) + 2
-    return struct + 2 * (len(made.rows) + 3) + 2
+def definitions(made):
+    """The lines of an object's struct with its docs, of its rows, its kind and its members."""
+    source = made.source().read_text().split("\n")
+    first = source.index(f"pub struct {made.name} {{")
+    count = source.index("}", first) - first + 1
+    while source[first - 1].startswith(("/", "#")):
+        first, count = first - 1, count + 1
+    names = [f"{made.base}_rows", made.kind, f"{made.base}_members"]
+    return count + sum(1 + len(definition_lines(made.spec_path(), name)) for name in names)
 
 
-def report(table, files):
-    total, hand = 0, 0
-    print(f"{'object':<26} derived  by hand")
+def others(made, walk, files):
+    """The lines of an object's impls that aren't derived."""
+    count = 0
+    heads = [(path, head) for impls in (walk.visits, walk.validation, walk.root)
+             for (_, of, _), (path, head, _) in impls.found.items() if of == made.path()]
+    for line in files.lines(made.source()):
+        head = re.match(rf"(impl(?: \w+ for)? {made.name}) \{{", line)
+        if head:
+            heads.append((made.source(), head.group(1)))
+    for path, head in set(heads):
+        first, last = files.find(path, head, ends_item)
+        lines = sum(1 for line in files.lines(path)[first:last + 1] if line.strip())
+        count += lines - files.blocks.get((path, head), 0)
+    return count + files.arms.get(made.base, 0)
+
+
+def report(table, walk, files):
+    """Prints how many lines of each object are derived, how many define it (its struct with docs,
+    its rows, kind and members), and how many of its impls are neither."""
+    sums = [0, 0, 0]
+    print(f"{'object':<26} derived  definitions  others")
     for made in table.objects.values():
-        derived = files.derived.get(made.base, 0)
-        print(f"{made.base:<26} {derived:>7}  {by_hand(made):>7}")
-        total, hand = total + derived, hand + by_hand(made)
-    print(f"{len(table.objects)} objects: {total} lines derived, {hand} by hand")
+        row = [files.derived.get(made.base, 0), definitions(made),
+               others(made, walk, files)]
+        print(f"{made.base:<26} {row[0]:>7}  {row[1]:>11}  {row[2]:>6}")
+        sums = [one + two for one, two in zip(sums, row)]
+    print(f"{len(table.objects)} objects: {sums[0]} lines are derived, {sums[1]} define the objects, "
+          f"{sums[2]} are others")
+    print("written by hand (tools/derive_exceptions.py):")
+    for (of, what), reason in {**BY_HAND, **ARMS_IN_ROWS}.items():
+        print(f"  {of}, {what}: {reason}")
 
 
 def main():
-    table, files, problems = derive()
+    table, walk, files, problems = derive()
     for place in files.differing:
         print(f"{place} {'differs' if '--check' in sys.argv else 'is written'}")
     for problem in problems:
         print(problem)
     if "--report" in sys.argv[1:]:
-        report(table, files)
-    elif not files.differing:
+        report(table, walk, files)
+    elif not files.differing and not problems:
         print(f"{len(files.after)} files have the lines that derive.py writes")
     for path in files.changed():
         if "--check" not in sys.argv[1:]:

@@ -44,26 +44,31 @@ FACTS = {
         (AP, f"{KIND}.{{always}}", "use Rattle.gltf_schema.specs.Fields.{closed_object}")),
 }
 
-# The blocks that are written by hand, or the call that a block makes in place of the usual one.
+# The blocks that are written by hand, with the reason.
 BY_HAND = {
-    # What is wrong in a material is found at once, before a walk enters it.
-    ("material", "Visitable"): "",
-    # A channel is visited by its animation, whose samplers it names.
-    ("animation_channel", "Visitable"): "",
-    ("animation_channel", "TableObject"): "",
-    # The parameters of a material without references of their own are made by the same call.
-    ("pbr_metallic_roughness", "value_ref"): "parameters_ref",
-    # A distance that is absent has no end, and so no number.
-    ("AttenuationDistance", "value"): "",
+    ("material", "Visitable"):
+        "what is wrong in a material is found at once, before a walk enters it",
+    ("animation_channel", "Visitable"):
+        "a channel is visited by its animation, whose samplers it names",
+    ("animation_channel", "TableObject"):
+        "a channel is validated by its animation alone",
+    ("AttenuationDistance", "value"):
+        "a distance that is absent has no end, and is no number",
 }
+
+# The arms of `event` that are written by hand in the place of a row, with the reason.
+ARMS_IN_ROWS = {
+    ("animation", "channels"): "the channels are visited with their animation",
+    ("texture", "source"): "the image may be none",
+}
+
+# The call that makes a `ValueRef` of two references to textures, in place of `TwoTextures`: the
+# parameters of a material share it with the material.
+TWO_TEXTURES = {"pbr_metallic_roughness": "parameters_ref"}
 
 # The variant of `ValueRef` for an object, if it holds more than a reference to it: the extensions of
 # a material share one with the material, because the compiler limits what references reach.
 VALUE_REFS = {"material_extension": "Material(None, self)"}
-
-# The arms of `event` that are written by hand in the place of a row: the channels of an animation
-# need the animation, and the image of a texture may be none.
-ARMS_IN_ROWS = {("animation", "channels"), ("texture", "source")}
 
 # The variants of `ValueRef` that hold a reference to an object and mean something else: the channels
 # of an animation.

@@ -57,9 +57,11 @@ class Files:
 
     def __init__(self):
         self.before, self.after = {}, {}
-        # The places where a block has another text, what is missing, and how many lines of each
-        # object are derived.
-        self.differing, self.problems, self.derived = [], [], {}
+        # The places where a block has another text, what is missing, how many lines of each object
+        # are derived, and how many of each block.
+        self.differing, self.problems, self.derived, self.blocks = [], [], {}, {}
+        # How many lines of the blocks of an object stay as they are.
+        self.arms = {}
 
     def lines(self, path):
         if path not in self.after:
@@ -87,7 +89,7 @@ class Files:
             return False
         at, last = found
         there = self.lines(path)[at:last + 1]
-        self.count(made, wanted)
+        self.count(made, wanted, path, head)
         if there != wanted and not (free and bare(there) == bare(wanted)):
             self.differing.append(f"{path.relative_to(ROOT)}:{at + 1}: {head}")
             self.after[path][at:last + 1] = wanted
@@ -102,7 +104,7 @@ class Files:
         at = next((k for k, line in enumerate(lines) if line.startswith(begin)), None)
         if at is None:
             return False
-        self.count(made, wanted)
+        self.count(made, wanted, path, head)
         new = [*lines[:at + 1], "", *indented(wanted), "}"]
         if self.lines(path)[first:last + 1] != new:
             self.differing.append(f"{path.relative_to(ROOT)}:{first + at + 1}: {head}")
@@ -123,9 +125,10 @@ class Files:
             self.differing.append(f"{path.relative_to(ROOT)}:1: the whole file")
             self.after[path] = [*wanted, ""]
 
-    def count(self, made, wanted):
+    def count(self, made, wanted, path=None, head=""):
         number = sum(1 for line in wanted if line.strip())
         self.derived[made.base] = self.derived.get(made.base, 0) + number
+        self.blocks[path, head] = self.blocks.get((path, head), 0) + number
 
     def miss(self, path, line, message):
         self.problems.append(f"{path.relative_to(ROOT)}:{line}: {message}")

@@ -3,10 +3,13 @@ gltf_events the arms of its variants of `ValueRef`, in gltf_validation its line 
 gltf_root the list of a document that holds it."""
 import re
 
-from derive_exceptions import ARMS_IN_ROWS, BY_HAND, VALUE_REFS, VARIANTS_BY_HAND
+from derive_exceptions import (
+    ARMS_IN_ROWS, BY_HAND, TWO_TEXTURES, VALUE_REFS, VARIANTS_BY_HAND,
+)
 from derive_factors import Factor
 from derive_layout import LINE, block, call, ghosts, indented
 from derive_objects import CRATES, line_of
+from derive_rows import Wrong
 
 VISITS = CRATES / "gltf_visits"
 EVENTS = CRATES / "gltf_events/src/lib.rt"
@@ -145,6 +148,7 @@ class Walk:
         The arms that are something else stay as they are."""
         made = self.made
         by_hand = self.arms_by_hand(path, head)
+        self.files.arms[made.base] = sum(len(lines) for _, lines in by_hand)
         texts = []
         for row in made.rows:
             if self.table.is_silent(made, row.kind):
@@ -153,9 +157,8 @@ class Walk:
                 texts.append(next((arm for arm in by_hand
                                    if any(f'"{row.name}"' in line for line in arm[1])), None))
                 if texts[-1] is None:
-                    self.files.miss(path, line_of(path, re.escape(head)),
-                                    f"the arm of '{row.name}' is written by hand, and is missing")
-                    return texts
+                    raise Wrong(path, line_of(path, re.escape(head)),
+                                f"the arm of '{row.name}', which is written by hand, is missing")
                 by_hand.remove(texts[-1])
             else:
                 front = f"{len(texts)} => E::member"
@@ -194,8 +197,8 @@ class Walk:
     def write_textures(self, rows):
         """An object in which only its references to textures can be wrong, one or two."""
         front, named = {1: "ValueRef::OneTexture", 2: "ValueRef::TwoTextures"}[len(rows)], True
-        if (self.made.base, "value_ref") in BY_HAND:
-            front, named = BY_HAND[self.made.base, "value_ref"], False
+        if self.made.base in TWO_TEXTURES:
+            front, named = TWO_TEXTURES[self.made.base], False
         states = [f"member_state(&self.{row.field}, context)" for row in rows]
         names = [f"MemberName::{row.name[0].upper()}{row.name[1:]}" for row in rows] * named
         tactic = [self.tactic()]
@@ -264,10 +267,10 @@ class Walk:
 
     def write_lists(self):
         """The lists of a document."""
-        root = self.table.objects["root"]
-        for row in root.rows:
+        root = self.table.objects.get("root")
+        for row in root.rows if root else []:
             made = self.table.object_of(root, row.kind)
-            if row.kind[0] != "ListOf" or not made:
+            if row.kind[0] != "ListOf" or not made or made.base not in self.table.objects:
                 continue
             self.made = made
             found = self.root.get("TopLevel", made.path())

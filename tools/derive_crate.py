@@ -237,11 +237,14 @@ class CrateTexts:
         path = made.spec_path()
         if files.put(made, path, f"pub {made.base}_{word} :", wanted, ends_definition, free=True):
             return
-        others = [files.find(path, f"pub {other.base}_{word} :", ends_definition)
-                  for other in self.table.objects.values() if other.spec_path() == path]
-        places = [place[1] for place in others if place]
-        if places:
-            files.insert(made, path, max(places), wanted)
+        # Behind that of the object in front of it, or in front of the first one.
+        bases = [one.base for one in self.table.objects.values() if one.spec_path() == path]
+        earlier = bases[:bases.index(made.base)]
+        places = [files.find(path, f"pub {base}_{word} :", ends_definition) for base in bases]
+        after = [place[1] for base, place in zip(bases, places) if place and base in earlier]
+        before = [place[0] - 2 for place in places if place]
+        if after or before:
+            files.insert(made, path, after[-1] if after else min(before), wanted)
         else:
             files.miss(path, line_of(path, f"unfoldable pub {made.base}_members"),
                        f"write 'pub {made.base}_{word} : x' below the members, and run again")

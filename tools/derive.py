@@ -11,25 +11,22 @@ from derive_crate import CrateTexts
 from derive_exceptions import ARMS_IN_ROWS, BY_HAND
 from derive_layout import Files, ends_item
 from derive_objects import Table
-from derive_rows import Wrong, definition_lines
+from derive_rows import definition_lines
 from derive_walk import Walk
 from settle import settle
 
 
-def derive():
-    """The objects, the files with every block as it should be, and what is wrong by hand."""
-    table, files = Table(), Files()
-    problems, walk = table.problems, Walk(table, files)
+def derive(table):
+    """The files with every block as it should be."""
+    files = Files()
+    walk = Walk(table, files)
     for made in table.objects.values():
-        try:
-            table.fit_types(made)
-            CrateTexts(table, made).write(files)
-            walk.write(made)
-        except Wrong as wrong:
-            problems.append(str(wrong))
+        CrateTexts(table, made).write(files)
+        walk.write(made)
     walk.write_factors()
+    walk.write_member_names()
     walk.write_lists()
-    return table, walk, files, [*problems, *files.problems]
+    return walk, files
 
 
 def definitions(made):
@@ -77,20 +74,24 @@ def report(table, walk, files):
 
 
 def main():
-    table, walk, files, problems = derive()
+    table = Table()
+    if table.problems:
+        sys.exit("\n".join(table.problems))
+    walk, files = derive(table)
     for place in files.differing:
-        print(f"{place} {'differs' if '--check' in sys.argv else 'is written'}")
-    for problem in problems:
+        print(f"{place} {'differs' if '--check' in sys.argv[1:] else 'is written'}")
+    for problem in files.problems:
         print(problem)
     if "--report" in sys.argv[1:]:
         report(table, walk, files)
-    elif not files.differing and not problems:
+    elif not files.differing and not files.problems:
         print(f"{len(files.after)} files have the lines that derive.py writes")
-    for path in files.changed():
-        if "--check" not in sys.argv[1:]:
+    changed = files.changed()
+    if "--check" not in sys.argv[1:]:
+        for path in changed:
             path.parent.mkdir(parents=True, exist_ok=True)
-    settle(files.changed())
-    sys.exit(1 if problems else 0)
+    settle(changed)
+    sys.exit(1 if files.problems else 0)
 
 
 if __name__ == "__main__":

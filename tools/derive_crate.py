@@ -1,7 +1,5 @@
 """What an object's own crate has of it: `Drop`, `Object`, the answers of `read_members` and of
 `write_members`, and in `specs/` that its kind is sound and how high it is."""
-import re
-
 from derive_exceptions import FACTS, Fact
 from derive_layout import block, call, ends_definition, ghosts, indented, struct
 from derive_objects import CRATES, line_of
@@ -86,30 +84,14 @@ class CrateTexts:
             "sometimes": ("sometimes", "optional"),
             "or_null": ("optional", "or_null"),
             "always": ("or_default", "always"),
-            "unless": ("list", "list") if is_list(row) else ("or_default", "unless"),
+            "unless": ("list", "list") if row.is_list() else ("or_default", "unless"),
         }[row.mark[0]]
 
     def read_row(self, row):
         typed = ": u32" if row.kind == ("ChannelSampler",) else ""
         method = self.method(row)[0]
-        default = [self.default(row)] if method == "or_default" else []
+        default = [self.table.default(self.made, row)] if method == "or_default" else []
         return call(f"let {row.field}{typed} = from.{method}", [f'"{row.name}"', *default], ";", 2)
-
-    def default(self, row):
-        """The value of a missing member, in Rust."""
-        tree = row.mark[1] if isinstance(row.mark[1], tuple) else (row.mark[1],)
-        if tree[0] == "truth":
-            return tree[1]
-        if tree[0] == "whole":
-            return f"USize64({tree[1]})" if row.type == "USize64" else tree[1]
-        if tree[0] == "index":
-            return f"Index::new({tree[1].upper()})"
-        if tree[0] == "closed_object":
-            return f"{row.type}::new()"
-        text = self.made.spec_path().read_text()
-        chosen = re.search(rf"(?m)^{tree[0]} = chosen \(\w+ \w+\.(\w+)\)$", text)
-        choice = re.fullmatch(r"Checked<(\w+)>", row.type)
-        return f"Checked::Valid({choice.group(1)}::{chosen.group(1)})"
 
     def by_name(self):
         """The rows in the byte order of their names."""
@@ -121,7 +103,7 @@ class CrateTexts:
             method = self.method(row)[1]
             inner = ".0" if self.table.factor_of(self.made, row.type) else ""
             inner = ".number()" if row.kind == ("ChannelSampler",) else inner
-            default = [self.default(row)] if method == "unless" else []
+            default = [self.table.default(self.made, row)] if method == "unless" else []
             lines += call(f"to.{method}", [f'"{row.name}"', f"&self.{row.field}{inner}", *default],
                           ";", 2)
         return ["fn write_members<W: WriteRows>(&self, to: &mut W) {", *indented(lines), "}"]
@@ -255,7 +237,3 @@ def rewritten(names, end):
     if not names:
         return end
     return f"rw {names[0] if len(names) == 1 else '(' + ', '.join(names) + ')'} {end}"
-
-
-def is_list(row):
-    return row.mark == ("unless", ("list", "end"))

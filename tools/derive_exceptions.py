@@ -73,3 +73,6 @@ VALUE_REFS = {"material_extension": "Material(None, self)"}
 # The variants of `ValueRef` that hold a reference to an object and mean something else: the channels
 # of an animation.
 VARIANTS_BY_HAND = {"Channels"}
+
+# What the numbers of a member are called in its function, if they are no colors.
+NUMBER_NAMES = {("node", "translation"): "xyz", ("node", "scale"): "xyz"}

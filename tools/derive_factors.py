@@ -3,12 +3,53 @@ as floats, its kind and its tree, and its lines in gltf_visits and gltf_validati
 written by hand, with its law."""
 import re
 
-from derive_exceptions import BY_HAND
+from derive_exceptions import BY_HAND, NUMBER_NAMES
 from derive_layout import block, ghosts, indented
 from derive_objects import CRATES
 
 # What the numbers are called, by how many there are.
 NAMES = {2: "xy", 3: "rgb", 4: "rgba"}
+
+
+def count_of(type_text):
+    """How many numbers an option holds, or None for a number alone."""
+    count = re.fullmatch(r"Option<\[Real; (\d+)\]>", type_text)
+    return int(count.group(1)) if count else None
+
+
+def value_of(owner, count, names, member, prefix="", constant="DEFAULT"):
+    """The function that returns the numbers of a member as floats, or the constant of `owner`."""
+    if count is None:
+        doc, head, floats = "number as a float", f"{prefix}value(&self) -> f64", "float_or"
+        found, made, be = "Some(number)", "number.as_f64()", "it is"
+    else:
+        doc, floats, be = "numbers as floats", "floats_or", "they are"
+        head = f"{prefix}values(&self) -> [f64; {count}]"
+        found = f"Some([{', '.join(names)}])"
+        made = f"[{', '.join(f'{name}.as_f64()' for name in names)}]"
+    return [
+        f"/// The {doc}, or [`{owner}::{constant}`] if {be} absent.",
+        f"pub fn {head}",
+        f"    ensures {{ result ≡ {floats} Self.{constant} self.now.{member} }}",
+        "{",
+        f"    match &self.{member} {{",
+        f"        {found} => {made},",
+        f"        None => {owner}::{constant},",
+        "    }",
+        "}",
+    ]
+
+
+def write_values(files, made):
+    """The values of an object's optional numbers for which it has a default."""
+    for row in made.rows:
+        if not re.fullmatch(r"Option<(Real|\[Real; \d+\])>", row.type):
+            continue
+        count, constant = count_of(row.type), f"DEFAULT_{row.field.upper()}"
+        names = NUMBER_NAMES.get((made.base, row.field), NAMES.get(count, ""))
+        wanted = value_of(made.name, count, names, row.field, f"{row.field}_", constant)
+        files.put_behind(made, made.source(), f"impl {made.name}", f"    pub const {constant}: ",
+                         wanted)
 
 
 class Factor:
@@ -17,34 +58,13 @@ class Factor:
 
     def __init__(self, path, holds, base):
         self.path, self.name, self.base = path, path[-1], base
-        count = re.fullmatch(r"Option<\[Real; (\d+)\]>", holds)
-        self.count = int(count.group(1)) if count else None
+        self.count = count_of(holds)
 
     def source(self):
         return (CRATES / self.path[0] / "src").joinpath(*self.path[1:-1]).with_suffix(".rt")
 
     def value(self):
-        name = self.name
-        if self.count is None:
-            doc, head, floats = "number as a float", "value(&self) -> f64", "float_or"
-            found, made, be = "Some(number)", "number.as_f64()", "it is"
-        else:
-            letters = NAMES[self.count]
-            doc, floats, be = "numbers as floats", "floats_or", "they are"
-            head = f"values(&self) -> [f64; {self.count}]"
-            found = f"Some([{', '.join(letters)}])"
-            made = f"[{', '.join(f'{letter}.as_f64()' for letter in letters)}]"
-        return [
-            f"/// The {doc}, or [`{name}::DEFAULT`] if {be} absent.",
-            f"pub fn {head}",
-            f"    ensures {{ result ≡ {floats} Self.DEFAULT self.now.0 }}",
-            "{",
-            "    match &self.0 {",
-            f"        {found} => {made},",
-            f"        None => {name}::DEFAULT,",
-            "    }",
-            "}",
-        ]
+        return value_of(self.name, self.count, NAMES.get(self.count, ""), "0")
 
     def tabled(self):
         kind = "Number" if self.count is None else f"Numbers {self.count}"
@@ -60,7 +80,7 @@ class Factor:
 
     def write(self, files, visits, validation):
         source = self.source()
-        if (self.name, "value") not in BY_HAND and not files.put_end(
+        if (self.name, "value") not in BY_HAND and not files.put_behind(
                 self, source, f"impl {self.name}", "    pub const DEFAULT: ", self.value()):
             files.miss(source, self.line(files), f"{self.name} has no 'impl' with its 'DEFAULT' on "
                        "one line: write it, and run again")

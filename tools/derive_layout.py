@@ -91,24 +91,33 @@ class Files:
         there = self.lines(path)[at:last + 1]
         self.count(made, wanted, path, head)
         if there != wanted and not (free and bare(there) == bare(wanted)):
-            self.differing.append(f"{path.relative_to(ROOT)}:{at + 1}: {head}")
+            self.differ(path, at, there, wanted, head)
             self.after[path][at:last + 1] = wanted
         return True
 
-    def put_end(self, made, path, head, begin, wanted):
-        """Writes what stands in a block below the line that begins with `begin`. Returns False if
-        there is no such line."""
+    def differ(self, path, at, there, wanted, what):
+        """Notes a block that begins behind the line `at`, by its first line that differs."""
+        same = 0
+        while there[same:same + 1] == wanted[same:same + 1] and same < len(wanted):
+            same += 1
+        self.differing.append(f"{path.relative_to(ROOT)}:{at + same + 1}: {what}")
+
+    def put_behind(self, made, path, head, constant, wanted):
+        """Writes a function behind the constant of an impl on which it depends. Returns False if
+        there is no such constant."""
         found = self.find(path, head, ends_item)
         first, last = found or (0, 0)
-        lines = self.lines(path)[first:last]
-        at = next((k for k, line in enumerate(lines) if line.startswith(begin)), None)
+        lines = self.lines(path)
+        at = next((k for k in range(first, last) if lines[k].startswith(constant)), None)
         if at is None:
             return False
         self.count(made, wanted, path, head)
-        new = [*lines[:at + 1], "", *indented(wanted), "}"]
-        if self.lines(path)[first:last + 1] != new:
-            self.differing.append(f"{path.relative_to(ROOT)}:{first + at + 1}: {head}")
-            self.after[path][first:last + 1] = new
+        new, end = ["", *indented(wanted)], at
+        if lines[at + 2].startswith(new[1].partition(", or [")[0]):
+            end = lines.index("    }", at)
+        if lines[at + 1:end + 1] != new:
+            self.differ(path, at + 1, lines[at + 1:end + 1], new, f"{head}, {wanted[1]}")
+            lines[at + 1:end + 1] = new
         return True
 
     def insert(self, made, path, after, wanted):
@@ -122,7 +131,7 @@ class Files:
         self.lines(path)
         self.count(made, wanted)
         if self.after[path] != [*wanted, ""]:
-            self.differing.append(f"{path.relative_to(ROOT)}:1: the whole file")
+            self.differ(path, 0, self.after[path], [*wanted, ""], "the whole file")
             self.after[path] = [*wanted, ""]
 
     def count(self, made, wanted, path=None, head=""):

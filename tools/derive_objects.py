@@ -4,7 +4,7 @@ import re
 from dataclasses import dataclass, field
 
 from derive_exceptions import FIELDS
-from derive_rows import Terms, Wrong, read_members, renamed, text_of
+from derive_rows import Terms, Wrong, inner_kind, read_members, renamed, text_of
 from sources import ROOT, Reader
 from specs import OWN, Definitions
 
@@ -120,12 +120,11 @@ class Table:
                              re.findall(r"rule_height (\w+) = (\d+)", text)}
         self.read_kinds()
         self.read_trees()
-        for object in [*self.objects.values()]:
-            try:
-                self.read_object(object)
-            except Wrong as wrong:
-                self.problems.append(str(wrong))
-                del self.objects[object.base]
+        for fit in (self.read_object, self.fit_types):
+            self.problems += [problem for made in self.objects.values()
+                              for problem in refused(fit, made)]
+            if self.problems:
+                break
 
     def key_of(self, name, crate, spec):
         """The definition that a name of a file stands for."""
@@ -251,10 +250,31 @@ class Table:
             if not re.fullmatch(wanted, self.bare_type(made, row.type)):
                 line = struct + line_of_field(source, struct, row.field)
                 raise Wrong(source, line, f"'{row.field}: {row.type}' doesn't fit the row "
-                            f"'{row.name}', {text_of_row(row)}")
-            if tree and renamed(tree) != renamed(row.member):
+                            f"'{row.name}', {row.says()}")
+            if renamed(tree) != renamed(row.member):
                 raise Wrong(path, row.line, f"the member of the row '{row.name}' is "
                             f"'{row.member}', and '{tree}' fits the row and the field")
+            if row.default() and not row.is_list():
+                self.default(made, row)
+
+    def default(self, made, row):
+        """The value of a missing member, in Rust."""
+        tree = row.default()
+        if tree[0] == "truth" and tree[1] in ("true", "false"):
+            return tree[1]
+        if tree[0] == "whole":
+            return f"USize64({tree[1]})" if row.type == "USize64" else tree[1]
+        if tree[0] == "index":
+            return f"Index::new({tree[1].upper()})"
+        if tree[0] == "closed_object":
+            return f"{row.type}::new()"
+        text = made.spec_path().read_text()
+        chosen = re.search(rf"(?m)^{tree[0]} = chosen \(\w+ \w+\.(\w+)\)$", text)
+        choice = re.fullmatch(r"Checked<(\w+)>", row.type)
+        if not chosen or not choice:
+            raise Wrong(made.spec_path(), row.line, f"the default '{text_of(tree)}' of the row "
+                        f"'{row.name}' is not known")
+        return f"Checked::Valid({choice.group(1)}::{chosen.group(1)})"
 
     def bare_type(self, made, text):
         """A type without the names that stand for others."""
@@ -317,7 +337,7 @@ class Table:
         if head == "Numbers":
             return rf"\[Real; {kind[1]}\]", "reals_tree"
         if head == "ListOf":
-            inner = kind[1] if isinstance(kind[1], tuple) else (kind[1],)
+            inner = inner_kind(kind)
             item = re.fullmatch(r"Vec<(.*)>", type_text)
             wanted, function = self.kind_type(made, inner, item.group(1) if item else "")
             return f"Vec<{wanted}>", f"list_tree {f'({function})' if ' ' in function else function}"
@@ -347,7 +367,7 @@ class Table:
     def object_of(self, made, kind):
         """The object that a kind is of, alone or as the item of a list; else None."""
         while kind[0] == "ListOf":
-            kind = kind[1] if isinstance(kind[1], tuple) else (kind[1],)
+            kind = inner_kind(kind)
         form, of = self.kinds.get(self.key_of(kind[0], made.crate, made.spec), (None, None))
         return of if form == "Object" else None
 
@@ -359,7 +379,7 @@ class Table:
         inner = self.object_of(made, kind)
         if inner is None:
             return kind[0] == "ListOf" and self.is_silent(
-                made, kind[1] if isinstance(kind[1], tuple) else (kind[1],), seen)
+                made, inner_kind(kind), seen)
         if inner.rule not in self.silent_rules:
             return False
         if inner.base != "no" and inner not in seen:
@@ -382,13 +402,17 @@ class Table:
             return 1
         if kind[0] == "ListOf":
             return 1 + self.kind_height(
-                made, kind[1] if isinstance(kind[1], tuple) else (kind[1],))
+                made, inner_kind(kind))
         inner = self.object_of(made, kind)
         return self.height(inner) if inner else 0
 
 
-def text_of_row(row):
-    return f"which is '{text_of(row.mark)}' and of kind '{text_of(row.kind)}'"
+def refused(fit, made):
+    """What is wrong with an object."""
+    try:
+        fit(made)
+    except Wrong as wrong:
+        yield str(wrong)
 
 
 def line_of_field(source, struct, name):

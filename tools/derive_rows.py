@@ -6,6 +6,8 @@ from dataclasses import dataclass
 
 from sources import ROOT
 
+# The marks, with the number of words of each.
+MARKS = {"required": 1, "optional": 1, "sometimes": 1, "or_null": 1, "always": 2, "unless": 2}
 TOKEN = re.compile(r'"[^"]*"|[(),]|[^\s(),"]+')
 
 
@@ -26,6 +28,25 @@ class Row:
     field: str = ""
     type: str = ""
     member: str = ""
+
+    def is_list(self):
+        """Whether it is a list that is written if it has items."""
+        return self.mark == ("unless", ("list", "end"))
+
+    def default(self):
+        """The tree of a missing member, as a term; None if it has none."""
+        if len(self.mark) == 1:
+            return None
+        return self.mark[1] if isinstance(self.mark[1], tuple) else self.mark[1:]
+
+    def says(self):
+        """The mark and the kind, in words."""
+        return f"which is '{text_of(self.mark)}' and of kind '{text_of(self.kind)}'"
+
+
+def inner_kind(kind):
+    """The kind of the items of a list."""
+    return kind[1] if isinstance(kind[1], tuple) else kind[1:]
 
 
 def text_of(term):
@@ -89,6 +110,8 @@ class Terms:
         name = self.take().strip('"')
         self.take(",")
         mark = self.term()
+        if MARKS.get(mark[0]) != len(mark):
+            raise Wrong(self.path, self.line, f"'{text_of(mark)}' is no mark of a row")
         self.take(",")
         kind = self.term()
         self.take(")")

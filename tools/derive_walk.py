@@ -6,8 +6,8 @@ import re
 from derive_exceptions import (
     ARMS_IN_ROWS, BY_HAND, TWO_TEXTURES, VALUE_REFS, VARIANTS_BY_HAND,
 )
-from derive_factors import Factor
-from derive_layout import LINE, block, call, ghosts, indented
+from derive_factors import Factor, write_values
+from derive_layout import LINE, block, call, ends_definition, ghosts, indented
 from derive_objects import CRATES, line_of
 from derive_rows import Wrong
 
@@ -44,6 +44,8 @@ class Walk:
         self.visits = Impls(table, "gltf_visits")
         self.validation = Impls(table, "gltf_validation")
         self.root = Impls(table, "gltf_root")
+        # The names of the members that refer to textures.
+        self.member_names = {}
         # The variants of `ValueRef` that hold one reference: to an object, or to a list of them.
         self.variants = {}
         here = ("gltf_visits", "value_ref")
@@ -56,6 +58,7 @@ class Walk:
 
     def write(self, made):
         self.made = made
+        write_values(self.files, made)
         self.write_visits()
         self.write_arms()
         if not self.is_by_hand("TableObject"):
@@ -200,6 +203,7 @@ class Walk:
         if self.made.base in TWO_TEXTURES:
             front, named = TWO_TEXTURES[self.made.base], False
         states = [f"member_state(&self.{row.field}, context)" for row in rows]
+        self.member_names.update({f"{row.name[0].upper()}{row.name[1:]}": row.name for row in rows})
         names = [f"MemberName::{row.name[0].upper()}{row.name[1:]}" for row in rows] * named
         tactic = [self.tactic()]
         self.put(self.visits, "Visitable",
@@ -258,6 +262,26 @@ class Walk:
             lines.insert(at, "")
         lines[at] = front + rest
         self.files.differing.append(f"{path.relative_to(CRATES.parent)}:{at + 1}: {front.strip()}")
+
+    def write_member_names(self):
+        """The names of the references to textures, by which a walk gives their places."""
+        source, specs = VISITS / "src/shading.rt", VISITS / "specs/References.antt"
+        names, of = self.member_names, self.table.objects["material_extension"]
+        self.files.put(of, source, "pub enum MemberName", [
+            "pub enum MemberName {", *indented([f"{name}," for name in names]), "}"])
+        self.files.put(of, source, "impl MemberName", block("impl MemberName", [
+            "/// The name in a document.",
+            "pub(crate) fn text(self) -> &'static str",
+            "    ensures { result.now ≡ member_text self }",
+            "{",
+            "    match self {",
+            *indented([f'MemberName::{name} => "{text}",' for name, text in names.items()], 2),
+            "    }",
+            "}"]))
+        self.files.put(of, specs, "abbrev pub member_text :", [
+            "abbrev pub member_text : MemberName → List ℕ",
+            *[f'member_text member_name.{name} = codes "{text}"' for name, text in names.items()],
+        ], ends_definition)
 
     def write_factors(self):
         for path, (holds, base) in self.table.factors.items():

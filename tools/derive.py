@@ -9,7 +9,7 @@ import sys
 
 from derive_crate import CrateTexts
 from derive_exceptions import ARMS_IN_ROWS, BY_HAND
-from derive_layout import Files, ends_item
+from derive_layout import Files
 from derive_objects import Table
 from derive_rows import definition_lines
 from derive_walk import Walk
@@ -50,7 +50,7 @@ def others(made, walk, files):
         if head:
             heads.append((made.source(), head.group(1)))
     for path, head in set(heads):
-        first, last = files.find(path, head, ends_item)
+        first, last = files.find(path, head)
         lines = sum(1 for line in files.lines(path)[first:last + 1] if line.strip())
         count += lines - files.blocks.get((path, head), 0)
     return count + files.arms.get(made.base, 0)
@@ -66,8 +66,8 @@ def report(table, walk, files):
                others(made, walk, files)]
         print(f"{made.base:<26} {row[0]:>7}  {row[1]:>11}  {row[2]:>6}")
         sums = [one + two for one, two in zip(sums, row)]
-    print(f"{len(table.objects)} objects: {sums[0]} lines are derived, {sums[1]} define the objects, "
-          f"{sums[2]} are others")
+    print(f"{len(table.objects)} objects: {sums[0]} lines are derived, {sums[1]} define the "
+          f"objects, {sums[2]} are others")
     print("written by hand (tools/derive_exceptions.py):")
     for (of, what), reason in {**BY_HAND, **ARMS_IN_ROWS}.items():
         print(f"  {of}, {what}: {reason}")

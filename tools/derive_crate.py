@@ -18,15 +18,11 @@ class CrateTexts:
     def write(self, files):
         made = self.made
         source = made.source()
-        head = f"impl Object for {made.name}"
-        if not made.drops:
-            wanted = self.drop()
-            if not files.put(made, source, f"impl Drop for {made.name}", wanted):
-                at = files.find(source, f"pub struct {made.name}", lambda ls, k: ls[k] == "}")[1]
-                files.insert(made, source, at, [DROPPED, *wanted])
-        if not files.put(made, source, head, self.object()):
-            place = (files.find(source, f"impl Drop for {made.name}", lambda ls, k: ls[k] == "}")
-                     or files.find(source, f"pub struct {made.name}", lambda ls, k: ls[k] == "}"))
+        struct_head, drop_head = f"pub struct {made.name}", f"impl Drop for {made.name}"
+        if not made.drops and not files.put(made, source, drop_head, self.drop()):
+            files.insert(made, source, files.find(source, struct_head)[1], [DROPPED, *self.drop()])
+        if not files.put(made, source, f"impl Object for {made.name}", self.object()):
+            place = files.find(source, drop_head) or files.find(source, struct_head)
             files.insert(made, source, place[1], self.object())
         folder = (CRATES / made.crate / "proofs").joinpath(*made.module) / f"{made.name}Object"
         for function, lines in (("read_members", self.read_answers()),

@@ -46,6 +46,8 @@ FACTS = {
 
 # The blocks that are written by hand, with the reason.
 BY_HAND = {
+    ("unlit", "Object"):
+        "it has no rows",
     ("material", "Visitable"):
         "what is wrong in a material is found at once, before a walk enters it",
     ("animation_channel", "Visitable"):
@@ -66,12 +68,12 @@ ARMS_IN_ROWS = {
 # parameters of a material share it with the material.
 TWO_TEXTURES = {"pbr_metallic_roughness": "parameters_ref"}
 
-# The variant of `ValueRef` for an object, if it holds more than a reference to it: the extensions of
-# a material share one with the material, because the compiler limits what references reach.
+# The variant of `ValueRef` for an object, if it holds more than a reference to it: the extensions
+# of a material share one with the material, because the compiler limits what references reach.
 VALUE_REFS = {"material_extension": "Material(None, self)"}
 
-# The variants of `ValueRef` that hold a reference to an object and mean something else: the channels
-# of an animation.
+# The variants of `ValueRef` that hold a reference to an object and mean something else: the
+# channels of an animation.
 VARIANTS_BY_HAND = {"Channels"}
 
 # What the numbers of a member are called in its function, if they are no colors.

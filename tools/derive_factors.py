@@ -85,7 +85,7 @@ class Factor:
             files.miss(source, self.line(files), f"{self.name} has no 'impl' with its 'DEFAULT' on "
                        "one line: write it, and run again")
         if not files.put(self, source, f"impl Tabled for {self.name}", self.tabled()):
-            end = files.find(source, f"impl {self.name}", lambda lines, k: lines[k] == "}")
+            end = files.find(source, f"impl {self.name}")
             if end:
                 files.insert(self, source, end[1], self.tabled())
         for impls, crate, trait, parts in (
@@ -95,6 +95,6 @@ class Factor:
             found = impls.get(trait, self.path)
             if found:
                 files.put(self, found[0], found[1], block(found[1], ghosts(parts)))
-            else:
-                files.miss(source, self.line(files), f"{crate} has no 'impl {trait} for {self.name}': "
-                           "write it with '{}' where it belongs, and run again")
+                continue
+            files.miss(source, self.line(files), f"{crate} has no 'impl {trait} for {self.name}': "
+                       "write it with '{}' where it belongs, and run again")

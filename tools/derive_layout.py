@@ -69,9 +69,9 @@ class Files:
             self.after[path] = self.before[path].split("\n")
         return self.after[path]
 
-    def find(self, path, head, is_end):
+    def find(self, path, head, is_end=None):
         """The first and the last line of the block that begins with `head`."""
-        lines = self.lines(path)
+        lines, is_end = self.lines(path), is_end or ends_item
         for at, line in enumerate(lines):
             if line == head or line.startswith(head) and not line[len(head)].isalnum():
                 if line.endswith("}") and is_end is ends_item:
@@ -83,7 +83,6 @@ class Files:
     def put(self, made, path, head, wanted, is_end=None, free=False):
         """Writes a block in place. A `free` block may have another layout. Returns False if the
         file has no such block."""
-        is_end = is_end or ends_item
         found = self.find(path, head, is_end)
         if not found:
             return False
@@ -105,7 +104,7 @@ class Files:
     def put_behind(self, made, path, head, constant, wanted):
         """Writes a function behind the constant of an impl on which it depends. Returns False if
         there is no such constant."""
-        found = self.find(path, head, ends_item)
+        found = self.find(path, head)
         first, last = found or (0, 0)
         lines = self.lines(path)
         at = next((k for k in range(first, last) if lines[k].startswith(constant)), None)
@@ -123,7 +122,8 @@ class Files:
     def insert(self, made, path, after, wanted):
         """Writes a new block behind a line, with an empty line between."""
         self.count(made, wanted)
-        self.differing.append(f"{path.relative_to(ROOT)}:{after + 1}: {wanted[0]} (new)")
+        what = next(line for line in wanted if not line.startswith(("//", "--")))
+        self.differing.append(f"{path.relative_to(ROOT)}:{after + 2}: {what.rstrip(' {')} (new)")
         self.lines(path)[after + 1:after + 1] = ["", *wanted]
 
     def whole(self, made, path, wanted):

@@ -1,5 +1,5 @@
-"""The objects of the table, from what is written by hand: the struct with its fields, and the rows,
-the kind and the members in `specs/`. What doesn't fit together is refused with its file and line."""
+"""The objects of the table, from what is written by hand: the struct with its fields, and the
+rows, the kind and the members in `specs/`. What doesn't fit is refused with its file and line."""
 import re
 from dataclasses import dataclass, field
 
@@ -9,6 +9,8 @@ from sources import ROOT, Reader
 from specs import OWN, Definitions
 
 CRATES = ROOT / "crates"
+# A pattern that no type has.
+NO_TYPE = "(?!)"
 
 
 @dataclass
@@ -40,9 +42,12 @@ class Object:
 
     def of_tree(self, value):
         """The tree of a value."""
-        return f"{self.tree} {value}" if self.tree else f"closed_object ({self.base}_members {value})"
+        if self.tree:
+            return f"{self.tree} {value}"
+        return f"closed_object ({self.base}_members {value})"
 
     def tree_function(self, bound):
+        """The function that gives the tree of a value."""
         return self.tree or f"λ {bound}. closed_object ({self.base}_members {bound})"
 
 
@@ -110,7 +115,7 @@ class Table:
 
     def __init__(self):
         self.definitions, self.sources = Definitions(), Sources()
-        self.problems, self.objects, self.choices, self.trees = [], {}, {}, {}
+        self.problems, self.objects, self.trees = [], {}, {}
         self.factors = {}
         text = (CRATES / "gltf_schema/specs/Silence.antt").read_text()
         self.silent = set(re.findall(r"(?m)^  is_silent \(?(\w+)(?: n\))? = true", text))
@@ -161,9 +166,8 @@ class Table:
     def read_kind(self, key, name, crate, spec, path):
         term = Terms(path, name).term()
         if term[0] == "choice_of":
-            self.choices[key] = term[2]
             self.kinds[key] = ("Choice", term[2])
-        elif term[0] == "Object":
+        elif term[0] == "Object" and len(term) == 4:
             base = term[2].removesuffix("_rows")
             made = Object(base, crate, spec, name, term[1], term[3] == "true")
             self.kinds[key] = ("Object", made)
@@ -285,9 +289,7 @@ class Table:
 
     def factor_of(self, made, text):
         """What a struct of one field holds, if the type is one; else nothing."""
-        if not re.fullmatch(r"[\w:]+", text):
-            return ""
-        path = self.sources.resolved(text.split("::"), (made.crate, *made.module))
+        path = self.path_of(made, text)
         item = self.sources.item(path)
         found = item and item.kind == "struct" and re.search(r"\(pub (.*)\)$", item.signature)
         if found and found.group(1).startswith("Option<"):
@@ -341,28 +343,37 @@ class Table:
             item = re.fullmatch(r"Vec<(.*)>", type_text)
             wanted, function = self.kind_type(made, inner, item.group(1) if item else "")
             return f"Vec<{wanted}>", f"list_tree {f'({function})' if ' ' in function else function}"
-        return self.named_kind_type(made, head)
+        return self.named_kind_type(made, head, type_text)
 
-    def named_kind_type(self, made, head):
+    def named_kind_type(self, made, head, type_text):
         key = self.key_of(head, made.crate, made.spec)
-        if key.startswith("gltf_schema.Extensions."):
-            return r"[\w:]+", {"kept_extensions": "kept_tree"}.get(head, "dropped_tree")
         form, of = self.kinds.get(key, (None, None))
         if form == "Choice":
             return r"Checked<\w+>", f"checked_tree {of}"
-        if form == "Object" and of.base == "no":
-            return r"[\w:]+", f"{head.removesuffix('_kind')}_tree"
-        if form == "Object":
-            return rf"(?:[\w:]+::)?{of.name}", of.tree_function("x")
-        raise Wrong(made.spec_path(), line_of(made.spec_path(), f".*{head}"),
-                    f"nothing is known of the kind '{head}'")
+        if form != "Object":
+            raise Wrong(made.spec_path(), line_of(made.spec_path(), f".*{head}"),
+                        f"nothing is known of the kind '{head}'")
+        path = self.path_of(made, type_text)
+        if key.startswith("gltf_schema.Extensions."):
+            name, tree = {"kept_extensions": ("KeptExtensions", "kept_tree")}.get(
+                head, ("DroppedExtensions", "dropped_tree"))
+            fits = path[-1:] == (name,)
+        elif of.base == "no":
+            tree = f"{head.removesuffix('_kind')}_tree"
+            fits = self.trees.get(path) == tree
+        else:
+            tree, fits = of.tree_function("x"), path == of.path()
+        return re.escape(type_text) if fits else NO_TYPE, tree
+
+    def path_of(self, made, type_text):
+        """The full path of a type that an object's file names; empty if it has parameters."""
+        if not re.fullmatch(r"[\w:]+", type_text):
+            return ()
+        return self.sources.resolved(type_text.split("::"), (made.crate, *made.module))
 
     def named_tree(self, made, type_text):
         """The name of the tree of a type that is not an object of the table."""
-        if not re.fullmatch(r"[\w:]+", type_text):
-            return ""
-        path = self.sources.resolved(type_text.split("::"), (made.crate, *made.module))
-        return self.trees.get(path, "") if path[0].startswith("gltf_") else ""
+        return self.trees.get(self.path_of(made, type_text), "")
 
     def object_of(self, made, kind):
         """The object that a kind is of, alone or as the item of a list; else None."""

@@ -9,7 +9,6 @@ from derive_exceptions import (
 from derive_factors import Factor, write_values
 from derive_layout import LINE, block, call, ends_definition, ghosts, indented
 from derive_objects import CRATES, line_of
-from derive_rows import Wrong
 
 VISITS = CRATES / "gltf_visits"
 EVENTS = CRATES / "gltf_events/src/lib.rt"
@@ -26,11 +25,11 @@ class Impls:
             module = path.relative_to(source).with_suffix("").parts
             here = (crate, *(() if module == ("lib",) else module))
             for line in path.read_text().split("\n"):
-                head = IMPL.match(line)
-                if head and head.group(3) != "T":
-                    trait, listed, name = head.groups()
+                found = IMPL.match(line)
+                if found and found.group(3) != "T":
+                    trait, listed, name = found.groups()
                     of = table.sources.resolved(name.split("::"), here)
-                    self.found[trait, of, bool(listed)] = (path, line.rstrip("} ").rstrip(" {"), name)
+                    self.found[trait, of, bool(listed)] = (path, line.rstrip(" {}"), name)
 
     def get(self, trait, of, listed=False):
         return self.found.get((trait, of, listed))
@@ -80,8 +79,8 @@ class Walk:
                 "'{}' where it belongs, and run again")
             return
         path, head, _ = found
-        self.files.put(self.made, path, head, block(head, parts(path, head) if callable(parts)
-                                                    else parts))
+        parts = parts(path, head) if callable(parts) else parts
+        self.files.put(self.made, path, head, block(head, parts))
 
     # ---- gltf_visits
 
@@ -154,16 +153,14 @@ class Walk:
         self.files.arms[made.base] = sum(len(lines) for _, lines in by_hand)
         texts = []
         for row in made.rows:
-            if self.table.is_silent(made, row.kind):
-                continue
             if (made.base, row.name) in ARMS_IN_ROWS:
-                texts.append(next((arm for arm in by_hand
-                                   if any(f'"{row.name}"' in line for line in arm[1])), None))
-                if texts[-1] is None:
-                    raise Wrong(path, line_of(path, re.escape(head)),
-                                f"the arm of '{row.name}', which is written by hand, is missing")
-                by_hand.remove(texts[-1])
-            else:
+                of_row = [arm for arm in by_hand if f'"{row.name}"' in "".join(arm[1])][:1]
+                by_hand = [arm for arm in by_hand if arm not in of_row]
+                texts += of_row
+                if not of_row:
+                    self.files.miss(path, line_of(path, re.escape(head)), f"the arm of "
+                                    f"'{row.name}', which is written by hand, is missing")
+            elif not self.table.is_silent(made, row.kind):
                 front = f"{len(texts)} => E::member"
                 lines = call(front, [f'"{row.name}"', f"&self.{row.field}", "context"], ",", 3)
                 texts.append((None, [lines[0].partition(" => ")[2], *lines[1:]]))
@@ -178,7 +175,7 @@ class Walk:
 
     def arms_by_hand(self, path, head):
         """The arms that are no members: the number and the lines of each."""
-        first, last = self.files.find(path, head, lambda lines, k: lines[k] == "}")
+        first, last = self.files.find(path, head)
         arms = []
         for line in self.files.lines(path)[first:last]:
             found = re.match(r" {12}(\d+) => (.*)", line)

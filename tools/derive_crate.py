@@ -2,6 +2,7 @@
 `write_members`, and in `specs/` that its kind is sound and how high it is."""
 from derive_exceptions import FACTS, Fact
 from derive_layout import block, call, ends_definition, ghosts, indented, struct
+from derive_names import use_definitions
 from derive_objects import CRATES, line_of
 from derive_rows import text_of
 
@@ -28,6 +29,8 @@ class CrateTexts:
         for function, lines in (("read_members", self.read_answers()),
                                 ("write_members", self.write_answers())):
             files.whole(made, folder / function / "Answers.antt", lines)
+        names = [f"{made.base}_{word}" for word in ("rows", "sound", "height", "members")]
+        use_definitions(files, source, made.definitions(), names)
         self.put_lemma(files, "sound", self.sound())
         self.put_lemma(files, "height", self.height())
 

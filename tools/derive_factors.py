@@ -5,6 +5,7 @@ import re
 
 from derive_exceptions import BY_HAND, NUMBER_NAMES
 from derive_layout import block, ghosts, indented
+from derive_names import add_head
 from derive_objects import CRATES
 
 # What the numbers are called, by how many there are.
@@ -78,7 +79,7 @@ class Factor:
         return next(k for k, line in enumerate(lines, 1)
                     if line.startswith(f"pub struct {self.name}("))
 
-    def write(self, files, visits, validation):
+    def write(self, files, visits, validation, near):
         source = self.source()
         if (self.name, "value") not in BY_HAND and not files.put_behind(
                 self, source, f"impl {self.name}", "    pub const DEFAULT: ", self.value()):
@@ -88,13 +89,14 @@ class Factor:
             end = files.find(source, f"impl {self.name}")
             if end:
                 files.insert(self, source, end[1], self.tabled())
-        for impls, crate, trait, parts in (
-            (visits, "gltf_visits", "AlwaysValid", [("silent", "λ _ _. refl")]),
-            (validation, "gltf_validation", "InTable", [("shallow", "(lit≤ tt, lit≤ tt)")]),
+        for impls, trait, parts in (
+            (visits, "AlwaysValid", [("silent", "λ _ _. refl")]),
+            (validation, "InTable", [("shallow", "(lit≤ tt, lit≤ tt)")]),
         ):
-            found = impls.get(trait, self.path)
+            found = impls.get(trait, self.path) or add_head(
+                files, impls, trait, self.path, near, False)
             if found:
                 files.put(self, found[0], found[1], block(found[1], ghosts(parts)))
                 continue
-            files.miss(source, self.line(files), f"{crate} has no 'impl {trait} for {self.name}': "
-                       "write it with '{}' where it belongs, and run again")
+            files.miss(source, self.line(files), f"{impls.crate} has no 'impl {trait} for "
+                       f"{self.name}': write it with '{{}}' where it belongs, and run again")

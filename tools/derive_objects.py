@@ -33,6 +33,10 @@ class Object:
     def spec_path(self):
         return CRATES / self.crate / "specs" / f"{self.spec}.antt"
 
+    def definitions(self):
+        """The module of its definitions."""
+        return f"{self.crate}.specs.{self.spec}"
+
     def source(self):
         return (CRATES / self.crate / "src").joinpath(*self.module).with_suffix(".rt")
 
@@ -116,7 +120,8 @@ class Table:
     def __init__(self):
         self.definitions, self.sources = Definitions(), Sources()
         self.problems, self.objects, self.trees = [], {}, {}
-        self.factors = {}
+        # The modules of named trees, and the factors that fields have.
+        self.tree_modules, self.factors = {}, {}
         text = (CRATES / "gltf_schema/specs/Silence.antt").read_text()
         self.silent = set(re.findall(r"(?m)^  is_silent \(?(\w+)(?: n\))? = true", text))
         self.silent_rules = set(re.findall(r"is_silent_rule (\w+) = true", text))
@@ -179,8 +184,9 @@ class Table:
         for key, made in self.definitions.known.items():
             found = re.search(r"pub (\w+) : (\w+) → Tree\n\w+ \w+ = (.*)", made.text)
             path = found and self.rust_path(made.uses.get(found.group(2), ""))
-            if path and key.split(".")[-1] == found.group(1):
-                self.trees.setdefault(path, found.group(1))
+            if path and key.split(".")[-1] == found.group(1) and path not in self.trees:
+                crate, spec, name = key.split(".")
+                self.trees[path], self.tree_modules[name] = name, f"{crate}.specs.{spec}"
 
     def rust_path(self, path):
         """The path in Rust of a type that a file in `specs/` names."""
@@ -374,6 +380,13 @@ class Table:
     def named_tree(self, made, type_text):
         """The name of the tree of a type that is not an object of the table."""
         return self.trees.get(self.path_of(made, type_text), "")
+
+    def near(self, made):
+        """The paths of the objects of the same module, those in front first."""
+        paths = [one.path() for one in self.objects.values()
+                 if one.path()[:-1] == made.path()[:-1]]
+        at = paths.index(made.path())
+        return [*paths[:at][::-1], *paths[at + 1:]]
 
     def object_of(self, made, kind):
         """The object that a kind is of, alone or as the item of a list; else None."""

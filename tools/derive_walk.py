@@ -8,6 +8,7 @@ from derive_exceptions import (
 )
 from derive_factors import Factor, write_values
 from derive_layout import LINE, block, call, ends_definition, ghosts, indented
+from derive_names import add_head, head_of, use_definitions
 from derive_objects import CRATES, line_of
 
 VISITS = CRATES / "gltf_visits"
@@ -19,7 +20,7 @@ class Impls:
     """The impls of a crate by the trait, the type's path, and whether it is a list of the type."""
 
     def __init__(self, table, crate):
-        self.found = {}
+        self.crate, self.found = crate, {}
         source = CRATES / crate / "src"
         for path in sorted(source.glob("**/*.rt")):
             module = path.relative_to(source).with_suffix("").parts
@@ -59,6 +60,7 @@ class Walk:
         self.made = made
         write_values(self.files, made)
         self.write_visits()
+        self.write_uses()
         self.write_arms()
         if not self.is_by_hand("TableObject"):
             self.put(self.validation, "TableObject", ghosts(
@@ -68,14 +70,14 @@ class Walk:
         return (self.made.base, trait) in BY_HAND
 
     def put(self, impls, trait, parts, listed=False):
-        """Writes an impl in place. The head of a new one is written by hand."""
-        found = impls.get(trait, self.made.path(), listed)
-        name = f"Vec<{self.made.name}>" if listed else self.made.name
+        """Writes an impl in place, or a new one behind those of a near object."""
+        of = self.made.path()
+        found = impls.get(trait, of, listed) or add_head(
+            self.files, impls, trait, of, [of, *self.table.near(self.made)], listed)
         if not found:
-            crate = "gltf_validation" if impls is self.validation else "gltf_visits"
             self.files.miss(self.made.source(), line_of(
                 self.made.source(), rf"pub struct {self.made.name}\b"),
-                f"{crate} has no '{HEADS.get(trait, 'impl ' + trait)} for {name}': write it with "
+                f"{impls.crate} has no '{head_of(trait, self.made.name, listed)}': write it with "
                 "'{}' where it belongs, and run again")
             return
         path, head, _ = found
@@ -110,6 +112,27 @@ class Walk:
                          ("tree", f"λ v. list_tree ({made.tree_function('x')}) v.items")]),
                 *value_ref([f"ValueRef::{name}(self)"], "_context")], True)
             self.put(self.visits, "Quiet", quiet(["are_quiet(self, context)"]), True)
+
+    def write_uses(self):
+        """Names what the ghost members above use."""
+        made = self.made
+        flat = self.table.is_flat(made)
+        found = self.visits.get("AlwaysValid" if flat else "Visitable", made.path())
+        if not found or self.is_by_hand("Visitable"):
+            return
+        self.use_kind_and_tree(found[0])
+        if flat:
+            use_definitions(self.files, found[0], made.definitions(), [f"{made.base}_members"])
+            for one in [made, *self.deciding()]:
+                use_definitions(self.files, found[0], one.definitions(), [f"{one.base}_rows"])
+
+    def use_kind_and_tree(self, path):
+        made = self.made
+        use_definitions(self.files, path, made.definitions(), [made.kind])
+        if made.tree:
+            use_definitions(self.files, path, self.table.tree_modules[made.tree], [made.tree])
+        else:
+            use_definitions(self.files, path, made.definitions(), [f"{made.base}_members"])
 
     def is_texture(self, row):
         inner = self.table.object_of(self.made, row.kind)
@@ -231,6 +254,7 @@ class Walk:
             name = self.variants.get((made.path(), listed))
             if not name:
                 continue
+            self.use_kind_and_tree(specs)
             kind, tree = made.kind, made.of_tree("x.now")
             event = "object.event(number, context)"
             if listed:
@@ -281,30 +305,25 @@ class Walk:
         ], ends_definition)
 
     def write_factors(self):
-        for path, (holds, base) in self.table.factors.items():
-            Factor(path, holds, base).write(self.files, self.visits, self.validation)
+        paths = [*self.table.factors]
+        for at, (path, (holds, base)) in enumerate(self.table.factors.items()):
+            near = [one for one in [*paths[:at][::-1], *paths[at:]] if one[:-1] == path[:-1]]
+            Factor(path, holds, base).write(self.files, self.visits, self.validation, near)
 
     # ---- gltf_root
 
     def write_lists(self):
-        """The lists of a document."""
-        root = self.table.objects.get("root")
-        for row in root.rows if root else []:
-            made = self.table.object_of(root, row.kind)
-            if row.kind[0] != "ListOf" or not made or made.base not in self.table.objects:
-                continue
+        """The lists that are members of a document."""
+        root = self.table.objects["root"]
+        lists = [(row.field, self.table.object_of(root, row.kind)) for row in root.rows
+                 if row.kind[0] == "ListOf" and self.table.object_of(root, row.kind)]
+        for field, made in lists:
             self.made = made
-            found = self.root.get("TopLevel", made.path())
-            if not found:
-                self.files.miss(root.spec_path(), row.line,
-                                f"gltf_root has no 'impl TopLevel for {made.name}': write it with "
-                                "'{}' in src/root/items.rt, and run again")
-                continue
+            found = self.root.get("TopLevel", made.path()) or add_head(
+                self.files, self.root, "TopLevel", made.path(),
+                [other.path() for _, other in lists], False)
             path, head, name = found
-            self.files.put(made, path, head, block(head, top_level(row.field, name)))
-
-
-HEADS = {"Events": "impl<'a, E: EventBuilder<'a>> Events<'a, E>"}
+            self.files.put(made, path, head, block(head, top_level(field, name)))
 
 
 def quiet(body):

@@ -172,32 +172,34 @@ class Walk:
         """The events: a member for each row in which something can be wrong, in the rows' order.
         The arms that are something else stay as they are."""
         made = self.made
-        by_hand = self.arms_by_hand(path, head)
+        there = self.arms_of(path, head)
+        members = {lines[0]: number for number, lines in there if is_member(lines)}
+        by_hand = [arm for arm in there if not is_member(arm[1])]
         self.files.arms[made.base] = sum(len(lines) for _, lines in by_hand)
-        texts = []
+        arms = []
         for row in made.rows:
             if (made.base, row.name) in ARMS_IN_ROWS:
                 of_row = [arm for arm in by_hand if f'"{row.name}"' in "".join(arm[1])][:1]
                 by_hand = [arm for arm in by_hand if arm not in of_row]
-                texts += of_row
+                arms += of_row
                 if not of_row:
                     self.files.miss(path, line_of(path, re.escape(head)), f"the arm of "
                                     f"'{row.name}', which is written by hand, is missing")
             elif not self.table.is_silent(made, row.kind):
-                front = f"{len(texts)} => E::member"
+                front = f"{len(arms)} => E::member"
                 lines = call(front, [f'"{row.name}"', f"&self.{row.field}", "context"], ",", 3)
-                texts.append((None, [lines[0].partition(" => ")[2], *lines[1:]]))
-        arms = []
-        for number, (old, lines) in enumerate([*texts, *by_hand]):
-            arms += [f"{number} => {lines[0]}", *lines[1:]]
-            if old is not None and old != number:
-                self.renumber(path, old, number)
+                lines[0] = lines[0].partition(" => ")[2]
+                arms.append((members.get(lines[0], len(arms)), lines))
+        arms += by_hand
+        self.renumber(path, {old: new for new, (old, _) in enumerate(arms)})
+        texts = [line for number, (_, lines) in enumerate(arms)
+                 for line in [f"{number} => {lines[0]}", *lines[1:]]]
         return [self.tactic("using(crate::proofs::Past::past), "),
                 "fn event<C: HasContext>(&'a self, number: usize, context: &C) -> E {",
-                "    match number {", *indented([*arms, "_ => E::end(),"], 2), "    }", "}"]
+                "    match number {", *indented([*texts, "_ => E::end(),"], 2), "    }", "}"]
 
-    def arms_by_hand(self, path, head):
-        """The arms that are no members: the number and the lines of each."""
+    def arms_of(self, path, head):
+        """The arms that are there: the number and the lines of each."""
         first, last = self.files.find(path, head)
         arms = []
         for line in self.files.lines(path)[first:last]:
@@ -208,14 +210,16 @@ class Walk:
                 break
             elif arms:
                 arms[-1][1].append(line[12:])
-        return [arm for arm in arms if not arm[1][0].startswith("E::member(")]
+        return arms
 
-    def renumber(self, path, old, new):
-        """Gives an arm's answer its new number."""
-        answers = (VISITS / "proofs" / path.stem / f"{self.made.name}Events/event/Answers.antt")
-        if answers.exists():
+    def renumber(self, path, moves):
+        """Gives the arms their new numbers in the answers of `event`, if it has any."""
+        answers = VISITS / "proofs" / path.stem / f"{self.made.name}Events/event/Answers.antt"
+        if answers.exists() and any(old != new for old, new in moves.items()):
             lines = self.files.lines(answers)
-            lines[:] = [re.sub(rf"\bin-{old}\b", f"in-{new}", line) for line in lines]
+            lines[:] = [re.sub(r"\bin-(\d+)\b", lambda found: "in-" + str(
+                moves.get(int(found.group(1)), found.group(1))), line) for line in lines]
+            self.files.differing.append(f"{answers.relative_to(CRATES.parent)}:1: arms' numbers")
 
     def write_textures(self, rows):
         """An object in which only its references to textures can be wrong, one or two."""
@@ -324,6 +328,11 @@ class Walk:
                 [other.path() for _, other in lists], False)
             path, head, name = found
             self.files.put(made, path, head, block(head, top_level(field, name)))
+
+
+def is_member(arm):
+    """Whether an arm of `event` is a member's."""
+    return arm[0].startswith("E::member(")
 
 
 def quiet(body):

@@ -3,7 +3,8 @@
 Writes what follows from the struct, the rows, the kind and the members of each object of the table,
 in place: derive_crate.py says what of its own crate, derive_walk.py what of the crates above. What
 can't be derived is in derive_exceptions.py. With `--check` it writes nothing and ends with status 1
-if a block has another text. With `--report` it prints how many lines of each object are derived."""
+if a block has another text. With `--report` it only prints how many lines of each object are
+derived."""
 import re
 import sys
 
@@ -62,8 +63,7 @@ def report(table, walk, files):
     sums = [0, 0, 0]
     print(f"{'object':<26} derived  definitions  others")
     for made in table.objects.values():
-        row = [files.derived.get(made.base, 0), definitions(made),
-               others(made, walk, files)]
+        row = [files.derived.get(made.base, 0), definitions(made), others(made, walk, files)]
         print(f"{made.base:<26} {row[0]:>7}  {row[1]:>11}  {row[2]:>6}")
         sums = [one + two for one, two in zip(sums, row)]
     print(f"{len(table.objects)} objects: {sums[0]} lines are derived, {sums[1]} define the "
@@ -78,18 +78,19 @@ def main():
     if table.problems:
         sys.exit("\n".join(table.problems))
     walk, files = derive(table)
-    for place in files.differing:
-        print(f"{place} {'differs' if '--check' in sys.argv[1:] else 'is written'}")
-    for problem in files.problems:
-        print(problem)
     if "--report" in sys.argv[1:]:
         report(table, walk, files)
-    elif not files.differing and not files.problems:
-        print(f"{len(files.after)} files have the lines that derive.py writes")
+        return
+    is_check = "--check" in sys.argv[1:]
+    for place in files.differing:
+        print(f"{place} {'differs' if is_check else 'is written'}")
+    for problem in files.problems:
+        print(problem)
     changed = files.changed()
-    if "--check" not in sys.argv[1:]:
-        for path in changed:
-            path.parent.mkdir(parents=True, exist_ok=True)
+    if not changed and not files.problems:
+        print(f"{len(files.after)} files have the lines that derive.py writes")
+    for path in [] if is_check else changed:
+        path.parent.mkdir(parents=True, exist_ok=True)
     settle(changed)
     sys.exit(1 if files.problems else 0)
 

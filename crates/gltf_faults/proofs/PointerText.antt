@@ -20,7 +20,7 @@ use Rattle.gltf_paths.proofs.Escapes.{unescape_escaped}
 use Rattle.gltf_paths.specs.Pointers.{escaped, escaped_byte, pointer_text}
 use Rattle.gltf_paths.specs.Steps.{Step, field, item, key, value}
 use Rattle.gltf_schema.proofs.ReadPlain.{bound}
-use Rattle.gltf_faults.specs.Found.{step_to, found, HasSmallNumber}
+use Rattle.gltf_faults.specs.Found.{found, HasSmallNumber}
 
 -- ---- texts without a slash
 
@@ -90,10 +90,7 @@ number_read n h =
 
 -- ---- one step, and then the next
 
--- a token that finds a value, as the step does
-IsToken : List ℕ → Step → Type 0
-IsToken token s = (d e : Data) → step_to s d ≡ Some e → step token d ≡ Some e
-
+-- a token finds what its step leads to
 name_token : (name : List ℕ) (d e : Data) → get name d ≡ Some e → step (escaped name) d ≡ Some e
 name_token name (json.object ms) e h = rw (unescape_escaped name) h
 name_token name d e h = absurd cc

@@ -7,7 +7,7 @@ use Rattle.gltf_checked.specs.Keys.{key_text}
 use Rattle.gltf_checked.specs.Names.{key_named}
 use Rattle.gltf_paths.specs.Steps.{Step, key}
 use Rattle.gltf_schema.proofs.ReadPlain.{bound}
-use Rattle.gltf_faults.specs.Found.{HasKey, Lead, step_to, found, before_key, first_key}
+use Rattle.gltf_faults.specs.Found.{Lead, step_to, found, before_key, first_key}
 
 found_behind : (steps more : List Step) (d e : Data) → found steps d ≡ Some e → found (steps ++ more) d ≡ found more e
 found_behind [] more d e h = ap (found more) (same_Some d e h)

@@ -1,5 +1,5 @@
 -- Each key of attributes that were read is what the name of a member means.
-use Rattle.std.proofs.Common.{◌≡◌, ℕ, List, [], ◌∷◌, Bool, true, Option, Some, None, option_map, Ordering, Less, Equal, Greater, nat_cmp, is_eq, refl, sym, ◌∙◌, subst}
+use Rattle.std.proofs.Common.{◌≡◌, ℕ, List, [], true, Option, Some, Ordering, Less, Equal, Greater, nat_cmp, is_eq, refl, sym, ◌∙◌, subst}
 use Rattle.std.proofs.lemmas.List.Elements.{All-nil}
 use Rattle.std.proofs.lemmas.Map.Text.{is_eq-slice_cmp}
 use Rattle.std.proofs.lemmas.Map.Views.{All-keys-insert_entry}
@@ -12,14 +12,13 @@ use Rattle.std.specs.Ordering.{match_ordering}
 use Rattle.serde_json.specs.Data as json
 use Rattle.serde_json.specs.Data.{Data, Items, Members, no_members, member}
 use Rattle.serde_json.specs.Find.{as_array, as_object, get_member}
-use Rattle.gltf_checked.specs.Keys.{Key, key_cmp, key_text}
+use Rattle.gltf_checked.specs.Keys.{Key, key_cmp}
 use Rattle.gltf_checked.specs.Names.{key_named}
 use Rattle.gltf_paths.specs.Lists.{ListName}
 use Rattle.gltf_schema.specs.Kind.{Attributes}
 use Rattle.gltf_schema.specs.Read.{read, read_entries, small_number}
 use Rattle.gltf_schema.specs.Tree.{Tree, attributes, entries_in}
 use Rattle.gltf_schema.proofs.ReadPlain.{bound, mapped}
-use Rattle.gltf_faults.specs.Found.{HasKey}
 use Rattle.gltf_faults.proofs.Leading.{Has}
 
 pub is_array : (d : Data) (ds : Items) → as_array d ≡ Some ds → d ≡ json.array ds

@@ -1,5 +1,5 @@
 -- Reports whose steps lead to something in a JSON value.
-use Rattle.std.proofs.Common.{◌≡◌, ℕ, suc, ◌+◌, List, [], ◌∷◌, ◌++◌, Bool, true, false, cond, map, Some, None, Option, refl, sym, ◌∙◌, ap, subst, arith}
+use Rattle.std.proofs.Common.{◌≡◌, ℕ, suc, ◌+◌, List, [], ◌∷◌, ◌++◌, Bool, true, false, cond, map, Some, Option, refl, sym, ◌∙◌, ap, subst, arith}
 use Rattle.std.proofs.lemmas.List.Elements.{All-nil, All-cons, All-append, All-head, All-tail, All-map}
 use Rattle.std.proofs.lemmas.Option.{same_Some}
 use Rattle.std.specs.List.{All}
@@ -8,7 +8,7 @@ use Rattle.serde_json.specs.Data.{Data, array, Items, no_items, item as data_ite
 use Rattle.serde_json.specs.Find.{get_item}
 use Rattle.gltf_checked.specs.Keys.{Key, key_text}
 use Rattle.gltf_checked.specs.Keys as keys
-use Rattle.gltf_paths.specs.Steps.{Step, field, item, key, value}
+use Rattle.gltf_paths.specs.Steps.{Step, field, item, key}
 use Rattle.gltf_paths.specs.declared.validation.Error.{Error}
 use Rattle.gltf_paths.specs.declared.validation.Error.TheVariants.{IndexOutOfBounds, Invalid, Missing}
 use Rattle.gltf_schema.specs.Read.{read_items}

@@ -1,5 +1,5 @@
 -- JSON pointers find what their steps lead to.
-use Rattle.std.proofs.Common.{◌≡◌, ◌≢◌, ◌⊎◌, ℕ, zero, suc, ◌+◌, ◌^◌, ◌<◌, List, [], ◌∷◌, ◌++◌, length, get_or, map, Bool, true, false, not, ◌||◌, ◌==◌, nat_lt, decimal, Option, Some, None, option_and_then, inl, inr, refl, sym, ◌∙◌, ap, arith, append-nil, append_assoc, lt-ltb, ne_eqb}
+use Rattle.std.proofs.Common.{◌≡◌, ◌≢◌, ℕ, zero, suc, ◌+◌, ◌^◌, ◌<◌, List, [], ◌∷◌, ◌++◌, length, get_or, map, Bool, true, false, not, ◌||◌, ◌==◌, decimal, Some, inl, inr, refl, sym, ◌∙◌, ap, arith, append-nil, lt-ltb, ne_eqb}
 use Rattle.std.proofs.lemmas.Bool.{cases_eq}
 use Rattle.std.proofs.lemmas.Bool.Decides.{nat_tests}
 use Rattle.std.proofs.lemmas.Float.Parse.{scan_numeral-text_of}
@@ -13,15 +13,14 @@ use Rattle.std.proofs.lemmas.List.Elements.{All-head, All-tail}
 use Rattle.std.specs.Prelude.{slice_index}
 use Rattle.serde_json.specs.Data as json
 use Rattle.serde_json.specs.Data.{Data}
-use Rattle.serde_json.specs.Find.{get, at, get_item, get_member, unescape, index_of, step, walk, pointer}
+use Rattle.serde_json.specs.Find.{get, at, index_of, step, walk, pointer}
 use Rattle.serde_json.specs.Read.{is_integer}
 use Rattle.serde_json.proofs.Paths.{Lacks, walk_part, walk_last}
 use Rattle.gltf_paths.proofs.Escapes.{unescape_escaped}
-use Rattle.gltf_paths.specs.Pointers.{escaped, escaped_byte, pointer_part, pointer_text}
+use Rattle.gltf_paths.specs.Pointers.{escaped, escaped_byte, pointer_text}
 use Rattle.gltf_paths.specs.Steps.{Step, field, item, key, value}
-use Rattle.gltf_schema.specs.Maybe.{◌>>=◌}
 use Rattle.gltf_schema.proofs.ReadPlain.{bound}
-use Rattle.gltf_faults.specs.Found.{step_to, found, HasSmallNumber}
+use Rattle.gltf_faults.specs.Found.{found, HasSmallNumber}
 
 -- ---- texts without a slash
 
@@ -91,10 +90,7 @@ number_read n h =
 
 -- ---- one step, and then the next
 
--- a token that finds a value, as the step does
-IsToken : List ℕ → Step → Type 0
-IsToken token s = (d e : Data) → step_to s d ≡ Some e → step token d ≡ Some e
-
+-- a token finds what its step leads to
 name_token : (name : List ℕ) (d e : Data) → get name d ≡ Some e → step (escaped name) d ≡ Some e
 name_token name (json.object ms) e h = rw (unescape_escaped name) h
 name_token name d e h = absurd cc

@@ -13,7 +13,7 @@ use Rattle.gltf_checked.specs.Keys as keys
 use Rattle.gltf_checked.specs.Keys.{Key, key_text}
 use Rattle.gltf_meshes.specs.Mesh.{primitive_rows}
 use Rattle.gltf_paths.specs.Lists.{ListName}
-use Rattle.gltf_paths.specs.Steps.{Step, field, item, key, value}
+use Rattle.gltf_paths.specs.Steps.{Step, field, key, value}
 use Rattle.gltf_paths.specs.declared.validation.Error.TheVariants.{Invalid, Missing, Unsupported}
 use Rattle.gltf_schema.specs.Kind.{Mark, required, optional, always, unless, sometimes, or_null, Kind, IndexInto, SourceImage, ChannelSampler, U32, U64, Stride, Number, Numbers, Text, Truth, Any, Choice, Attributes, ListOf, Object, Rows, no_rows, row, Rule, no_rule, needs_data, needs_projection, needs_cone, needs_positions, requires_enabled, holds_samplers}
 use Rattle.gltf_schema.specs.Maybe.{◌>>=◌}
@@ -25,7 +25,7 @@ use Rattle.gltf_textures.specs.Texture.{no_image}
 use Rattle.gltf_root.specs.Lists.{count_in, sampler_count}
 use Rattle.gltf_root.specs.Named.{row_named}
 use Rattle.gltf_root.specs.Root.{root_rows}
-use Rattle.gltf_sinks.specs.Report.{From, Report, report}
+use Rattle.gltf_sinks.specs.Report.{From, report}
 use Rattle.gltf_faults.specs.Context.{Context}
 use Rattle.gltf_faults.specs.Faults.{report_if, number_faults, index_faults, source_faults, stride_faults, choice_faults, items_reports}
 use Rattle.gltf_faults.specs.Found.{HasKey, Lead, without_last, is_missing}

@@ -1,12 +1,12 @@
 -- The kinds of the table, whose reports are at places of the JSON.
 use Rattle.std.proofs.Common.{◌≡◌, true, refl}
-use Rattle.gltf_data.specs.Accessor.{accessor_kind, accessor_rows, sparse_kind, sparse_rows, sparse_indices_kind, sparse_indices_rows, sparse_values_kind, sparse_values_rows}
+use Rattle.gltf_data.specs.Accessor.{accessor_kind, accessor_rows, sparse_rows, sparse_indices_rows, sparse_values_rows}
 use Rattle.gltf_data.specs.Buffer.{buffer_kind, buffer_rows, view_kind, view_rows}
 use Rattle.gltf_data.specs.Image.{image_kind, image_rows}
-use Rattle.gltf_textures.specs.Texture.{info_kind, info_rows, info_extensions_kind, info_extension_rows, sampler_kind, sampler_rows, texture_kind, texture_rows, texture_transform_rows}
+use Rattle.gltf_textures.specs.Texture.{info_kind, info_rows, info_extension_rows, sampler_kind, sampler_rows, texture_kind, texture_rows, texture_transform_rows}
 use Rattle.gltf_shading.specs.MaterialExtension.{emissive_strength_rows, ior_rows, material_extensions_kind, material_extension_rows, pbr_specular_glossiness_rows, specular_rows, transmission_rows, volume_rows}
 use Rattle.gltf_materials.specs.Material.{material_kind, material_rows, normal_texture_rows, occlusion_texture_rows, pbr_metallic_roughness_kind, pbr_metallic_roughness_rows}
-use Rattle.gltf_meshes.specs.Mesh.{mesh_kind, mesh_rows, morph_target_rows, primitive_kind, primitive_rows, primitive_extension_rows, variant_mapping_rows, variant_mappings_rows}
+use Rattle.gltf_meshes.specs.Mesh.{mesh_kind, mesh_rows, morph_target_rows, primitive_rows, primitive_extension_rows, variant_mapping_rows, variant_mappings_rows}
 use Rattle.gltf_nodes.specs.Camera.{camera_kind, camera_rows, orthographic_rows, perspective_rows}
 use Rattle.gltf_nodes.specs.Light.{light_kind, light_rows, light_of_node_rows, spot_rows, variant_kind, variant_rows}
 use Rattle.gltf_nodes.specs.Scene.{node_kind, node_rows, node_extension_rows, scene_kind, scene_rows, skin_kind, skin_rows}

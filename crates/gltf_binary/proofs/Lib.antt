@@ -2,3 +2,5 @@ pub mod Steps
 pub mod Others
 pub mod Takes
 pub mod Again
+pub mod Joined
+pub mod File

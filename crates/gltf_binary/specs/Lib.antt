@@ -1,2 +1,3 @@
 pub mod Container
 pub mod Reading
+pub mod Writing

@@ -3,6 +3,8 @@
 
 mod error;
 mod glb;
+mod write;
 
 pub use error::Error;
 pub use glb::Glb;
+pub use write::WriteError;

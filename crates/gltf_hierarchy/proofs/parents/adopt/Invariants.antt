@@ -1,0 +1,5 @@
+use Rattle.gltf_hierarchy.specs.Parents.{AreAdopted}
+use Rattle.gltf_hierarchy.proofs.parents.adopt.Given as goal
+
+abbrev pub invariant-loop-place : goal.invariant-loop-place
+invariant-loop-place g l = AreAdopted l.initial.parents.items l.parents.items l.parent (g.N.HasChildren.children l.node) l.place

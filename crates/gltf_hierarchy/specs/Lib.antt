@@ -1,0 +1,6 @@
+pub mod Nodes
+pub mod Parents
+pub mod Order
+pub mod Sorting
+pub mod Depths
+pub mod Forest

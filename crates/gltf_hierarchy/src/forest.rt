@@ -1,12 +1,12 @@
 //! Nodes that are trees.
 
-ghost use Rattle.std.specs.Prelude.{◌≡◌, ◌<◌, ◌≤◌, ◌^◌, ◌↔◌, length, map, slice_get, Some, None, IsTrue, IfOk, IfErr};
+ghost use Rattle.std.specs.Prelude.{◌≡◌, ◌<◌, ◌≤◌, ◌^◌, ◌↔◌, length, slice_get, Some, None, IsTrue, IfOk, IfErr};
 ghost use Rattle.gltf_hierarchy.specs.Forest.{IsForest, IsParentsFirst, IsHierarchyFault, IsOutOfMemory, AreDepths, forest_order, forest_parents, forest_depths, parent_in};
 ghost use Rattle.gltf_hierarchy.specs.Parents.{AreParents};
 
-use crate::children::HasChildren;
 use crate::depths::depths_of;
 use crate::fault::HierarchyFault;
+use crate::hierarchy::Hierarchy;
 use crate::parents::parents_of;
 use crate::sorter::order_of;
 use std::alloc::Global;
@@ -22,22 +22,22 @@ pub struct Forest {
 impl Forest {
     /// Returns the forest that nodes are. Fails with a fault, if they are none. It takes time and
     /// memory in proportion to the nodes and their children, and does not recurse.
-    pub fn of<N: HasChildren>(alloc: Global, nodes: &[N]) -> Result<Forest, HierarchyFault>
+    pub fn of<H: Hierarchy>(alloc: Global, nodes: &H) -> Result<Forest, HierarchyFault>
         // The nodes are a forest.
-        ensures forest { IfOk result (λ _. IsForest (map N.children nodes.now)) }
+        ensures forest { IfOk result (λ _. IsForest (H.children nodes.now)) }
         // A forest is found, unless it has too many nodes or memory is refused.
-        ensures only { IsForest (map N.children nodes.now) → length nodes.now < 2 ^ 32
+        ensures only { IsForest (H.children nodes.now) → length (H.children nodes.now) < 2 ^ 32
             → IfErr result IsOutOfMemory }
         // What the fault says is so.
-        ensures fault { IfErr result (IsHierarchyFault (map N.children nodes.now)) }
+        ensures fault { IfErr result (IsHierarchyFault (H.children nodes.now)) }
         // What the calls below return.
-        ensures order { IfOk result (λ f. IsParentsFirst (map N.children nodes.now) (forest_order f)) }
-        ensures parents { IfOk result (λ f. AreParents (map N.children nodes.now)
+        ensures order { IfOk result (λ f. IsParentsFirst (H.children nodes.now) (forest_order f)) }
+        ensures parents { IfOk result (λ f. AreParents (H.children nodes.now)
             (forest_parents f)) }
-        ensures depths { IfOk result (λ f. AreDepths (map N.children nodes.now)
+        ensures depths { IfOk result (λ f. AreDepths (H.children nodes.now)
             (forest_depths f)) }
     {
-        if nodes.len() > u32::MAX as usize {
+        if nodes.node_count() > u32::MAX as usize {
             return Err(HierarchyFault::TooManyNodes);
         }
         let parents = match parents_of(alloc, nodes) {

@@ -1,28 +1,29 @@
 //! The parent of each node.
 
-ghost use Rattle.std.specs.Prelude.{◌≡◌, ◌<◌, ◌^◌, length, map, replicate, OnOk, IfOk, IfErr};
+ghost use Rattle.std.specs.Prelude.{◌≡◌, ◌<◌, ◌^◌, length, replicate, OnOk, IfOk, IfErr};
+ghost use Rattle.gltf_hierarchy.specs.Nodes.{children_of};
 ghost use Rattle.gltf_hierarchy.specs.Parents.{AreParents, IsParentFault, IsAdopted, IsRefused};
 
-use crate::children::HasChildren;
 use crate::fault::HierarchyFault;
+use crate::hierarchy::Hierarchy;
 use std::alloc::{AllocError, Global};
 
 /// Returns the parent of each node: none of a root. Fails with the first child that doesn't exist
 /// or has a parent already.
-pub fn parents_of<N: HasChildren>(
+pub fn parents_of<H: Hierarchy>(
     alloc: Global,
-    nodes: &[N],
+    nodes: &H,
 ) -> Result<Vec<Option<u32>>, HierarchyFault>
-    requires few { length nodes.now < 2 ^ 32 }
-    ensures found { IfOk result (λ parents. AreParents (map N.children nodes.now) parents.items) }
-    ensures fault { IfErr result (IsParentFault (map N.children nodes.now)) }
+    requires few { length (H.children nodes.now) < 2 ^ 32 }
+    ensures found { IfOk result (λ parents. AreParents (H.children nodes.now) parents.items) }
+    ensures fault { IfErr result (IsParentFault (H.children nodes.now)) }
 {
-    let mut parents = match roots(alloc, nodes.len()) {
+    let mut parents = match roots(alloc, nodes.node_count()) {
         Ok(parents) => parents,
         Err(error) => return Err(HierarchyFault::Memory(error)),
     };
-    for number in 0..nodes.len() {
-        if let Err(error) = adopt(&mut parents, number as u32, &nodes[number]) {
+    for number in 0..nodes.node_count() {
+        if let Err(error) = adopt(&mut parents, nodes, number as u32) {
             return Err(error);
         }
     }
@@ -37,17 +38,19 @@ fn roots(alloc: Global, count: usize) -> Result<Vec<Option<u32>>, AllocError>
 }
 
 /// Makes a node the parent of its children.
-fn adopt<N: HasChildren>(
+fn adopt<H: Hierarchy>(
     parents: &mut Vec<Option<u32>>,
+    nodes: &H,
     parent: u32,
-    node: &N,
 ) -> Result<(), HierarchyFault>
+    requires { parent < length (H.children nodes.now) }
     ensures adopted { OnOk result (IsAdopted parents.old.items parents.new.items parent
-        (N.children node.now)) }
-    ensures refused { IfErr result (IsRefused parents.old.items parent (N.children node.now)) }
+        (children_of (H.children nodes.now) parent)) }
+    ensures refused { IfErr result (IsRefused parents.old.items parent
+        (children_of (H.children nodes.now) parent)) }
 {
-    for place in 0..node.child_count() {
-        let child = node.child(place);
+    for place in 0..nodes.child_count(parent) {
+        let child = nodes.child(parent, place);
         match parents.get(child as usize) {
             None => return Err(HierarchyFault::NoSuchChild { parent, child }),
             Some(Some(first)) => {

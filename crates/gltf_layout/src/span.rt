@@ -48,7 +48,8 @@ impl Span {
         // Where the elements lie.
         ensures span { IfOk result (λ span. span ≡ span_of accessor.now view.now) }
         // An accessor that fits is found.
-        ensures only { Fits accessor.now view.now buffer_length → result ≡ Ok (span_of accessor.now view.now) }
+        ensures only { Fits accessor.now view.now buffer_length
+            → result ≡ Ok (span_of accessor.now view.now) }
         // Which misfit it is.
         ensures misfit { IfErr result (IsFirstMisfit accessor.now view.now buffer_length) }
     {

@@ -1,6 +1,4 @@
-use Rattle.std.proofs.Common.{subst, arith}
-use Rattle.std.specs.Prelude.{map}
-use Rattle.std.proofs.lemmas.List.{length-map}
+use Rattle.std.proofs.Common.{subst}
 use Rattle.gltf_hierarchy.specs.Order.{IsOrder, IsAtFault}
 use Rattle.gltf_hierarchy.specs.Depths.{AreDepthsOf}
 use Rattle.gltf_hierarchy.specs.Forest.{IsHierarchyFault}
@@ -8,19 +6,19 @@ use Rattle.gltf_hierarchy.proofs.Trees.{is_forest, parents_first, are_depths, or
 use Rattle.gltf_hierarchy.proofs.forest.Forest.of.Goals as goal
 
 pub returns-in-Err-order_of-clause-fault : goal.returns-in-Err-order_of-clause-fault
-returns-in-Err-order_of-clause-fault g c = order_fault (map g.N.HasChildren.children c.args.nodes.now) c.in-Ok.parents.items c.in-Err-order_of.fault c.in-Ok.ensures.found (subst (λ xs. IsAtFault xs c.in-Err-order_of.fault) c.deref.ensures.value c.in-Err-order_of.ensures.cyclic)
+returns-in-Err-order_of-clause-fault g c = order_fault (g.H.Hierarchy.children c.args.nodes.now) c.in-Ok.parents.items c.in-Err-order_of.fault c.in-Ok.ensures.found (subst (λ xs. IsAtFault xs c.in-Err-order_of.fault) c.deref.ensures.value c.in-Err-order_of.ensures.cyclic)
 
 pub returns-in-Err-order_of-clause-only : goal.returns-in-Err-order_of-clause-only
 returns-in-Err-order_of-clause-only g c = λ forest few.
-    let nodes = map g.N.HasChildren.children c.args.nodes.now in
+    let nodes = g.H.Hierarchy.children c.args.nodes.now in
     let fault : IsHierarchyFault nodes c.in-Err-order_of.fault = order_fault nodes c.in-Ok.parents.items c.in-Err-order_of.fault c.in-Ok.ensures.found (subst (λ xs. IsAtFault xs c.in-Err-order_of.fault) c.deref.ensures.value c.in-Err-order_of.ensures.cyclic) in
-    no_fault nodes c.in-Err-order_of.fault fault forest (omega (arith, few, length-map c.args.nodes.now g.N.HasChildren.children))
+    no_fault nodes c.in-Err-order_of.fault fault forest few
 
 pub returns-in-Ok-depths_of-clause-forest : goal.returns-in-Ok-depths_of-clause-forest
-returns-in-Ok-depths_of-clause-forest g c = is_forest (map g.N.HasChildren.children c.args.nodes.now) c.in-Ok.parents.items c.in-Ok-order_of.order.items c.in-Ok.ensures.found (subst (λ xs. IsOrder xs c.in-Ok-order_of.order.items) c.deref.ensures.value c.in-Ok-order_of.ensures.ordered)
+returns-in-Ok-depths_of-clause-forest g c = is_forest (g.H.Hierarchy.children c.args.nodes.now) c.in-Ok.parents.items c.in-Ok-order_of.order.items c.in-Ok.ensures.found (subst (λ xs. IsOrder xs c.in-Ok-order_of.order.items) c.deref.ensures.value c.in-Ok-order_of.ensures.ordered)
 
 pub returns-in-Ok-depths_of-clause-order : goal.returns-in-Ok-depths_of-clause-order
-returns-in-Ok-depths_of-clause-order g c = parents_first (map g.N.HasChildren.children c.args.nodes.now) c.in-Ok.parents.items c.in-Ok-order_of.order.items c.in-Ok.ensures.found (subst (λ xs. IsOrder xs c.in-Ok-order_of.order.items) c.deref.ensures.value c.in-Ok-order_of.ensures.ordered)
+returns-in-Ok-depths_of-clause-order g c = parents_first (g.H.Hierarchy.children c.args.nodes.now) c.in-Ok.parents.items c.in-Ok-order_of.order.items c.in-Ok.ensures.found (subst (λ xs. IsOrder xs c.in-Ok-order_of.order.items) c.deref.ensures.value c.in-Ok-order_of.ensures.ordered)
 
 pub returns-in-Ok-depths_of-clause-depths : goal.returns-in-Ok-depths_of-clause-depths
-returns-in-Ok-depths_of-clause-depths g c = are_depths (map g.N.HasChildren.children c.args.nodes.now) c.in-Ok.parents.items c.in-Ok-depths_of.depths.items c.in-Ok.ensures.found (subst (λ xs. AreDepthsOf xs c.in-Ok-depths_of.depths.items) c.deref-2.ensures.value c.in-Ok-depths_of.ensures)
+returns-in-Ok-depths_of-clause-depths g c = are_depths (g.H.Hierarchy.children c.args.nodes.now) c.in-Ok.parents.items c.in-Ok-depths_of.depths.items c.in-Ok.ensures.found (subst (λ xs. AreDepthsOf xs c.in-Ok-depths_of.depths.items) c.deref-2.ensures.value c.in-Ok-depths_of.ensures)

@@ -4,3 +4,4 @@ pub mod Takes
 pub mod Again
 pub mod Joined
 pub mod File
+pub mod Sent

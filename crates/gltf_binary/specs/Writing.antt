@@ -2,7 +2,7 @@
 use Rattle.std.specs.Prelude.{◌≡◌, ℕ, ◌+◌, ◌-◌, ◌%◌, ◌<◌, ◌≤◌, ◌^◌, List, ◌++◌, length, get_or, replicate, Option, Some, None, option_map, codes}
 use Rattle.std.proofs.Common.{Bor}
 use Rattle.gltf_binary.specs.declared.write.WriteError.{WriteError}
-use Rattle.gltf_binary.specs.declared.write.WriteError.TheVariants.{TooLong, JsonEndsWithZero, Memory}
+use Rattle.gltf_binary.specs.declared.write.WriteError.TheVariants.{TooLong, JsonEndsWithZero, Memory, Io}
 use Rattle.gltf_binary.specs.Container.{number, json_kind, chunk, bin_chunk, Parts}
 
 -- how many bytes are missing up to a multiple of 4
@@ -52,6 +52,13 @@ abbrev pub IsWriteFault : List ℕ → Option (List ℕ) → WriteError → Type
 IsWriteFault json bin TooLong = 2 ^ 32 ≤ file_length json bin
 IsWriteFault json bin JsonEndsWithZero = (file_length json bin < 2 ^ 32) × EndsWithZero json
 IsWriteFault json bin (Memory e) = IsWritable json bin
+IsWriteFault json bin (Io e) = ⊥
+
+-- the same where a writer may fail, and no memory is taken
+abbrev pub IsWriterFault : List ℕ → Option (List ℕ) → WriteError → Type 0
+IsWriterFault json bin (Memory e) = ⊥
+IsWriterFault json bin (Io e) = IsWritable json bin
+IsWriterFault json bin e = IsWriteFault json bin e
 
 -- the bytes that an option lends
 abbrev pub bytes_of : Option (Bor (List ℕ)) → Option (List ℕ)

@@ -1,12 +1,14 @@
 //! Writes a container.
 
 ghost use Rattle.std.specs.Prelude.{◌≡◌, ◌+◌, ◌<◌, ◌≤◌, ◌^◌, ◌++◌, ◌↔◌, Ok, length, option_map, IsTrue, OnOk, IfOk, IfErr, IfSome, IfNone};
+ghost use Rattle.std.specs.Io.KnownBytes.{Appends};
 ghost use Rattle.gltf_binary.specs.Container.{IsGlb, json_kind, chunk};
 ghost use Rattle.gltf_binary.specs.Reading.{glb_of};
-ghost use Rattle.gltf_binary.specs.Writing.{padding_of, padded, padded_parts, padded_bin, bytes_of, header, file_bytes, chunk_length, bin_length, file_length, IsFileLength, IsWritable, IsWriteFault, IsShort, EndsWithZero};
+ghost use Rattle.gltf_binary.specs.Writing.{padding_of, padded, padded_parts, padded_bin, bytes_of, header, file_bytes, chunk_length, bin_length, file_length, IsFileLength, IsWritable, IsWriteFault, IsWriterFault, IsShort, EndsWithZero};
 
 use crate::glb::Glb;
 use std::alloc::{AllocError, Global};
+use std::io::{self, Write};
 use thiserror::Error;
 
 /// Why a container wasn't written.
@@ -21,6 +23,9 @@ pub enum WriteError {
     /// Out of memory.
     #[error("out of memory")]
     Memory(AllocError),
+    /// The writer failed.
+    #[error("the writer failed: {0}")]
+    Io(io::Error),
 }
 
 /// `glTF` as a number of four bytes, the least first.
@@ -59,6 +64,36 @@ impl Glb<'_> {
         match write_parts(&mut bytes, len, json, bin) {
             Ok(()) => Ok(bytes),
             Err(error) => Err(WriteError::Memory(error)),
+        }
+    }
+
+    /// Writes the bytes of [`Glb::to_vec`]. It takes no memory, and writes nothing if the file is
+    /// too long or the document ends with a zero. If the writer fails, it may have taken a part.
+    pub fn to_writer<W: Write>(
+        writer: &mut W,
+        json: &[u8],
+        bin: Option<&[u8]>,
+    ) -> Result<(), WriteError>
+        // The bytes that are written.
+        ensures bytes { OnOk result (Appends (W.contents writer.old) (W.contents writer.new)
+            (file_bytes json.now (bytes_of bin.entry))) }
+        // They are written only if they may be.
+        ensures writable { OnOk result (IsWritable json.now (bytes_of bin.entry)) }
+        // The writer is as it was if they may not be.
+        ensures untouched { (IsWritable json.now (bytes_of bin.entry) → ⊥)
+            → writer.new ≡ writer.old }
+        // Why they aren't written.
+        ensures fault { IfErr result (IsWriterFault json.now (bytes_of bin.entry)) }
+    {
+        let Some(len) = file_len(json, bin) else {
+            return Err(WriteError::TooLong);
+        };
+        if ends_with_zero(json) {
+            return Err(WriteError::JsonEndsWithZero);
+        }
+        match send_parts(writer, len, json, bin) {
+            Ok(()) => Ok(()),
+            Err(error) => Err(WriteError::Io(error)),
         }
     }
 }
@@ -168,5 +203,53 @@ fn write_chunk(bytes: &mut Vec<u8>, kind: u32, content: &[u8], fill: u8) -> Resu
     bytes.extend_from_slice(&kind.to_le_bytes())?;
     bytes.extend_from_slice(content)?;
     bytes.extend_from_slice(&[fill; 3][..padding])?;
+    Ok(())
+}
+
+/// Writes a whole file.
+fn send_parts<W: Write>(writer: &mut W, len: u32, json: &[u8], bin: Option<&[u8]>) -> io::Result<()>
+    requires { IsFileLength len json.now (bytes_of bin) }
+    ensures { OnOk result (Appends (W.contents writer.old) (W.contents writer.new)
+        ((header len ++ chunk json_kind (padded 32 json.now)) ++ padded_bin (bytes_of bin.entry))) }
+{
+    send_header(writer, len)?;
+    send_chunk(writer, JSON, json, b' ')?;
+    send_bin(writer, bin)
+}
+
+/// Writes the header of a file of such a length (section 4.4.2).
+fn send_header<W: Write>(writer: &mut W, len: u32) -> io::Result<()>
+    ensures { OnOk result (Appends (W.contents writer.old) (W.contents writer.new) (header len)) }
+{
+    writer.write_all(&MAGIC.to_le_bytes())?;
+    writer.write_all(&2u32.to_le_bytes())?;
+    writer.write_all(&len.to_le_bytes())?;
+    Ok(())
+}
+
+/// Writes the BIN chunk, if there is one.
+fn send_bin<W: Write>(writer: &mut W, bin: Option<&[u8]>) -> io::Result<()>
+    requires { IsShort (bytes_of bin) }
+    ensures { OnOk result (Appends (W.contents writer.old) (W.contents writer.new)
+        (padded_bin (bytes_of bin.entry))) }
+{
+    match bin {
+        Some(bin) => send_chunk(writer, BIN, bin, 0),
+        None => Ok(()),
+    }
+}
+
+/// Writes a chunk with padded content (section 4.4.3).
+fn send_chunk<W: Write>(writer: &mut W, kind: u32, content: &[u8], fill: u8) -> io::Result<()>
+    requires { length content.now + padding_of (length content.now) < 2 ^ 32 }
+    ensures { OnOk result (Appends (W.contents writer.old) (W.contents writer.new)
+        (chunk kind (padded fill content.now))) }
+{
+    let padding = padding(content);
+    let length = (content.len() + padding) as u32;
+    writer.write_all(&length.to_le_bytes())?;
+    writer.write_all(&kind.to_le_bytes())?;
+    writer.write_all(content)?;
+    writer.write_all(&[fill; 3][..padding])?;
     Ok(())
 }

@@ -8,6 +8,8 @@ mod forest;
 mod hierarchy;
 mod parents;
 mod sorter;
+#[cfg(test)]
+mod tests;
 
 pub use fault::HierarchyFault;
 pub use forest::Forest;

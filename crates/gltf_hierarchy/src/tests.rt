@@ -1,0 +1,97 @@
+//! Forests and faults that are worked by hand.
+
+ghost use Rattle.std.specs.Prelude.{map};
+
+use crate::{Forest, Hierarchy, HierarchyFault};
+use std::alloc::{AllocError, Global};
+use std::test::Fail;
+
+/// The children of each node.
+#[derive(Clone, Copy)]
+struct Listed<'a>(&'a [Vec<u32>]);
+
+impl Hierarchy for Listed<'_> {
+    ghost children = { λ s. map (λ v. v.items) s.0.now };
+
+    fn node_count(&self) -> usize {
+        self.0.len()
+    }
+
+    fn child_count(&self, node: u32) -> usize {
+        self.0[node as usize].len()
+    }
+
+    fn child(&self, node: u32, place: usize) -> u32 {
+        self.0[node as usize][place]
+    }
+}
+
+#[test]
+fn trees_are_a_forest(rt: HostRuntime) -> Result<(), Fail> {
+    let alloc = rt.alloc();
+    let nodes = [
+        Vec::new(alloc),
+        vec![in alloc; 0, 3]?,
+        Vec::new(alloc),
+        vec![in alloc; 4]?,
+        Vec::new(alloc),
+    ];
+    let forest = Forest::of(alloc, &Listed(&nodes))?;
+    assert!(rt; forest.order() == [1, 0, 2, 3, 4].as_slice());
+    assert_eq!(rt; forest.parent(4), Some(3));
+    assert_eq!(rt; forest.parent(2), None);
+    assert!(rt; forest.is_root(1) && forest.is_root(2) && !forest.is_root(0) && !forest.is_root(5));
+    assert_eq!(rt; forest.depth(4), Some(2));
+    assert_eq!(rt; forest.depth(5), None);
+    Ok(())
+}
+
+
+/// Nodes of which each has the next one as its child, and the last one has `child`.
+fn chain(alloc: Global, count: u32, child: u32) -> Result<Vec<Vec<u32>>, AllocError> {
+    let mut nodes = Vec::new(alloc);
+    for number in 1..count {
+        nodes.push(vec![in alloc; number]?)?;
+    }
+    nodes.push(vec![in alloc; child]?)?;
+    Ok(nodes)
+}
+
+/// The node at which a cycle is found.
+fn cycle_in(alloc: Global, nodes: &[Vec<u32>]) -> Option<u32> {
+    match Forest::of(alloc, &Listed(nodes)) {
+        Err(HierarchyFault::Cycle { node }) => Some(node),
+        _ => None,
+    }
+}
+
+#[test]
+fn rings_are_cycles(rt: HostRuntime) -> Result<(), Fail> {
+    for count in [1, 3, 1000000] {
+        let nodes = chain(rt.alloc(), count, 0)?;
+        assert!(rt; cycle_in(rt.alloc(), &nodes).is_some());
+    }
+    Ok(())
+}
+
+#[test]
+fn a_long_chain_is_a_forest(rt: HostRuntime) -> Result<(), Fail> {
+    let mut nodes = chain(rt.alloc(), 1000000, 1000000)?;
+    nodes.push(Vec::new(rt.alloc()))?;
+    let forest = Forest::of(rt.alloc(), &Listed(&nodes))?;
+    assert_eq!(rt; forest.depth(1000000), Some(1000000));
+    Ok(())
+}
+
+#[test]
+fn a_second_parent_is_found(rt: HostRuntime) -> Result<(), Fail> {
+    let alloc = rt.alloc();
+    let nodes = [vec![in alloc; 2]?, vec![in alloc; 2]?, Vec::new(alloc)];
+    match Forest::of(alloc, &Listed(&nodes)) {
+        Err(HierarchyFault::TwoParents { child: 2, first: 0, second: 1 }) => Ok(()),
+        _ => {
+            assert!(rt; false);
+            Ok(())
+        }
+    }
+}

@@ -9,7 +9,7 @@ use Rattle.gltf_binary.specs.Container.{number, json_kind, chunk, bin_chunk, Par
 abbrev pub padding_of : ℕ → ℕ
 padding_of n = (4 - n % 4) % 4
 
--- section 4.4.3: "the start and the end of each chunk MUST be aligned to a 4-byte boundary"
+-- section 4.4.3: the start and the end of each chunk are aligned to a boundary of 4 bytes
 abbrev pub padded : ℕ → List ℕ → List ℕ
 padded fill content = content ++ replicate (padding_of (length content)) fill
 

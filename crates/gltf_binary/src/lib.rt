@@ -3,6 +3,8 @@
 
 mod error;
 mod glb;
+#[cfg(test)]
+mod tests;
 mod write;
 
 pub use error::Error;

@@ -5,7 +5,7 @@ use Rattle.std.proofs.Math.ListN.{set, length-set}
 use Rattle.std.proofs.lemmas.List.{get_or-set_same}
 use Rattle.std.proofs.lemmas.Option.{slice_get-get_or, slice_get_within}
 use Rattle.std.proofs.lemmas.Bool.{cases_eq, cases_lt}
-use Rattle.gltf_hierarchy.specs.Parents.{AreAdopted}
+use Rattle.gltf_hierarchy.specs.Adopted.{AreAdopted}
 
 pub get_set_same : {X : Type 0} (xs : List X) (i : ℕ) (x : X) → i < length xs → slice_get (set xs i x) i ≡ Some x
 get_set_same xs i x h = slice_get-get_or (set xs i x) i x (rw (length-set xs i x) h) ∙ ap Some (get_or-set_same xs i x x h)

@@ -7,7 +7,8 @@ use Rattle.std.proofs.lemmas.Bool.{cases_lt}
 use Rattle.gltf_hierarchy.specs.declared.fault.HierarchyFault.{HierarchyFault}
 use Rattle.gltf_hierarchy.specs.declared.fault.HierarchyFault.TheVariants.{TooManyNodes, NoSuchChild, TwoParents, Cycle, Memory}
 use Rattle.gltf_hierarchy.specs.Nodes.{children_of, IsChildAt}
-use Rattle.gltf_hierarchy.specs.Parents.{AreParentsBelow, IsAdopted, IsRefused, IsParentFault}
+use Rattle.gltf_hierarchy.specs.Parents.{AreParentsBelow}
+use Rattle.gltf_hierarchy.specs.Adopted.{IsAdopted, IsRefused, IsParentFault}
 
 pub no_parents : (nodes : List (List ℕ)) (parents : List (Option ℕ)) → parents ≡ replicate (length nodes) None → AreParentsBelow nodes parents 0
 no_parents nodes parents e = record {

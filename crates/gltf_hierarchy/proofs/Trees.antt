@@ -6,7 +6,8 @@ use Rattle.std.proofs.lemmas.Bool.{cases_lt}
 use Rattle.std.proofs.lemmas.Grind.{common_steps}
 use Rattle.gltf_hierarchy.specs.Order.{IsOrder, AreNodes, IsParent, IsAbove, IsAtFault}
 use Rattle.gltf_hierarchy.specs.Nodes.{IsChildAt, IsBelow}
-use Rattle.gltf_hierarchy.specs.Parents.{AreParents, IsParentFault}
+use Rattle.gltf_hierarchy.specs.Parents.{AreParents}
+use Rattle.gltf_hierarchy.specs.Adopted.{IsParentFault}
 use Rattle.gltf_hierarchy.specs.Forest.{IsForest, IsParentsFirst, IsHierarchyFault, IsOutOfMemory, AreDepths}
 use Rattle.gltf_hierarchy.specs.declared.fault.HierarchyFault.{HierarchyFault}
 use Rattle.gltf_hierarchy.specs.declared.fault.HierarchyFault.TheVariants.{TooManyNodes, NoSuchChild, TwoParents, Cycle, Memory}

@@ -32,7 +32,7 @@ pub record IsParentsFirst (nodes : List (List ℕ)) (order : List ℕ) : Type 0 
   pub once : (i j n : ℕ) → slice_get order i ≡ Some n → slice_get order j ≡ Some n → i ≡ j
   pub parents_first : (i p n k : ℕ) → slice_get order i ≡ Some n → IsChildAt nodes p k n → (j : ℕ) × (j < i) × (slice_get order j ≡ Some p)
 
--- section 3.5.2: "A node that has no parent" is a root node
+-- section 3.5.2: a node without a parent is a root node
 abbrev pub IsRoot : List (List ℕ) → ℕ → Type 0
 IsRoot nodes r = (p i : ℕ) → IsChildAt nodes p i r → ⊥
 

@@ -1,5 +1,6 @@
 pub mod Nodes
 pub mod Parents
+pub mod Adopted
 pub mod Order
 pub mod Sorting
 pub mod Depths

@@ -2,7 +2,8 @@
 
 ghost use Rattle.std.specs.Prelude.{◌≡◌, ◌<◌, ◌^◌, length, replicate, OnOk, IfOk, IfErr};
 ghost use Rattle.gltf_hierarchy.specs.Nodes.{children_of};
-ghost use Rattle.gltf_hierarchy.specs.Parents.{AreParents, IsParentFault, IsAdopted, IsRefused};
+ghost use Rattle.gltf_hierarchy.specs.Parents.{AreParents};
+ghost use Rattle.gltf_hierarchy.specs.Adopted.{IsParentFault, IsAdopted, IsRefused};
 
 use crate::fault::HierarchyFault;
 use crate::hierarchy::Hierarchy;

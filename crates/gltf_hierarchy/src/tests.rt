@@ -46,7 +46,6 @@ fn trees_are_a_forest(rt: HostRuntime) -> Result<(), Fail> {
     Ok(())
 }
 
-
 /// Nodes of which each has the next one as its child, and the last one has `child`.
 fn chain(alloc: Global, count: u32, child: u32) -> Result<Vec<Vec<u32>>, AllocError> {
     let mut nodes = Vec::new(alloc);
@@ -88,7 +87,13 @@ fn a_second_parent_is_found(rt: HostRuntime) -> Result<(), Fail> {
     let alloc = rt.alloc();
     let nodes = [vec![in alloc; 2]?, vec![in alloc; 2]?, Vec::new(alloc)];
     match Forest::of(alloc, &Listed(&nodes)) {
-        Err(HierarchyFault::TwoParents { child: 2, first: 0, second: 1 }) => Ok(()),
+        Err(
+            HierarchyFault::TwoParents {
+                child: 2,
+                first: 0,
+                second: 1,
+            },
+        ) => Ok(()),
         _ => {
             assert!(rt; false);
             Ok(())

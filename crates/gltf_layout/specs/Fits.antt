@@ -36,7 +36,7 @@ pub record Fits (a : AccessorLayout) (v : ViewLayout) (buffer_length : ℕ) : Ty
   pub view : ViewFits v buffer_length
   -- no element reaches into the next one
   pub stride : size_of a ≤ stride_of a v
-  -- section 5.1.3: `count` is at least 1
+  -- section 5.1.5: `count` is at least 1
   pub some : 1 ≤ a.count
   pub end : end_of a v ≤ v.byte_length
   pub offset_aligned : IsAligned a a.byte_offset

@@ -1,5 +1,5 @@
 use Rattle.gltf_hierarchy.specs.Nodes.{children_of}
-use Rattle.gltf_hierarchy.specs.Parents.{AreAdopted}
+use Rattle.gltf_hierarchy.specs.Adopted.{AreAdopted}
 use Rattle.gltf_hierarchy.proofs.parents.adopt.Given as goal
 
 abbrev pub invariant-loop-place : goal.invariant-loop-place

@@ -1,11 +1,15 @@
 -- Documents without reports that calls change stay so.
-use Rattle.std.proofs.Common.{◌≡◌, List, [], ◌∷◌, sym, ◌∙◌, subst}
+use Rattle.std.proofs.Common.{◌≡◌, List, [], ◌∷◌, Ok, refl, sym, ◌∙◌, subst}
+use Rattle.std.specs.Prelude.{String}
+use Rattle.std.specs.declared.alloc.Global.{Global}
+use Rattle.std.specs.declared.vec.Vec.{Vec}
 use Rattle.gltf_root.specs.Root.{root_tree}
 use Rattle.gltf_root.specs.declared.root.Root.{Root}
 use Rattle.gltf_faults.specs.Context.{Rules}
 use Rattle.gltf_faults.proofs.PushesOnto.{onto_clean}
 use Rattle.gltf_clean.specs.Changes.{Change, push, replace, set_scene, set_asset, set_extras, set_extensions_used, set_extensions_required, IsChanged, AreChanged}
 use Rattle.gltf_clean.specs.Clean.{IsClean}
+use Rattle.gltf_clean.specs.Set.{IsRequired, requiring}
 use Rattle.gltf_clean.proofs.Setting.{asset_set, extras_set, scene_set, used_set}
 
 -- a document that is the same as one without reports
@@ -26,3 +30,9 @@ one_changed rules set_extensions_required old new h clean = same_clean rules (re
 pub all_changed : (rules : Rules) (changes : List Change) (old new : Root) → AreChanged rules changes old new → IsClean rules (root_tree old) → IsClean rules (root_tree new)
 all_changed rules [] old new h clean = same_clean rules old new h clean
 all_changed rules (change ∷ changes) old new h clean = all_changed rules changes h.0 new h.2 (one_changed rules change old h.0 h.1 clean)
+
+-- ---- the calls
+
+pub is_required : (rules : Rules) (names : Vec (String Global) Global) (old new : Root) → IsRequired rules names old (Ok tt) new → IsChanged rules set_extensions_required old new
+is_required rules names old new h =
+    subst (λ q. IsClean rules (root_tree (requiring q.extensions_required old)) × (q ≡ requiring q.extensions_required old)) (sym h.1) (h.0, refl)

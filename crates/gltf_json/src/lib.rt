@@ -38,7 +38,7 @@ pub mod extensions {
 /// here of documents and of validation, and in the modules of what these are made of.
 pub mod laws {
     pub use gltf_base::laws as base;
-    pub use gltf_clean::changes::changes_leave_no_reports;
+    pub use gltf_clean::changes::{calls_that_succeed_are_changes, changes_leave_no_reports};
     pub use gltf_clean::laws::written_roots_are_held_again;
     pub use gltf_faults::constant_is_listed;
     pub use gltf_faults::laws::clean::clean_documents_are_written;

@@ -82,7 +82,7 @@ class Readme:
             self.expect(named, f"a changed copy isn't refused: {refused}")
 
     def copied(self, mine):
-        """Runs README's command that copies the library, with another folder in place of its own."""
+        """Runs README's command that copies the library, with this folder in place of its own."""
         command = re.search(r"^python3 (tools/vendor\.py) \S+(.*)$", self.text, re.M)
         script, crates = command.groups()
         words = [sys.executable, ROOT / script, mine, *crates.split()]

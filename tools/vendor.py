@@ -8,7 +8,7 @@ and a digest of each file.
 
 A second run updates the copy. Crates that it names take the place of those that were named before,
 and without a CRATE these stay. It changes nothing if DEST has changed a file that an earlier run
-wrote, and prints the names of such files.
+wrote, and prints the names of such files. A run that was interrupted can be repeated.
 """
 import argparse
 import hashlib
@@ -26,8 +26,8 @@ DEFAULT = ["gltf_json"]
 LEFT_OUT = {"out", "must-fail", "__pycache__"}
 FOLDER = "yorwelis"
 RECORD = f"{FOLDER}/copied.json"
-BEGIN = "# Yorwelis: tools/vendor.py writes the lines up to the next such line"
-END = "# Yorwelis: end"
+BEGIN = "# Yorwelis: begin of the lines that tools/vendor.py writes"
+END = "# Yorwelis: end of these lines"
 # How many names of files an error lists.
 MOST_NAMES = 20
 
@@ -170,12 +170,12 @@ class Destination:
                                   "into a folder crates first")
         earlier = self.earlier or Copy()
         for name in names_of(copy):
-            there = any(files_of(self.root / "crates" / name))
-            if name in own or (there and name not in names_of(earlier)):
+            foreign = name not in names_of(earlier) and self.is_foreign(f"crates/{name}", copy)
+            if foreign or name in own:
                 raise Refused(f"{self.root} has a crate {name} that this script didn't write")
-        if not self.earlier and (self.root / FOLDER).exists():
+        if not self.earlier and self.is_foreign(FOLDER, copy):
             raise Refused(f"{self.root / FOLDER} is there, but this script didn't write it")
-        if changed := self.changed(earlier):
+        if changed := self.changed(earlier, copy):
             more = len(changed) - MOST_NAMES
             shown = changed[:MOST_NAMES] + ([f".. and {more} more"] if more > 0 else [])
             raise Refused("\n".join([
@@ -183,29 +183,36 @@ class Destination:
                 *(f"  {name}" for name in shown),
                 "Take them back, or move them into crates of other names. Nothing was written."]))
 
-    def changed(self, earlier):
-        """What differs from the earlier copy: files that are changed, missing or new, and lines."""
-        names = []
-        for path, was in earlier.files.items():
-            file = self.root / path
-            if not file.is_file():
-                names.append(f"{path} (missing)")
-            elif digest(file.read_bytes()) != was:
-                names.append(path)
-        for crate in names_of(earlier):
-            for file in files_of(self.root / "crates" / crate):
-                path = file.relative_to(self.root).as_posix()
-                if path not in earlier.files:
-                    names.append(f"{path} (new)")
-        if self.block != earlier.lines:
-            names.append("crates.txt (the lines between the marker lines)")
-        return sorted(names)
+    def changed(self, earlier, copy):
+        """What is neither as an earlier run wrote it nor as this one would: files and lines."""
+        paths = set(earlier.files)
+        for name in names_of(earlier):
+            paths.update(self.paths(f"crates/{name}"))
+        found = []
+        for path in sorted(paths):
+            now, was = self.digest_of(path), earlier.files.get(path)
+            if now not in (was, copy.files.get(path)):
+                found.append(path + (" (missing)" if not now else "" if was else " (new)"))
+        if self.block not in (earlier.lines, copy.lines):
+            found.append("crates.txt (the lines between the marker lines)")
+        return found
+
+    def is_foreign(self, folder, copy):
+        """Whether a folder has a file that isn't as this run would write it."""
+        return any(self.digest_of(path) != copy.files.get(path) for path in self.paths(folder))
+
+    def paths(self, folder):
+        return [file.relative_to(self.root).as_posix() for file in files_of(self.root / folder)]
+
+    def digest_of(self, path):
+        """The digest of a file, None if it isn't there."""
+        file = self.root / path
+        return digest(file.read_bytes()) if file.is_file() else None
 
     def write(self, copy, there):
         """Writes the copy, and returns how many files were written and removed."""
-        was = self.earlier.files if self.earlier else {}
-        written = [path for path in there if was.get(path) != copy.files[path]]
-        removed = [path for path in was if path not in there]
+        written = [path for path in there if self.digest_of(path) != copy.files[path]]
+        removed = [path for path in (self.earlier or copy).files if path not in there]
         for path in removed:
             self.remove(self.root / path)
         for path in written:
@@ -219,9 +226,9 @@ class Destination:
 
     def remove(self, file):
         """Removes a file, and the folders that it leaves empty."""
-        file.unlink()
+        file.unlink(missing_ok=True)
         folder = file.parent
-        while folder != self.root / "crates" and not any(folder.iterdir()):
+        while folder.is_dir() and folder != self.root / "crates" and not any(folder.iterdir()):
             folder.rmdir()
             folder = folder.parent
 

@@ -2,8 +2,11 @@
 
 `python3 tools/run_readme.py` checks in a moment, without the toolchain: each Rust program is an
 example of `gltf_examples`, each document is a file of `examples/`, each output is part of what
-`rt ci` compares as the output of `gltf_examples`, and README has at most 900 words.
-`--run` also runs its programs and its first command by `rt try`, which takes some minutes.
+`rt ci` compares as the output of `gltf_examples`, and README has at most 900 words. Its command
+that takes the library along copies it into a new folder, leaves an equal copy as it is, and refuses
+a copy that was changed.
+`--run` also runs its first command by `rt try`, and its programs in a repository into which the
+library was copied. That takes some minutes.
 """
 import re
 import shutil
@@ -62,18 +65,43 @@ class Readme:
             self.expect(there, f"README names {path}, which isn't there")
         words = len(self.text.split())
         self.expect(words <= MOST_WORDS, f"README has {words} words")
+        self.check_copies()
+
+    def check_copies(self):
+        """Copies the library, copies it again, and then over a change."""
+        with tempfile.TemporaryDirectory() as folder:
+            mine = Path(folder)
+            (mine / "crates.txt").touch()
+            self.expect_copied(mine)
+            self.expect_copied(mine, "0 files written, 0 removed")
+            changed = "crates/gltf_json/src/lib.rt"
+            with (mine / changed).open("a") as file:
+                file.write("// mine\n")
+            refused = self.copied(mine)
+            named = refused.returncode == 1 and changed in refused.stderr
+            self.expect(named, f"a changed copy isn't refused: {refused}")
+
+    def copied(self, mine):
+        """Runs README's command that copies the library, with this folder in place of its own."""
+        command = re.search(r"^python3 (tools/vendor\.py) \S+(.*)$", self.text, re.M)
+        script, crates = command.groups()
+        words = [sys.executable, ROOT / script, mine, *crates.split()]
+        return subprocess.run(words, capture_output=True, text=True)
+
+    def expect_copied(self, mine, output=""):
+        ran = self.copied(mine)
+        done = ran.returncode == 0 and output in ran.stdout
+        self.expect(done, f"the library wasn't copied: {ran}")
 
     def run(self):
-        """Runs README's programs as crates of a copy, and its first command."""
+        """Runs README's first command, and its programs in a repository with a copy."""
         self.run_first_command()
         lines = dict(re.findall(r"`(my_\w+): ([\w ]+)`", self.text))
         with tempfile.TemporaryDirectory() as folder:
             copy = Path(folder)
-            shutil.copytree(ROOT / "crates", copy / "crates", ignore=shutil.ignore_patterns("out"))
-            listed = (ROOT / "crates.txt").read_text()
-            listed += "".join(f"{name}: {uses}\n" for name, uses in lines.items())
+            listed = "".join(f"{name}: {uses}\n" for name, uses in lines.items())
             (copy / "crates.txt").write_text(listed)
-            shutil.copy(ROOT / "HANDLES", copy)
+            self.expect_copied(copy)
             shutil.copytree(ROOT / "examples", copy / "examples")
             for name, body in self.programs.items():
                 self.expect(f"my_{name}" in lines, f"README has no line for my_{name}")

@@ -33,7 +33,8 @@ typedef struct gltf_c_returned {
 } gltf_c_returned;
 
 /* Checks a document. The output is what `gltf_report` prints: `clean` (status 0), a line for each
- * report (1), or why the document was refused (2, 3, 4). */
+ * report (1), or why the document was refused (2, 3, 4). Each line, the last one too, ends with a
+ * newline. */
 gltf_c_returned gltf_c_check(const uint8_t *document, size_t document_len,
                              uint8_t *output, size_t output_len);
 
@@ -44,7 +45,8 @@ gltf_c_returned gltf_c_check_by(const uint8_t *document, size_t document_len,
                                 bool empty_texture,
                                 uint8_t *output, size_t output_len);
 
-/* Writes a document anew, in one line (status 0). Without output the status is 2, 3, 4 or 5. */
+/* Writes a document anew, in one line without a newline at its end (status 0). Without output the
+ * status is 2, 3, 4 or 5. Members that the format's table doesn't have are left out: docs/C.md. */
 gltf_c_returned gltf_c_rewrite(const uint8_t *document, size_t document_len,
                                uint8_t *output, size_t output_len);
 

@@ -64,7 +64,7 @@ pub fn enabled_extensions<'a>(
 /// The command, as `clap` reads its arguments.
 pub fn command<'a>(alloc: Global) -> Result<Command<'a>, AllocError> {
     Command::new(alloc, "gltf_lint")
-        .version("1.4.1-1")
+        .version("1.4.1+1")
         .about("Checks glTF 2.0 documents and prints what is wrong in them")
         .after_help(AFTER_HELP)
         .arg(arg!(in alloc;

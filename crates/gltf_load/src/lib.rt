@@ -7,6 +7,8 @@ mod fault;
 mod nodes;
 mod place;
 mod scene;
+#[cfg(test)]
+mod tests;
 
 pub use fault::LayoutFault;
 pub use gltf_hierarchy::{Forest, HierarchyFault};

@@ -1,0 +1,101 @@
+//! Where the elements of an accessor lie.
+
+ghost use Rattle.std.specs.Prelude.{◌≡◌, IfOk, IfErr, option_map};
+ghost use Rattle.gltf_load.specs.Spans.{IsPlace, IsLayoutFault, IsAccessorLayout, IsChoiceFault, offset_or_0, view_layout};
+
+use crate::fault::LayoutFault;
+use gltf_checked::validation::Checked;
+use gltf_data::accessor::Accessor;
+use gltf_data::buffer::{Buffer, Stride, View};
+use gltf_layout::{AccessorLayout, Span, ViewLayout};
+use gltf_paths::validation::USize64;
+
+/// Returns where the elements of an accessor lie in its buffer, `None` if it has no view. Fails
+/// with a fault, if an index names nothing, a choice is invalid or something doesn't fit.
+pub fn span_of(
+    views: &[View],
+    buffers: &[Buffer],
+    accessor: &Accessor,
+) -> Result<Option<Span>, LayoutFault>
+    // The elements lie in the buffer.
+    ensures place { IfOk result (IsPlace views.now buffers.now accessor.now) }
+    // What the fault says is so.
+    ensures fault { IfErr result (IsLayoutFault views.now buffers.now accessor.now) }
+{
+    let index = match accessor.buffer_view {
+        None => return Ok(None),
+        Some(index) => index,
+    };
+    let layout = match accessor_layout(accessor) {
+        Ok(layout) => layout,
+        Err(fault) => return Err(fault),
+    };
+    let view = match views.get(index.value()) {
+        Some(view) => view,
+        None => return Err(LayoutFault::NoSuchView {
+            view: index.number(),
+        }),
+    };
+    let buffer = match buffers.get(view.buffer.value()) {
+        Some(buffer) => buffer,
+        None => return Err(LayoutFault::NoSuchBuffer {
+            buffer: view.buffer.number(),
+        }),
+    };
+    match Span::of(&layout, &view_layout(view), buffer.byte_length.0) {
+        Ok(span) => Ok(Some(span)),
+        Err(misfit) => Err(LayoutFault::Misfit(misfit)),
+    }
+}
+
+/// What an accessor says of its elements.
+fn accessor_layout(accessor: &Accessor) -> Result<AccessorLayout, LayoutFault>
+    ensures layout { IfOk result (IsAccessorLayout accessor.now) }
+    ensures fault { IfErr result (IsChoiceFault accessor.now) }
+{
+    let component_type = match accessor.component_type {
+        Checked::Valid(component_type) => component_type.0,
+        Checked::Invalid => return Err(LayoutFault::InvalidComponentType),
+    };
+    let type_ = match accessor.type_ {
+        Checked::Valid(type_) => type_,
+        Checked::Invalid => return Err(LayoutFault::InvalidType),
+    };
+    Ok(AccessorLayout {
+        byte_offset: offset_or_0(accessor.byte_offset),
+        component_type,
+        type_,
+        count: accessor.count.0,
+    })
+}
+
+/// What a view says of bytes.
+fn view_layout(view: &View) -> ViewLayout
+    ensures { result ≡ view_layout view.now }
+{
+    ViewLayout {
+        byte_offset: offset_or_0(view.byte_offset),
+        byte_length: view.byte_length.0,
+        byte_stride: stride(view.byte_stride),
+    }
+}
+
+/// The number that an offset is.
+fn offset_or_0(offset: Option<USize64>) -> u64
+    ensures { result ≡ offset_or_0 offset }
+{
+    match offset {
+        Some(offset) => offset.0,
+        None => 0,
+    }
+}
+
+/// The number that a stride is.
+fn stride(stride: Option<Stride>) -> Option<u64>
+    ensures { result ≡ option_map (λ s. s.0) stride }
+{
+    match stride {
+        Some(stride) => Some(stride.0 as u64),
+        None => None,
+    }
+}

@@ -1,0 +1,62 @@
+//! Forests, places and faults that are worked by hand.
+
+use crate::{HierarchyFault, LayoutFault, Misfit, Span, forest_of, is_scene_of, span_of};
+use gltf_choices::accessor::{AccessorType, ComponentType};
+use gltf_data::accessor::Accessor;
+use gltf_data::buffer::{Buffer, View};
+use gltf_nodes::scene::{Node, Scene};
+use gltf_paths::Index;
+use std::alloc::{AllocError, Global};
+use std::test::Fail;
+
+/// A node with one child, which has such a number.
+fn over(alloc: Global, child: u32) -> Result<Node, AllocError> {
+    let mut node = Node::new();
+    node.children = Some(vec![in alloc; Index::new(child)]?);
+    Ok(node)
+}
+
+#[test]
+fn a_scene_lists_root_nodes(rt: HostRuntime) -> Result<(), Fail> {
+    let alloc = rt.alloc();
+    let nodes = [Node::new(), over(alloc, 0)?];
+    let forest = forest_of(alloc, &nodes)?;
+    assert!(rt; forest.order() == [1, 0].as_slice());
+    let roots = Scene::new(vec![in alloc; Index::new(1)]?);
+    assert!(rt; is_scene_of(&forest, &roots));
+    let below = Scene::new(vec![in alloc; Index::new(1), Index::new(0)]?);
+    assert!(rt; !is_scene_of(&forest, &below));
+    Ok(())
+}
+
+#[test]
+fn a_ring_is_a_fault(rt: HostRuntime) -> Result<(), Fail> {
+    let nodes = [over(rt.alloc(), 1)?, over(rt.alloc(), 0)?];
+    match forest_of(rt.alloc(), &nodes) {
+        Err(HierarchyFault::Cycle { .. }) => Ok(()),
+        _ => {
+            assert!(rt; false);
+            Ok(())
+        }
+    }
+}
+
+#[test]
+fn elements_lie_in_the_buffer_of_a_view(rt: HostRuntime) -> Result<(), Fail> {
+    let buffers = [Buffer::new(40)];
+    let views = [View::new(Index::new(0), 36), View::new(Index::new(0), 41)];
+    let mut accessor = Accessor::new(3, ComponentType::F32, AccessorType::Vec3);
+    assert_eq!(rt; span_of(&views, &buffers, &accessor), Ok(None));
+    accessor.buffer_view = Some(Index::new(0));
+    let span = Span {
+        start: 0,
+        stride: 12,
+        size: 12,
+        count: 3,
+    };
+    assert_eq!(rt; span_of(&views, &buffers, &accessor), Ok(Some(span)));
+    accessor.buffer_view = Some(Index::new(1));
+    let misfit = LayoutFault::Misfit(Misfit::ViewTooLong);
+    assert_eq!(rt; span_of(&views, &buffers, &accessor), Err(misfit));
+    Ok(())
+}

@@ -1,9 +1,9 @@
 -- Where the elements of a document's accessor lie (glTF 2.0, sections 5.1 and 5.11).
-use Rattle.std.specs.Prelude.{◌≡◌, ℕ, ◌≤◌, List, length, slice_get, Option, Some, None, option_map}
+use Rattle.std.specs.Prelude.{◌≡◌, ℕ, ◌≤◌, List, length, slice_get, Option, Some, None, IsSome, option_map}
 use Rattle.gltf_paths.specs.declared.validation.USize64.{USize64}
 use Rattle.gltf_paths.specs.Indexes.{index_number}
 use Rattle.gltf_checked.specs.declared.validation.Checked.TheVariants.{Invalid}
-use Rattle.gltf_checked.specs.Checked.{IsValidAnd}
+use Rattle.gltf_checked.specs.Checked.{IsValidAnd, IsValid}
 use Rattle.gltf_data.specs.declared.accessor.Accessor.{Accessor}
 use Rattle.gltf_data.specs.declared.buffer.View.{View}
 use Rattle.gltf_data.specs.declared.buffer.Buffer.{Buffer}
@@ -50,17 +50,22 @@ abbrev pub IsPlace : List View → List Buffer → Accessor → Option Span → 
 IsPlace views buffers a None = a.buffer_view ≡ None
 IsPlace views buffers a (Some s) = LieIn views buffers a s
 
--- what a fault says is so
+-- sections 5.1.3 and 5.1.6: both choices of an accessor are values of the format
+abbrev pub HasValidChoices : Accessor → Type 0
+HasValidChoices a = IsValid a.component_type × IsValid a.type_
+
+-- what is wrong first with an accessor that names a view: its component type, its type, the view, the buffer, the fit
 abbrev pub IsLayoutFault : List View → List Buffer → Accessor → LayoutFault → Type 0
-IsLayoutFault views buffers a InvalidComponentType = a.component_type ≡ Invalid
-IsLayoutFault views buffers a InvalidType = a.type_ ≡ Invalid
-IsLayoutFault views buffers a (NoSuchView n) = (view_number a ≡ Some n) × (length views ≤ n)
-IsLayoutFault views buffers a (NoSuchBuffer n) = (i : ℕ) × (v : View) × (view_number a ≡ Some i) × (slice_get views i ≡ Some v) × (n ≡ index_number v.buffer) × (length buffers ≤ n)
+IsLayoutFault views buffers a InvalidComponentType = IsSome a.buffer_view × (a.component_type ≡ Invalid)
+IsLayoutFault views buffers a InvalidType = IsSome a.buffer_view × IsValid a.component_type × (a.type_ ≡ Invalid)
+IsLayoutFault views buffers a (NoSuchView n) = HasValidChoices a × (view_number a ≡ Some n) × (length views ≤ n)
+IsLayoutFault views buffers a (NoSuchBuffer n) = HasValidChoices a × (i : ℕ) × (v : View) × (view_number a ≡ Some i) × (slice_get views i ≡ Some v) × (n ≡ index_number v.buffer) × (length buffers ≤ n)
 IsLayoutFault views buffers a (Misfit m) = (v : View) × (b : Buffer) × (l : AccessorLayout) × AreNamed views buffers a v b × IsAccessorLayout a l × IsFirstMisfit l (view_layout v) b.byte_length.0 m
 
+-- the first choice that is invalid
 abbrev pub IsChoiceFault : Accessor → LayoutFault → Type 0
 IsChoiceFault a InvalidComponentType = a.component_type ≡ Invalid
-IsChoiceFault a InvalidType = a.type_ ≡ Invalid
+IsChoiceFault a InvalidType = IsValid a.component_type × (a.type_ ≡ Invalid)
 IsChoiceFault a (NoSuchView n) = ⊥
 IsChoiceFault a (NoSuchBuffer n) = ⊥
 IsChoiceFault a (Misfit m) = ⊥

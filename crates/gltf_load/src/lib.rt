@@ -4,6 +4,7 @@
 #![tactic(auto)]
 
 mod fault;
+pub mod laws;
 mod nodes;
 mod place;
 mod scene;

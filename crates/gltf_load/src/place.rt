@@ -1,7 +1,8 @@
 //! Where the elements of an accessor lie.
 
-ghost use Rattle.std.specs.Prelude.{◌≡◌, IfOk, IfErr, option_map};
-ghost use Rattle.gltf_load.specs.Spans.{IsPlace, IsLayoutFault, IsAccessorLayout, IsChoiceFault, offset_or_0, view_layout};
+ghost use Rattle.std.specs.Prelude.{◌≡◌, Some, None, Ok, IfOk, IfErr, option_map};
+ghost use Rattle.gltf_layout.specs.declared.span.Span.{Span};
+ghost use Rattle.gltf_load.specs.Spans.{IsPlace, LieIn, IsLayoutFault, IsAccessorLayout, IsChoiceFault, offset_or_0, view_layout};
 
 use crate::fault::LayoutFault;
 use gltf_checked::validation::Checked;
@@ -10,8 +11,8 @@ use gltf_data::buffer::{Buffer, Stride, View};
 use gltf_layout::{AccessorLayout, Span, ViewLayout};
 use gltf_paths::validation::USize64;
 
-/// Returns where the elements of an accessor lie in its buffer, `None` if it has no view. Fails
-/// with a fault, if an index names nothing, a choice is invalid or something doesn't fit.
+/// Returns where the elements of an accessor lie in its buffer, `None` if it names no view. Fails
+/// with the first fault, in the order of `LayoutFault`.
 pub fn span_of(
     views: &[View],
     buffers: &[Buffer],
@@ -19,7 +20,12 @@ pub fn span_of(
 ) -> Result<Option<Span>, LayoutFault>
     // The elements lie in the buffer.
     ensures place { IfOk result (IsPlace views.now buffers.now accessor.now) }
-    // What the fault says is so.
+    // An accessor that names no view has no place.
+    ensures zeros { accessor.now.buffer_view ≡ None → result ≡ Ok None }
+    // Elements that lie in the buffer are found.
+    ensures only { (s : Span) → LieIn views.now buffers.now accessor.now s
+        → result ≡ Ok (Some s) }
+    // What the fault says is so, and no earlier one is.
     ensures fault { IfErr result (IsLayoutFault views.now buffers.now accessor.now) }
 {
     let index = match accessor.buffer_view {

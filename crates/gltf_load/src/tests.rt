@@ -1,6 +1,7 @@
 //! Forests, places and faults that are worked by hand.
 
 use crate::{HierarchyFault, LayoutFault, Misfit, Span, forest_of, is_scene_of, span_of};
+use gltf_checked::validation::Checked;
 use gltf_choices::accessor::{AccessorType, ComponentType};
 use gltf_data::accessor::Accessor;
 use gltf_data::buffer::{Buffer, View};
@@ -58,5 +59,29 @@ fn elements_lie_in_the_buffer_of_a_view(rt: HostRuntime) -> Result<(), Fail> {
     accessor.buffer_view = Some(Index::new(1));
     let misfit = LayoutFault::Misfit(Misfit::ViewTooLong);
     assert_eq!(rt; span_of(&views, &buffers, &accessor), Err(misfit));
+    Ok(())
+}
+
+#[test]
+fn the_first_fault_is_returned(rt: HostRuntime) -> Result<(), Fail> {
+    let buffers = [Buffer::new(40)];
+    let views = [View::new(Index::new(1), 36)];
+    let mut accessor = Accessor::new(3, ComponentType::F32, AccessorType::Vec3);
+    accessor.component_type = Checked::Invalid;
+    accessor.type_ = Checked::Invalid;
+    assert_eq!(rt; span_of(&views, &buffers, &accessor), Ok(None));
+    accessor.buffer_view = Some(Index::new(1));
+    let fault = LayoutFault::InvalidComponentType;
+    assert_eq!(rt; span_of(&views, &buffers, &accessor), Err(fault));
+    let mut valid = Accessor::new(3, ComponentType::F32, AccessorType::Vec3);
+    valid.buffer_view = Some(Index::new(1));
+    let fault = LayoutFault::NoSuchView { view: 1 };
+    assert_eq!(rt; span_of(&views, &buffers, &valid), Err(fault));
+    valid.buffer_view = Some(Index::new(0));
+    let fault = LayoutFault::NoSuchBuffer { buffer: 1 };
+    assert_eq!(rt; span_of(&views, &buffers, &valid), Err(fault));
+    valid.type_ = Checked::Invalid;
+    let fault = LayoutFault::InvalidType;
+    assert_eq!(rt; span_of(&views, &buffers, &valid), Err(fault));
     Ok(())
 }

@@ -1,22 +1,34 @@
-use Rattle.std.proofs.Common.{◌≡◌, ℕ, ◌<◌, List, length, Some, get_or, rules, subst, sym, ap, ◌∙◌}
-use Rattle.std.specs.Prelude.{slice_get}
-use Rattle.std.proofs.lemmas.Option.{slice_get-get_or}
+use Rattle.std.proofs.Common.{◌≡◌, Some, Ok, subst, sym, ap, ◌∙◌}
+use Rattle.std.specs.Prelude.{option_map}
 use Rattle.gltf_paths.specs.Indexes.{index_number}
-use Rattle.gltf_layout.specs.Fits.{IsFirstMisfit}
-use Rattle.gltf_load.specs.Spans.{AreNamed, view_layout}
+use Rattle.gltf_layout.specs.Fits.{Fits, span_of, IsFirstMisfit}
+use Rattle.gltf_load.specs.Spans.{view_layout}
+use Rattle.gltf_load.proofs.Spans.{named, same_fits}
 use Rattle.gltf_load.proofs.place.span_of.Goals as goal
 
--- what was looked up
-found : {X : Type 0} (xs : List X) (i n : ℕ) (x : X) → i ≡ n → i < length xs → ((d : X) → x ≡ get_or xs i d) → slice_get xs n ≡ Some x
-found xs i n x same h at = ap (λ k. slice_get xs k) (sym same) ∙ slice_get-get_or xs i x h ∙ ap Some (sym (at x))
+pub returns-in-Ok-of-clause-only : goal.returns-in-Ok-of-clause-only
+returns-in-Ok-of-clause-only c = λ s lies.
+    let v = c.in-Some-get.view.now in
+    let b = c.in-Some-get-2.buffer.now in
+    let both = named c.args.views.now c.args.buffers.now c.args.accessor.now (index_number c.in-Some.index) v b c.value.result c.value-2.result (ap (option_map index_number) c.in-Some.is) c.value.ensures c.in-Some-get.ensures.lookup.3 c.value-2.ensures c.in-Some-get-2.ensures.lookup.3 in
+    let same = same_fits c.args.views.now c.args.buffers.now c.args.accessor.now s v b c.in-Ok.layout both c.in-Ok.ensures.layout lies in
+    let span : c.in-Ok-of.span ≡ span_of c.in-Ok.layout (view_layout v) = c.in-Ok-of.ensures.span ∙ ap (λ x. span_of c.in-Ok.layout x) c.view_layout.ensures in
+    ap (λ x. Ok (Some x)) (span ∙ same.1)
+
+pub returns-in-Err-of-clause-only : goal.returns-in-Err-of-clause-only
+returns-in-Err-of-clause-only c = λ s lies.
+    let v = c.in-Some-get.view.now in
+    let b = c.in-Some-get-2.buffer.now in
+    let both = named c.args.views.now c.args.buffers.now c.args.accessor.now (index_number c.in-Some.index) v b c.value.result c.value-2.result (ap (option_map index_number) c.in-Some.is) c.value.ensures c.in-Some-get.ensures.lookup.3 c.value-2.ensures c.in-Some-get-2.ensures.lookup.3 in
+    let same = same_fits c.args.views.now c.args.buffers.now c.args.accessor.now s v b c.in-Ok.layout both c.in-Ok.ensures.layout lies in
+    let fits : Fits c.in-Ok.layout c.view_layout.result b.byte_length.0 = subst (λ x. Fits c.in-Ok.layout x b.byte_length.0) (sym c.view_layout.ensures) same.0 in
+    let ok = c.in-Err-of.ensures.only fits in
+    cc
 
 pub returns-in-Err-of-clause-fault : goal.returns-in-Err-of-clause-fault
 returns-in-Err-of-clause-fault c =
-    let named : AreNamed c.args.views.now c.args.buffers.now c.args.accessor.now c.in-Some-get.view.now c.in-Some-get-2.buffer.now = record {
-      number = index_number c.in-Some.index;
-      is_number = search rules;
-      view = found c.args.views.now c.value.result (index_number c.in-Some.index) c.in-Some-get.view.now c.value.ensures c.in-Some-get.ensures.lookup.3.0 c.in-Some-get.ensures.lookup.3.1;
-      buffer = found c.args.buffers.now c.value-2.result (index_number c.in-Some-get.view.now.buffer) c.in-Some-get-2.buffer.now c.value-2.ensures c.in-Some-get-2.ensures.lookup.3.0 c.in-Some-get-2.ensures.lookup.3.1;
-    } in
-    let misfit : IsFirstMisfit c.in-Ok.layout (view_layout c.in-Some-get.view.now) c.in-Some-get-2.buffer.now.byte_length.0 c.in-Err-of.misfit = subst (λ v. IsFirstMisfit c.in-Ok.layout v c.in-Some-get-2.buffer.now.byte_length.0 c.in-Err-of.misfit) c.view_layout.ensures c.in-Err-of.ensures.misfit in
-    (c.in-Some-get.view.now, c.in-Some-get-2.buffer.now, c.in-Ok.layout, named, c.in-Ok.ensures.layout, misfit)
+    let v = c.in-Some-get.view.now in
+    let b = c.in-Some-get-2.buffer.now in
+    let both = named c.args.views.now c.args.buffers.now c.args.accessor.now (index_number c.in-Some.index) v b c.value.result c.value-2.result (ap (option_map index_number) c.in-Some.is) c.value.ensures c.in-Some-get.ensures.lookup.3 c.value-2.ensures c.in-Some-get-2.ensures.lookup.3 in
+    let misfit : IsFirstMisfit c.in-Ok.layout (view_layout v) b.byte_length.0 c.in-Err-of.misfit = subst (λ x. IsFirstMisfit c.in-Ok.layout x b.byte_length.0 c.in-Err-of.misfit) c.view_layout.ensures c.in-Err-of.ensures.misfit in
+    (v, b, c.in-Ok.layout, both, c.in-Ok.ensures.layout, misfit)

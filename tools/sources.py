@@ -402,8 +402,17 @@ class Reader:
         return item
 
 
+def crate_lines(text):
+    """The lines of a crates.txt that name a crate, by that name."""
+    lines = {}
+    for line in text.split("\n"):
+        words = line.partition("#")[0].partition(":")[0].split()
+        if words:
+            lines[words[0]] = line.strip()
+    return lines
+
+
 def crates():
     """The crates of the repository, each as its module."""
-    names = [line.split(":")[0].split()[0] for line in (ROOT / "crates.txt").read_text().split("\n")
-             if line.strip() and not line.startswith("#")]
+    names = crate_lines((ROOT / "crates.txt").read_text())
     return {name: Reader(name).crate_module() for name in names}

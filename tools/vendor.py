@@ -19,7 +19,7 @@ import sys
 from dataclasses import dataclass, field
 from pathlib import Path
 
-from sources import ROOT
+from sources import ROOT, crate_lines
 
 DEFAULT = ["gltf_json"]
 # What of a crate stays here.
@@ -48,16 +48,6 @@ class Copy:
 
 def digest(content):
     return hashlib.sha256(content).hexdigest()
-
-
-def listed(text):
-    """The lines of a crates.txt that name a crate, by that name."""
-    lines = {}
-    for line in text.split("\n"):
-        words = line.partition("#")[0].partition(":")[0].split()
-        if words:
-            lines[words[0]] = line.strip()
-    return lines
 
 
 def closure(names, lines):
@@ -99,7 +89,7 @@ def version():
 
 def contents(names):
     """The copy that this repository gives, and the content of each of its files."""
-    lines = listed((ROOT / "crates.txt").read_text())
+    lines = crate_lines((ROOT / "crates.txt").read_text())
     for name in names:
         if name not in lines:
             raise Refused(f"there is no crate {name} here; crates.txt has {', '.join(lines)}")
@@ -116,7 +106,7 @@ def contents(names):
 
 def names_of(copy):
     """The names of the crates of a copy."""
-    return list(listed("\n".join(copy.lines)))
+    return list(crate_lines("\n".join(copy.lines)))
 
 
 class Destination:
@@ -162,7 +152,7 @@ class Destination:
 
     def check(self, copy):
         """Refuses what isn't from an earlier run, and what was changed since."""
-        own = listed("\n".join([*self.before, *self.behind]))
+        own = crate_lines("\n".join([*self.before, *self.behind]))
         if not (self.root / "crates").exists():
             for name in own:
                 if (self.root / name).is_dir():

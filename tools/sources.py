@@ -26,6 +26,9 @@ class Item:
     ghosts: list = field(default_factory=list)
     ghost_texts: list = field(default_factory=list)
     ghost_uses: dict = field(default_factory=dict)
+    # The whole docstring, and where the item is declared: the file below the repository and the line.
+    docs: list = field(default_factory=list)
+    place: tuple = ()
 
 
 class Module:
@@ -42,8 +45,8 @@ class Module:
 class Scanner:
     """A position in a source text."""
 
-    def __init__(self, text):
-        self.text, self.at = text, 0
+    def __init__(self, text, file=""):
+        self.text, self.at, self.file = text, 0, file
         self.docs, self.inner, self.attributes = [], [], []
 
     def skip(self):
@@ -67,6 +70,10 @@ class Scanner:
             else:
                 return True
         return False
+
+    def place(self):
+        """The file and the number of the line at the position."""
+        return self.file, self.text.count("\n", 0, self.at) + 1
 
     def line(self):
         end = self.text.find("\n", self.at)
@@ -209,7 +216,7 @@ class Reader:
         return self.file_module(file if file.exists() else self.src / "main.rt", ())
 
     def file_module(self, file, path):
-        scanner = Scanner(file.read_text())
+        scanner = Scanner(file.read_text(), file.relative_to(ROOT))
         module = Module(self.crate, path, "")
         self.items(scanner, module)
         module.doc = first_sentence(scanner.inner)
@@ -310,6 +317,12 @@ class Reader:
 
     def declared(self, scanner, docs, attributes, public):
         kind = scanner.word()
+        place = scanner.place()
+        item = self.declaration(kind, scanner, docs, attributes, public)
+        item.docs, item.place = docs, place
+        return item
+
+    def declaration(self, kind, scanner, docs, attributes, public):
         if kind == "fn":
             return self.function(scanner, docs, public)
         if kind == "trait":
@@ -351,7 +364,7 @@ class Reader:
             public = self.visibility(scanner) or item.kind == "enum"
             text = scanner.until(",}") if item.kind == "struct" else self.variant(scanner)
             name = WORD.match(text).group()
-            item.members.append(Item("field", name, text, first_sentence(docs), public))
+            item.members.append(Item("field", name, text, first_sentence(docs), public, docs=docs))
             if scanner.text[scanner.at] == ",":
                 scanner.at += 1
 

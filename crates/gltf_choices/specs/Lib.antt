@@ -3,3 +3,4 @@ pub mod Elements
 pub mod SceneChoices
 pub mod TextureChoices
 pub mod ExtensionNames
+pub mod GlNames

@@ -3,6 +3,7 @@
 ghost use Rattle.std.specs.Prelude.{◌≡◌, map};
 ghost use Rattle.gltf_checked.specs.Spelling.{by_number, by_name, item_spelled};
 ghost use Rattle.gltf_choices.specs.Choices.{component_type_spelling, generic_component_type_spelling, generic_component_types, index_component_type_spelling, index_component_types, accessor_type_spelling, accessor_types};
+ghost use Rattle.gltf_choices.specs.GlNames.{component_type_name};
 ghost use Rattle.gltf_choices.specs.Elements.{component_size, component_count};
 
 pub use AccessorType as Type;
@@ -86,6 +87,20 @@ impl ComponentType {
             ComponentType::U16 => UNSIGNED_SHORT,
             ComponentType::U32 => UNSIGNED_INT,
             ComponentType::F32 => FLOAT,
+        }
+    }
+
+    /// The name that the specification gives to the number that spells it, as `FLOAT`.
+    pub fn name(self) -> &'static str
+        ensures { result.now ≡ component_type_name self }
+    {
+        match self {
+            ComponentType::I8 => "BYTE",
+            ComponentType::U8 => "UNSIGNED_BYTE",
+            ComponentType::I16 => "SHORT",
+            ComponentType::U16 => "UNSIGNED_SHORT",
+            ComponentType::U32 => "UNSIGNED_INT",
+            ComponentType::F32 => "FLOAT",
         }
     }
 }

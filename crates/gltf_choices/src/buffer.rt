@@ -3,6 +3,7 @@
 ghost use Rattle.std.specs.Prelude.{◌≡◌, map};
 ghost use Rattle.gltf_checked.specs.Spelling.{by_number, item_spelled};
 ghost use Rattle.gltf_choices.specs.Choices.{target_spelling, targets};
+ghost use Rattle.gltf_choices.specs.GlNames.{target_name};
 
 use gltf_checked::choice::{Choice, Form, Spelling, item_of};
 use gltf_checked::validation::Checked;
@@ -83,6 +84,16 @@ impl Target {
         match self {
             Target::ArrayBuffer => ARRAY_BUFFER,
             Target::ElementArrayBuffer => ELEMENT_ARRAY_BUFFER,
+        }
+    }
+
+    /// The name that the specification gives to the number that spells it, as `ELEMENT_ARRAY_BUFFER`.
+    pub fn name(self) -> &'static str
+        ensures { result.now ≡ target_name self }
+    {
+        match self {
+            Target::ArrayBuffer => "ARRAY_BUFFER",
+            Target::ElementArrayBuffer => "ELEMENT_ARRAY_BUFFER",
         }
     }
 }

@@ -3,6 +3,7 @@
 ghost use Rattle.std.specs.Prelude.{◌≡◌, [], ◌∷◌, map, codes};
 ghost use Rattle.gltf_checked.specs.Spelling.{by_number, item_spelled};
 ghost use Rattle.gltf_choices.specs.Choices.{mode_spelling, modes};
+ghost use Rattle.gltf_choices.specs.GlNames.{mode_name};
 
 use gltf_checked::choice::{Choice, Form, Spelling, item_of};
 use gltf_checked::validation::Checked;
@@ -136,6 +137,21 @@ impl Mode {
             Mode::Triangles => TRIANGLES,
             Mode::TriangleStrip => TRIANGLE_STRIP,
             Mode::TriangleFan => TRIANGLE_FAN,
+        }
+    }
+
+    /// The name that the specification gives to the number that spells it, as `TRIANGLE_FAN`.
+    pub fn name(self) -> &'static str
+        ensures { result.now ≡ mode_name self }
+    {
+        match self {
+            Mode::Points => "POINTS",
+            Mode::Lines => "LINES",
+            Mode::LineLoop => "LINE_LOOP",
+            Mode::LineStrip => "LINE_STRIP",
+            Mode::Triangles => "TRIANGLES",
+            Mode::TriangleStrip => "TRIANGLE_STRIP",
+            Mode::TriangleFan => "TRIANGLE_FAN",
         }
     }
 }

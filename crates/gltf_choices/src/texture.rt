@@ -3,6 +3,7 @@
 ghost use Rattle.std.specs.Prelude.{◌≡◌, map};
 ghost use Rattle.gltf_checked.specs.Spelling.{by_number, item_spelled};
 ghost use Rattle.gltf_choices.specs.TextureChoices.{mag_filter_spelling, mag_filters, min_filter_spelling, min_filters, wrapping_mode_spelling, wrapping_modes};
+ghost use Rattle.gltf_choices.specs.GlNames.{mag_filter_name, min_filter_name, wrapping_mode_name};
 
 use gltf_checked::choice::{Choice, Form, Spelling, item_of};
 use gltf_checked::validation::Checked;
@@ -113,6 +114,16 @@ impl MagFilter {
             MagFilter::Linear => LINEAR,
         }
     }
+
+    /// The name that the specification gives to the number that spells it, as `LINEAR`.
+    pub fn name(self) -> &'static str
+        ensures { result.now ≡ mag_filter_name self }
+    {
+        match self {
+            MagFilter::Nearest => "NEAREST",
+            MagFilter::Linear => "LINEAR",
+        }
+    }
 }
 
 /// How a texture is shown smaller than it is (glTF 2.0, section 5.26.2).
@@ -196,6 +207,20 @@ impl MinFilter {
             MinFilter::LinearMipmapLinear => LINEAR_MIPMAP_LINEAR,
         }
     }
+
+    /// The name that the specification gives to the number that spells it, as `LINEAR_MIPMAP_LINEAR`.
+    pub fn name(self) -> &'static str
+        ensures { result.now ≡ min_filter_name self }
+    {
+        match self {
+            MinFilter::Nearest => "NEAREST",
+            MinFilter::Linear => "LINEAR",
+            MinFilter::NearestMipmapNearest => "NEAREST_MIPMAP_NEAREST",
+            MinFilter::LinearMipmapNearest => "LINEAR_MIPMAP_NEAREST",
+            MinFilter::NearestMipmapLinear => "NEAREST_MIPMAP_LINEAR",
+            MinFilter::LinearMipmapLinear => "LINEAR_MIPMAP_LINEAR",
+        }
+    }
 }
 
 /// What lies past the edges of a texture (glTF 2.0, sections 5.26.3 and 5.26.4).
@@ -275,6 +300,17 @@ impl WrappingMode {
             WrappingMode::ClampToEdge => CLAMP_TO_EDGE,
             WrappingMode::MirroredRepeat => MIRRORED_REPEAT,
             WrappingMode::Repeat => REPEAT,
+        }
+    }
+
+    /// The name that the specification gives to the number that spells it, as `REPEAT`.
+    pub fn name(self) -> &'static str
+        ensures { result.now ≡ wrapping_mode_name self }
+    {
+        match self {
+            WrappingMode::ClampToEdge => "CLAMP_TO_EDGE",
+            WrappingMode::MirroredRepeat => "MIRRORED_REPEAT",
+            WrappingMode::Repeat => "REPEAT",
         }
     }
 }

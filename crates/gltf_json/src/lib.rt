@@ -79,7 +79,7 @@ pub mod validation {
     pub use gltf_base::validation::{Checked, Error, USize64};
     pub use gltf_clean::{Clean, CleanError, Item, Refused, Report};
     pub use gltf_faults::Rules;
-    pub use gltf_sinks::{By, Collect, Count, Sink, Stop, Take};
+    pub use gltf_sinks::{By, Collect, Count, Never, Sink, Stop, Take};
     pub use gltf_validation::validation::Validate;
     pub use gltf_walk::Walk;
 }

@@ -33,7 +33,7 @@ pub struct Animation {
     pub extras: Extras,
 }
 
-// One call drops it, wherever it is held (docs/DECISIONS.md).
+// One call drops it, wherever it is held (docs/DECISIONS.md, "Large values").
 impl Drop for Animation {
     fn drop(self) {
         let Animation {
@@ -116,7 +116,7 @@ impl Object for Animation {
 }
 
 /// A property of a node, and the sampler that it follows.
-// What takes longest to drop comes last (docs/DECISIONS.md).
+// What takes longest to drop comes last (docs/DECISIONS.md, "Order of fields").
 #[derive(Clone, Debug, Drop)]
 pub struct Channel {
     /// The sampler, one of the same animation's.

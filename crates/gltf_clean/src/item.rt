@@ -28,7 +28,8 @@ pub trait Item: TableObject + RootItem {
     ghost seen: { (item : Self) → Self.Visitable.tree item ≡ Self.RootItem.tree item };
 }
 
-/// What a list of the document itself holds: `Item` follows (docs/DECISIONS.md).
+/// A type whose list is a member of the document itself, for which `Item` is implemented
+/// (docs/DECISIONS.md, "Clean roots").
 pub trait TopLevelItem: TableObject + TopLevel {}
 
 impl<T: TopLevelItem> Item for T {

@@ -22,7 +22,7 @@ use serde_json::Value;
 pub mod sparse;
 
 /// How the data of a view is read as elements.
-// What takes longest to drop comes last (docs/DECISIONS.md).
+// What takes longest to drop comes last (docs/DECISIONS.md, "Order of fields").
 #[derive(Clone, Debug)]
 pub struct Accessor {
     /// The view that the elements lie in; without one they are zeros, or come from `sparse`.
@@ -48,7 +48,7 @@ pub struct Accessor {
     pub sparse: Option<sparse::Sparse>,
 }
 
-// One call drops it, wherever it is held (docs/DECISIONS.md).
+// One call drops it, wherever it is held (docs/DECISIONS.md, "Large values").
 impl Drop for Accessor {
     fn drop(self) {
         let Accessor {

@@ -59,7 +59,7 @@ pub struct Buffer {
     pub extras: Extras,
 }
 
-// One call drops it, wherever it is held (docs/DECISIONS.md).
+// One call drops it, wherever it is held (docs/DECISIONS.md, "Large values").
 impl Drop for Buffer {
     fn drop(self) {
         let Buffer {
@@ -133,7 +133,7 @@ impl Object for Buffer {
 }
 
 /// A part of a buffer.
-// What takes longest to drop comes last (docs/DECISIONS.md).
+// What takes longest to drop comes last (docs/DECISIONS.md, "Order of fields").
 #[derive(Clone, Debug)]
 pub struct View {
     /// The buffer that it is a part of.
@@ -153,7 +153,7 @@ pub struct View {
     pub extras: Extras,
 }
 
-// One call drops it, wherever it is held (docs/DECISIONS.md).
+// One call drops it, wherever it is held (docs/DECISIONS.md, "Large values").
 impl Drop for View {
     fn drop(self) {
         let View {

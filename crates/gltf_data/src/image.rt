@@ -58,7 +58,7 @@ pub struct Image {
     pub extras: Extras,
 }
 
-// One call drops it, wherever it is held (docs/DECISIONS.md).
+// One call drops it, wherever it is held (docs/DECISIONS.md, "Large values").
 impl Drop for Image {
     fn drop(self) {
         let Image {

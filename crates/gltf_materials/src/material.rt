@@ -47,7 +47,7 @@ pub struct Material {
     pub extras: Extras,
 }
 
-// One call drops it, wherever it is held (docs/DECISIONS.md).
+// One call drops it, wherever it is held (docs/DECISIONS.md, "Large values").
 impl Drop for Material {
     fn drop(self) {
         let Material {
@@ -180,7 +180,7 @@ pub struct PbrMetallicRoughness {
     pub extras: Extras,
 }
 
-// One call drops it, wherever it is held (docs/DECISIONS.md).
+// One call drops it, wherever it is held (docs/DECISIONS.md, "Large values").
 impl Drop for PbrMetallicRoughness {
     fn drop(self) {
         let PbrMetallicRoughness {
@@ -277,7 +277,7 @@ pub struct NormalTexture {
     pub extras: Extras,
 }
 
-// One call drops it, wherever it is held (docs/DECISIONS.md).
+// One call drops it, wherever it is held (docs/DECISIONS.md, "Large values").
 impl Drop for NormalTexture {
     fn drop(self) {
         let NormalTexture {
@@ -373,7 +373,7 @@ pub struct OcclusionTexture {
     pub extras: Extras,
 }
 
-// One call drops it, wherever it is held (docs/DECISIONS.md).
+// One call drops it, wherever it is held (docs/DECISIONS.md, "Large values").
 impl Drop for OcclusionTexture {
     fn drop(self) {
         let OcclusionTexture {

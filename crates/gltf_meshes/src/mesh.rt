@@ -21,7 +21,7 @@ use gltf_schema::{Object, ReadRows, WriteRows};
 use std::collections::BTreeMap;
 
 /// Geometry that nodes place in a scene.
-// What takes longest to drop comes last (docs/DECISIONS.md).
+// What takes longest to drop comes last (docs/DECISIONS.md, "Order of fields").
 #[derive(Clone, Debug)]
 pub struct Mesh {
     pub name: Option<String>,
@@ -33,7 +33,7 @@ pub struct Mesh {
     pub extras: Extras,
 }
 
-// One call drops it, wherever it is held (docs/DECISIONS.md).
+// One call drops it, wherever it is held (docs/DECISIONS.md, "Large values").
 impl Drop for Mesh {
     fn drop(self) {
         let Mesh {
@@ -110,7 +110,7 @@ impl Object for Mesh {
 }
 
 /// A part of a mesh: what is drawn at once, with one material.
-// What takes longest to drop comes last (docs/DECISIONS.md).
+// What takes longest to drop comes last (docs/DECISIONS.md, "Order of fields").
 #[derive(Clone, Debug, Drop)]
 pub struct Primitive {
     /// The numbers of the vertices in drawing order; without it all vertices are drawn, in the

@@ -19,7 +19,7 @@ use gltf_data::extras::Extras;
 use gltf_schema::{Object, ReadRows, WriteRows};
 
 /// How a scene is seen from a node.
-// What takes longest to drop comes last (docs/DECISIONS.md).
+// What takes longest to drop comes last (docs/DECISIONS.md, "Order of fields").
 #[derive(Clone, Debug)]
 pub struct Camera {
     /// How the camera projects.
@@ -33,7 +33,7 @@ pub struct Camera {
     pub perspective: Option<Perspective>,
 }
 
-// One call drops it, wherever it is held (docs/DECISIONS.md).
+// One call drops it, wherever it is held (docs/DECISIONS.md, "Large values").
 impl Drop for Camera {
     fn drop(self) {
         let Camera {

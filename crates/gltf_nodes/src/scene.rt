@@ -22,7 +22,7 @@ use serde_json::Value;
 use std::alloc::Global;
 
 /// A place in the hierarchy of a scene, and what is there.
-// What takes longest to drop comes last (docs/DECISIONS.md).
+// What takes longest to drop comes last (docs/DECISIONS.md, "Order of fields").
 #[derive(Clone, Debug)]
 pub struct Node {
     pub camera: Option<Index<Camera>>,
@@ -46,7 +46,7 @@ pub struct Node {
     pub extras: Extras,
 }
 
-// One call drops it, wherever it is held (docs/DECISIONS.md).
+// One call drops it, wherever it is held (docs/DECISIONS.md, "Large values").
 impl Drop for Node {
     fn drop(self) {
         let Node {
@@ -194,7 +194,7 @@ impl Object for Node {
 }
 
 /// The nodes that are shown together.
-// What takes longest to drop comes last (docs/DECISIONS.md).
+// What takes longest to drop comes last (docs/DECISIONS.md, "Order of fields").
 #[derive(Clone, Debug)]
 pub struct Scene {
     pub name: Option<String>,
@@ -204,7 +204,7 @@ pub struct Scene {
     pub extras: Extras,
 }
 
-// One call drops it, wherever it is held (docs/DECISIONS.md).
+// One call drops it, wherever it is held (docs/DECISIONS.md, "Large values").
 impl Drop for Scene {
     fn drop(self) {
         let Scene {

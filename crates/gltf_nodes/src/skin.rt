@@ -16,7 +16,7 @@ use gltf_data::extras::Extras;
 use gltf_schema::{Object, ReadRows, WriteRows};
 
 /// The joints that the vertices of a mesh follow.
-// What takes longest to drop comes last (docs/DECISIONS.md).
+// What takes longest to drop comes last (docs/DECISIONS.md, "Order of fields").
 #[derive(Clone, Debug)]
 pub struct Skin {
     /// The matrices that bring vertices into the space of each joint; without it each is the
@@ -31,7 +31,7 @@ pub struct Skin {
     pub extras: Extras,
 }
 
-// One call drops it, wherever it is held (docs/DECISIONS.md).
+// One call drops it, wherever it is held (docs/DECISIONS.md, "Large values").
 impl Drop for Skin {
     fn drop(self) {
         let Skin {

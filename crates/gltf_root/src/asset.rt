@@ -25,7 +25,7 @@ pub struct Asset {
     pub extras: Extras,
 }
 
-// One call drops it, wherever it is held (docs/DECISIONS.md).
+// One call drops it, wherever it is held (docs/DECISIONS.md, "Large values").
 impl Drop for Asset {
     fn drop(self) {
         let Asset {

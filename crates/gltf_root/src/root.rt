@@ -40,7 +40,7 @@ pub use mark::Mark;
 pub use top_level::TopLevel;
 
 /// A whole document.
-// What takes longest to drop comes last (docs/DECISIONS.md).
+// What takes longest to drop comes last (docs/DECISIONS.md, "Order of fields").
 #[derive(Clone, Debug)]
 pub struct Root {
     /// The scene that is shown first.
@@ -69,7 +69,7 @@ pub struct Root {
     pub extras: Extras,
 }
 
-// One call drops it, wherever it is held (docs/DECISIONS.md).
+// One call drops it, wherever it is held (docs/DECISIONS.md, "Large values").
 impl Drop for Root {
     fn drop(self) {
         let Root {

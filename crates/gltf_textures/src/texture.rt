@@ -19,7 +19,7 @@ use gltf_data::image::Image;
 use gltf_schema::{Object, ReadRows, WriteRows};
 
 /// How a texture is sampled: how it is filtered, and what lies past its edges.
-// What takes longest to drop comes last (docs/DECISIONS.md).
+// What takes longest to drop comes last (docs/DECISIONS.md, "Order of fields").
 #[derive(Clone, Debug)]
 pub struct Sampler {
     /// How the texture is shown larger than it is.
@@ -35,7 +35,7 @@ pub struct Sampler {
     pub extras: Extras,
 }
 
-// One call drops it, wherever it is held (docs/DECISIONS.md).
+// One call drops it, wherever it is held (docs/DECISIONS.md, "Large values").
 impl Drop for Sampler {
     fn drop(self) {
         let Sampler {
@@ -121,7 +121,7 @@ impl Object for Sampler {
 pub const NO_IMAGE: u32 = u32::MAX;
 
 /// An image and how it is sampled.
-// What takes longest to drop comes last (docs/DECISIONS.md).
+// What takes longest to drop comes last (docs/DECISIONS.md, "Order of fields").
 #[derive(Clone, Debug)]
 pub struct Texture {
     /// The image; [`NO_IMAGE`], which is 4294967295, where the document names none, as where an
@@ -134,7 +134,7 @@ pub struct Texture {
     pub extras: Extras,
 }
 
-// One call drops it, wherever it is held (docs/DECISIONS.md).
+// One call drops it, wherever it is held (docs/DECISIONS.md, "Large values").
 impl Drop for Texture {
     fn drop(self) {
         let Texture {
@@ -219,7 +219,7 @@ pub struct Info {
     pub extras: Extras,
 }
 
-// One call drops it, wherever it is held (docs/DECISIONS.md).
+// One call drops it, wherever it is held (docs/DECISIONS.md, "Large values").
 impl Drop for Info {
     fn drop(self) {
         let Info {

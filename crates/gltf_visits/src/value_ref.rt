@@ -66,7 +66,8 @@ pub enum ValueRef<'a> {
     Image(&'a Image),
     Materials(&'a Vec<Material>),
     /// What is wrong in the members of a material, with its extensions; or extensions alone. One
-    /// variant for both: the compiler limits what references reach (docs/DECISIONS.md).
+    /// variant has both, because the compiler limits what references reach (docs/DECISIONS.md,
+    /// "What references may reach").
     Material(Option<MaterialFaults>, &'a MaterialExtensions),
     /// What is wrong in the members of a material without extensions.
     PlainMaterial(MaterialFaults),

@@ -20,7 +20,7 @@ use gltf_schema::{Blank, Object, ReadRows, WriteRows};
 use std::alloc::Global;
 
 /// Elements that deviate from those of the view.
-// What takes longest to drop comes last (docs/DECISIONS.md).
+// What takes longest to drop comes last (docs/DECISIONS.md, "Order of fields").
 #[derive(Clone, Debug, Drop)]
 pub struct Sparse {
     /// How many elements deviate.

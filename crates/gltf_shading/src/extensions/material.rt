@@ -41,7 +41,7 @@ pub struct Material {
     pub others: Map<String, Value>,
 }
 
-// One call drops it, wherever it is held (docs/DECISIONS.md).
+// One call drops it, wherever it is held (docs/DECISIONS.md, "Large values").
 impl Drop for Material {
     fn drop(self) {
         let Material {
@@ -155,7 +155,7 @@ pub struct PbrSpecularGlossiness {
     pub extras: Extras,
 }
 
-// One call drops it, wherever it is held (docs/DECISIONS.md).
+// One call drops it, wherever it is held (docs/DECISIONS.md, "Large values").
 impl Drop for PbrSpecularGlossiness {
     fn drop(self) {
         let PbrSpecularGlossiness {
@@ -331,7 +331,7 @@ pub struct Transmission {
     pub extras: Extras,
 }
 
-// One call drops it, wherever it is held (docs/DECISIONS.md).
+// One call drops it, wherever it is held (docs/DECISIONS.md, "Large values").
 impl Drop for Transmission {
     fn drop(self) {
         let Transmission {
@@ -428,7 +428,7 @@ pub struct Volume {
     pub extras: Extras,
 }
 
-// One call drops it, wherever it is held (docs/DECISIONS.md).
+// One call drops it, wherever it is held (docs/DECISIONS.md, "Large values").
 impl Drop for Volume {
     fn drop(self) {
         let Volume {
@@ -582,7 +582,7 @@ pub struct Specular {
     pub extras: Extras,
 }
 
-// One call drops it, wherever it is held (docs/DECISIONS.md).
+// One call drops it, wherever it is held (docs/DECISIONS.md, "Large values").
 impl Drop for Specular {
     fn drop(self) {
         let Specular {

@@ -77,7 +77,7 @@ impl Info {
 }
 
 /// How texture coordinates are changed before they are used: scaled, then turned, then moved.
-// What takes longest to drop comes last (docs/DECISIONS.md).
+// What takes longest to drop comes last (docs/DECISIONS.md, "Order of fields").
 #[derive(Clone, Debug, Drop)]
 pub struct TextureTransform {
     /// Which set of texture coordinates is used in place of the one that the reference names.

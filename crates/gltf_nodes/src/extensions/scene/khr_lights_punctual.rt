@@ -66,7 +66,7 @@ impl Object for KhrLightsPunctual {
 }
 
 /// A light.
-// What takes longest to drop comes last (docs/DECISIONS.md).
+// What takes longest to drop comes last (docs/DECISIONS.md, "Order of fields").
 #[derive(Clone, Debug)]
 pub struct Light {
     /// How it shines: from afar, from a point, or into a cone.
@@ -85,7 +85,7 @@ pub struct Light {
     pub spot: Option<Spot>,
 }
 
-// One call drops it, wherever it is held (docs/DECISIONS.md).
+// One call drops it, wherever it is held (docs/DECISIONS.md, "Large values").
 impl Drop for Light {
     fn drop(self) {
         let Light {

@@ -17,7 +17,7 @@ pub struct Variant {
     pub name: String,
 }
 
-// One call drops it, wherever it is held (docs/DECISIONS.md).
+// One call drops it, wherever it is held (docs/DECISIONS.md, "Large values").
 impl Drop for Variant {
     fn drop(self) {
         let Variant { name: _ } = self;

@@ -45,7 +45,7 @@ const NOT_TEXT: u8 = 6;
 /// | Status | Output |
 /// |---|---|
 /// | 0 | `clean` |
-/// | 1 | a line `path: error` for each report, in order |
+/// | 1 | a line `path: fault` for each report, in order |
 /// | 2 | `refused: not JSON` |
 /// | 3 | `refused: not a glTF document` |
 /// | 4 | `refused: input or output`, if memory was refused |
@@ -90,7 +90,7 @@ pub extern "C" fn gltf_c_check_by(
 
 /// Writes a document anew: in one line, without blanks between its tokens, and with each default of
 /// the format left out or put in as `Root::to_vec` does. Output comes with the status 0 alone. The
-/// bytes decide the status, except that it is 4 if memory was refused.
+/// bytes decide the status, except that it is 4 if out of memory.
 ///
 /// | Status | Meaning |
 /// |---|---|

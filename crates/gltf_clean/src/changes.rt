@@ -22,9 +22,8 @@ pub fn changes_leave_no_reports()
         → IsClean rules (root_tree new) }
 {}
 
-/// What a call of `Clean` promises of its success makes it one of these changes: a push, a
-/// replacement, and names of extensions that are required. The setters promise their changes as
-/// they stand.
+/// Each call of `Clean` that succeeds is one of these changes: a push, a replacement, or names of
+/// required extensions. The setters promise their changes as they are.
 pub fn calls_that_succeed_are_changes<P, T>()
     ensures pushed { (rules : Allowed) (named : ListName) (item : T) (x : Tree)
         (index : AnIndex P) (old new : Document)

@@ -16,9 +16,9 @@ pub struct AccessorLayout {
     pub byte_offset: u64,
     /// What the components of an element are.
     pub component_type: ComponentType,
-    /// How many components an element has: a number, a vector or a matrix.
+    /// Whether elements are scalars, vectors or matrices.
     pub type_: AccessorType,
-    /// How many elements there are.
+    /// The number of elements.
     pub count: u64,
 }
 
@@ -31,7 +31,7 @@ pub struct Span {
     pub stride: u64,
     /// How many bytes an element takes.
     pub size: u64,
-    /// How many elements there are.
+    /// The number of elements.
     pub count: u64,
 }
 

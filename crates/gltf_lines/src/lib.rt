@@ -26,7 +26,7 @@ use writing::write_outcome;
 /// | Status | Output |
 /// |---|---|
 /// | 0 | `clean` |
-/// | 1 | a line `path: error` for each report, in order |
+/// | 1 | a line `path: fault` for each report, in order |
 /// | 2 | `refused: not JSON` |
 /// | 3 | `refused: not a glTF document` |
 /// | 4 | `refused: input or output`, if the reader failed, a limit of [`Root::from_reader`] was passed or memory was refused; a prefix of the output that was due, where the writer failed |

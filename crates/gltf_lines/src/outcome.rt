@@ -17,7 +17,7 @@ use std::alloc::Global;
 pub enum Outcome {
     /// The document has no report.
     Clean,
-    /// A line `path: error` for each report, in order.
+    /// A line `path: fault` for each report, in order.
     Reports(String),
     /// The bytes are no JSON.
     NotJson,
@@ -28,8 +28,8 @@ pub enum Outcome {
 }
 
 impl Outcome {
-    /// What there is to say of the bytes of a document by the rules. `GivenUp` comes only if memory
-    /// was refused.
+    /// What there is to say of the bytes of a document by the rules. `GivenUp` comes only if out of
+    /// memory.
     pub fn of(alloc: Global, rules: &Rules<'_>, document: &[u8]) -> Outcome
         ensures { IsOutcome (output (rules_of rules.now) document.now) result }
     {

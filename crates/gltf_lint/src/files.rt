@@ -33,7 +33,7 @@ impl Kind {
     }
 
     /// What an entry of a folder names: a folder, or a file with the name of a document. A link to
-    /// a folder is not followed, so that no folder is checked inside itself.
+    /// a folder is not followed, or a folder could be checked inside itself.
     fn of_entry(entry: &DirEntry) -> io::Result<Option<Kind>> {
         let name = entry.file_name();
         if entry.file_type()?.is_dir() {

@@ -35,7 +35,7 @@ use std::collections::BTreeMap;
 /// place that an object's rule names, or a place with nothing below.
 #[derive(Clone, Copy, Drop)]
 pub enum ValueRef<'a> {
-    /// A place with nothing below, and the error there.
+    /// A place with nothing below, and the fault there.
     Leaf(Option<Error>),
     Root(&'a Root),
     RootExtensions(&'a RootExtensions),
@@ -80,7 +80,7 @@ pub enum ValueRef<'a> {
     Primitives(&'a Vec<Primitive>),
     Primitive(&'a Primitive),
     Attributes(&'a BTreeMap<Checked<Semantic>, Index<Accessor>>),
-    /// The errors of an attribute's key and of its index.
+    /// The faults of an attribute's key and of its index.
     Attribute(Option<Error>, Option<Error>),
     /// The attributes as their primitive's rule looks at them, and the positions in them.
     AtPositions(PositionFaults),
@@ -103,7 +103,7 @@ pub enum ValueRef<'a> {
 }
 
 impl<'a> ValueRef<'a> {
-    /// Whether this is a value that holds all its errors, and holds none.
+    /// Whether this is a value that holds all its faults, and holds none.
     pub fn has_no_fault(&self) -> bool
         ensures { (context : MathematicalContext)
             → result ≡ is_found self.now && quiet (outline_of context self.now) }

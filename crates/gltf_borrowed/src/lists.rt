@@ -156,8 +156,8 @@ impl<A: Slots, B: Slots> Slots for (A, B) {
 }
 
 /// Returns the items of the array that is next in the text, with arrays and objects nested no
-/// deeper than `depth`, or `None` if the table refuses the value that is next. Each value is dropped
-/// as soon as its item is read.
+/// deeper than `depth`. Returns `None` if the table refuses the value that is next. Each value is
+/// dropped as soon as its item is read.
 fn read_list<T: Schema>(
     alloc: Global,
     reader: &mut Reader<'_>,

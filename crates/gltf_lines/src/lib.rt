@@ -29,7 +29,7 @@ use writing::write_outcome;
 /// | 1 | a line `path: fault` for each report, in order |
 /// | 2 | `refused: not JSON` |
 /// | 3 | `refused: not a glTF document` |
-/// | 4 | `refused: input or output`, if the reader failed, a limit of [`Root::from_reader`] was passed or memory was refused; a prefix of the output that was due, where the writer failed |
+/// | 4 | `refused: input or output`, if the reader failed, a limit of [`Root::from_reader`] was passed, or out of memory; a prefix of the output, if the writer failed |
 ///
 /// The whole output is made before its first byte is written. Paths escape nothing, so a report on
 /// a name with a newline in it takes more than one line.

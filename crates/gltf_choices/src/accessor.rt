@@ -75,7 +75,7 @@ impl ComponentType {
         }
     }
 
-    /// Returns the number of the type in a document.
+    /// Returns the number that stands for the type in a document.
     pub fn as_gl_enum(self) -> u32
         ensures { by_number result ≡ component_type_spelling self }
     {
@@ -157,7 +157,7 @@ impl GenericComponentType {
         item_of::<GenericComponentType>(Spelling::Number(number))
     }
 
-    /// Returns the number of the type in a document.
+    /// Returns the number that stands for the type in a document.
     pub fn as_gl_enum(self) -> u32
         ensures { by_number result ≡ generic_component_type_spelling self }
     {
@@ -218,7 +218,7 @@ impl IndexComponentType {
         item_of::<IndexComponentType>(Spelling::Number(number))
     }
 
-    /// Returns the number of the type in a document, also of one that isn't read.
+    /// Returns the number that stands for the type in a document, also of one that isn't read.
     pub fn as_gl_enum(self) -> u32
         ensures { by_number result ≡ index_component_type_spelling self }
     {
@@ -311,7 +311,7 @@ impl AccessorType {
         item_of::<AccessorType>(Spelling::Name(name))
     }
 
-    /// Returns the name of the type in a document.
+    /// Returns the name that stands for the type in a document.
     pub fn name(self) -> &'static str
         ensures { by_name result.now ≡ accessor_type_spelling self }
     {

@@ -83,7 +83,7 @@ impl Interpolation {
         item_of::<Interpolation>(Spelling::Name(name))
     }
 
-    /// Returns the name of the interpolation in a document.
+    /// Returns the name that stands for the interpolation in a document.
     pub fn name(self) -> &'static str
         ensures { by_name result.now ≡ interpolation_spelling self }
     {
@@ -157,7 +157,7 @@ impl Property {
         item_of::<Property>(Spelling::Name(name))
     }
 
-    /// Returns the name of the property in a document.
+    /// Returns the name that stands for the property in a document.
     pub fn name(self) -> &'static str
         ensures { by_name result.now ≡ property_spelling self }
     {

@@ -76,7 +76,7 @@ impl Target {
         item_of::<Target>(Spelling::Number(number))
     }
 
-    /// Returns the number of the target in a document.
+    /// Returns the number that stands for the target in a document.
     pub fn as_gl_enum(self) -> u32
         ensures { by_number result ≡ target_spelling self }
     {

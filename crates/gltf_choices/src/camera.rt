@@ -65,7 +65,7 @@ impl CameraType {
         item_of::<CameraType>(Spelling::Name(name))
     }
 
-    /// Returns the name of the type in a document.
+    /// Returns the name that stands for the type in a document.
     pub fn name(self) -> &'static str
         ensures { by_name result.now ≡ camera_type_spelling self }
     {

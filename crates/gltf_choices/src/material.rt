@@ -76,7 +76,7 @@ impl AlphaMode {
         item_of::<AlphaMode>(Spelling::Name(name))
     }
 
-    /// Returns the name of the mode in a document.
+    /// Returns the name that stands for the mode in a document.
     pub fn name(self) -> &'static str
         ensures { by_name result.now ≡ alpha_mode_spelling self }
     {

@@ -124,7 +124,7 @@ impl Mode {
         item_of::<Mode>(Spelling::Number(number))
     }
 
-    /// Returns the number of the mode in a document.
+    /// Returns the number that stands for the mode in a document.
     pub fn as_gl_enum(self) -> u32
         ensures { by_number result ≡ mode_spelling self }
     {

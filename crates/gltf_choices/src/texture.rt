@@ -104,7 +104,7 @@ impl MagFilter {
         item_of::<MagFilter>(Spelling::Number(number))
     }
 
-    /// Returns the number of the filter in a document.
+    /// Returns the number that stands for the filter in a document.
     pub fn as_gl_enum(&self) -> u32
         ensures { by_number result ≡ mag_filter_spelling self.now }
     {
@@ -183,7 +183,7 @@ impl MinFilter {
         item_of::<MinFilter>(Spelling::Number(number))
     }
 
-    /// Returns the number of the filter in a document.
+    /// Returns the number that stands for the filter in a document.
     pub fn as_gl_enum(&self) -> u32
         ensures { by_number result ≡ min_filter_spelling self.now }
     {
@@ -267,7 +267,7 @@ impl WrappingMode {
         item_of::<WrappingMode>(Spelling::Number(number))
     }
 
-    /// Returns the number of the mode in a document.
+    /// Returns the number that stands for the mode in a document.
     pub fn as_gl_enum(&self) -> u32
         ensures { by_number result ≡ wrapping_mode_spelling self.now }
     {

@@ -67,7 +67,7 @@ impl LightType {
         item_of::<LightType>(Spelling::Name(name))
     }
 
-    /// Returns the name of the type in a document.
+    /// Returns the name that stands for the type in a document.
     pub fn name(self) -> &'static str
         ensures { by_name result.now ≡ light_type_spelling self }
     {

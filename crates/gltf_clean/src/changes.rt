@@ -15,7 +15,7 @@ ghost use Rattle.gltf_clean.specs.Replaced.{IsReplaced};
 ghost use Rattle.gltf_clean.specs.Set.{IsRequired};
 
 /// A document without reports stays one under any list of pushes, replacements and setters that
-/// succeed. It is so by any rules, which stay the same from call to call.
+/// succeed. This holds by any rules, which stay the same from call to call.
 pub fn changes_leave_no_reports()
     ensures { (rules : Allowed) (changes : List Change) (old new : Document)
         → AreChanged rules changes old new → IsClean rules (root_tree old)

@@ -83,7 +83,7 @@ pub fn read_to_end<R: ByteIn>(
 }
 
 /// Appends all bytes up to the end, piece by piece.
-// It stands by itself, since a proof that knows what a new piece holds computes all its zeros.
+// It is a function of its own: a proof that knows what a new piece holds computes all its zeros.
 #[tactic(auto, using(crate::proofs::DeviceLemmas::reads))]
 fn fill<R: ByteIn>(
     reader: &mut R,

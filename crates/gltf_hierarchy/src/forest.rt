@@ -28,7 +28,7 @@ impl Forest {
         // A forest is found, unless it has too many nodes or memory is refused.
         ensures only { IsForest (H.children nodes.now) → length (H.children nodes.now) < 2 ^ 32
             → IfErr result IsOutOfMemory }
-        // What the fault says is so.
+        // What the fault says is true.
         ensures fault { IfErr result (IsHierarchyFault (H.children nodes.now)) }
         // What the calls below return.
         ensures order { IfOk result (λ f. IsParentsFirst (H.children nodes.now) (forest_order f)) }

@@ -24,7 +24,7 @@ pub enum Kind {
 }
 
 impl Kind {
-    /// What an argument names. If nothing is there, reading it as a file says so.
+    /// What an argument names. If nothing is there, reading it as a file fails.
     pub fn of_argument(rt: &HostRuntime, name: &str) -> Kind {
         match fs::metadata(rt, name) {
             Ok(metadata) if metadata.is_dir() && name != STANDARD_INPUT => Kind::Folder,

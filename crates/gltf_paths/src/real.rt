@@ -73,7 +73,8 @@ impl Real {
     }
 }
 
-// One call drops it, wherever it is held: only here are the six kinds of a value told apart.
+// One call drops it, wherever it is held (docs/DECISIONS.md, "Large values"). Only here are the six
+// kinds of a JSON value tested for.
 impl Drop for Real {
     fn drop(self) {
         let Real { value: _ } = self;

@@ -21,7 +21,7 @@ ghost use Rattle.gltf_faults.specs.Reports.{document_reports, reports};
 ghost use Rattle.gltf_faults.specs.Wider.{AllowsMore, IsSublist};
 
 /// The reports of a value from a base are its reports from no steps, with the base in front of
-/// each. It is so for every kind, against every document and by any rules.
+/// each. This holds for every kind, against every document and by any rules.
 pub fn reports_from_a_base_have_it_in_front()
     ensures { (kind : Kind) (t : Tree) (context : Context) (above : Tree) (base : List Step)
         → reports kind t context above base

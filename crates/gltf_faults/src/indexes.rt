@@ -33,8 +33,8 @@ where
     }
 }
 
-/// What is wrong with the image that a texture names. If its number is [`NO_IMAGE`], that is
-/// `Missing`, or nothing if the rules allow it. Otherwise it is what is wrong with the index.
+/// What is wrong with the image that a texture names. Where its number is [`NO_IMAGE`] that is
+/// `Missing`, and nothing if the rules allow it; otherwise it is what is wrong with the index.
 pub fn source_fault(texture: &Texture, context: &Context<'_>) -> Option<Error>
     ensures { (base : List Step) → found_at result base
         ≡ source_faults (context_of context.now).rules.empty_texture

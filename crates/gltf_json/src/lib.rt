@@ -1,5 +1,5 @@
-//! glTF 2.0 documents: read from JSON, validated, built and written. This crate names what the
-//! crates below it hold, under the modules of the format.
+//! glTF 2.0 documents: read from JSON, validated, built and written. This crate re-exports the
+//! crates below it, under the modules of the format.
 #![tactic(auto)]
 
 pub use gltf_base::{Index, Path, Real, path};

@@ -46,7 +46,7 @@ pub fn run<R: ByteIn, W: ByteOut>(alloc: Global, reader: &mut R, writer: &mut W)
     run_with(alloc, &Rules::new(), reader, writer)
 }
 
-/// [`run`] by the caller's rules.
+/// Runs as [`run`] does, by the caller's rules.
 pub fn run_with<R: ByteIn, W: ByteOut>(
     alloc: Global,
     rules: &Rules<'_>,

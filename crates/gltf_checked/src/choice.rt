@@ -90,8 +90,8 @@ pub fn item_of<T: Choice>(spelling: Spelling<'_>) -> Checked<T>
     Checked::Invalid
 }
 
-/// Each item is read back from its own spelling, and what a spelling is read as has that spelling. This
-/// holds for choices by number and for choices by name.
+/// Each item is read back from its own spelling, and what a spelling is read as has it. This holds
+/// for choices by number and for choices by name.
 pub fn spellings_are_read_back<T: Choice>()
     ensures listed { AllByRecursion (λ x. item_spelled T.spelling T.listed (T.spelling x) ≡ Valid x)
         T.listed }

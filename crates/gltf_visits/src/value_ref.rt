@@ -31,8 +31,8 @@ use gltf_shading::extensions::material::Material as MaterialExtensions;
 use gltf_textures::texture::{Sampler, Texture};
 use std::collections::BTreeMap;
 
-/// A value that a walk comes to. It is an object, a list or a map in which something can be wrong, a
-/// place that an object's rule names, or a place with nothing below.
+/// A value that a walk comes to: an object, a list or a map in which something can be wrong. It may
+/// also be a place that an object's rule names, or a place with nothing below.
 #[derive(Clone, Copy, Drop)]
 pub enum ValueRef<'a> {
     /// A place with nothing below, and the fault there.

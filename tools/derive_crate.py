@@ -6,7 +6,7 @@ from derive_names import use_definitions
 from derive_objects import CRATES, line_of
 from derive_rows import text_of
 
-DROPPED = "// One call drops it, wherever it is held (docs/DECISIONS.md)."
+DROPPED = "// One call drops it, wherever it is held (docs/DECISIONS.md, \"Large values\")."
 
 
 class CrateTexts:

@@ -21,19 +21,19 @@ use gltf_nodes::scene::Node;
 use gltf_schema::{Blank, Object, ReadRows, WriteRows};
 use std::alloc::Global;
 
-/// What moves nodes over time.
+/// A keyframe animation of nodes (glTF 2.0, section 5.5).
 #[derive(Clone, Debug)]
 pub struct Animation {
-    /// How values are found between times; the channels name them by their numbers.
+    /// The samplers, which channels refer to by index.
     pub samplers: Vec<Sampler>,
-    /// What is moved, and by which of the samplers.
+    /// The channels: each animates a property of a node by a sampler.
     pub channels: Vec<Channel>,
     pub name: Option<String>,
     pub extensions: Option<extensions::animation::Animation>,
     pub extras: Extras,
 }
 
-// One call drops it, wherever it is held (docs/DECISIONS.md).
+// One call drops it, wherever it is held (docs/DECISIONS.md, "Large values").
 impl Drop for Animation {
     fn drop(self) {
         let Animation {
@@ -47,7 +47,7 @@ impl Drop for Animation {
 }
 
 impl Animation {
-    /// An animation of these channels, which name the samplers by their numbers.
+    /// Returns an animation of these channels, which refer to the samplers by index.
     #[tactic(auto, unfolding(crate::specs::Animation::animation_rows, crate::specs::Animation::animation_members))]
     pub fn new(samplers: Vec<Sampler>, channels: Vec<Channel>) -> Animation
         ensures { animation_members result ≡ made animation_rows ((
@@ -115,11 +115,11 @@ impl Object for Animation {
     }
 }
 
-/// A property of a node, and the sampler that it follows.
-// What takes longest to drop comes last (docs/DECISIONS.md).
+/// A property of a node, and the sampler that animates it (glTF 2.0, section 5.6).
+// What takes longest to drop comes last (docs/DECISIONS.md, "Order of fields").
 #[derive(Clone, Debug, Drop)]
 pub struct Channel {
-    /// The sampler, one of the same animation's.
+    /// The index of a sampler of the same animation.
     pub sampler: Index<Sampler>,
     pub extensions: Option<extensions::animation::Channel>,
     pub extras: Extras,
@@ -127,7 +127,7 @@ pub struct Channel {
 }
 
 impl Channel {
-    /// A property that follows a sampler of the same animation.
+    /// Returns a channel that animates a property by a sampler of the same animation.
     #[tactic(auto, unfolding(crate::specs::Animation::animation_channel_rows, crate::specs::Animation::animation_channel_members))]
     pub fn new(sampler: Index<Sampler>, target: Target) -> Channel
         ensures { animation_channel_members result ≡ made animation_channel_rows (
@@ -180,18 +180,18 @@ impl Object for Channel {
     }
 }
 
-/// A property of a node.
+/// The node and its property that a channel animates (glTF 2.0, section 5.7).
 #[derive(Clone, Debug, Drop)]
 pub struct Target {
     pub node: Index<Node>,
-    /// The property.
+    /// The property to animate.
     pub path: Checked<Property>,
     pub extensions: Option<extensions::animation::Target>,
     pub extras: Extras,
 }
 
 impl Target {
-    /// A property of a node.
+    /// Returns a target: a property of a node.
     #[tactic(auto, unfolding(crate::specs::Animation::animation_target_rows, crate::specs::Animation::animation_target_members))]
     pub fn new(node: Index<Node>, path: Property) -> Target
         ensures { animation_target_members result ≡ made animation_target_rows (
@@ -255,21 +255,21 @@ impl Blank for Target {
     }
 }
 
-/// How values are found between the times at which they are given.
+/// Keyframes, and how to interpolate between them (glTF 2.0, section 5.8).
 #[derive(Clone, Debug, Drop)]
 pub struct Sampler {
-    /// The times, in seconds.
+    /// The timestamps of the keyframes, in seconds.
     pub input: Index<Accessor>,
-    /// What lies between two of them.
+    /// How to interpolate between keyframes.
     pub interpolation: Checked<Interpolation>,
-    /// The values at these times.
+    /// The values at the keyframes.
     pub output: Index<Accessor>,
     pub extensions: Option<extensions::animation::Sampler>,
     pub extras: Extras,
 }
 
 impl Sampler {
-    /// Times, and the values at them; between two of them lies a straight line.
+    /// Returns a sampler with linear interpolation.
     #[tactic(auto, unfolding(crate::specs::Animation::animation_sampler_rows, crate::specs::Animation::animation_sampler_members))]
     pub fn new(input: Index<Accessor>, output: Index<Accessor>) -> Sampler
         ensures { animation_sampler_members result ≡ made animation_sampler_rows (

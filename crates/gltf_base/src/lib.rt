@@ -43,9 +43,9 @@ pub mod choice {
 pub mod extensions {
     pub use gltf_choices::extensions::{ENABLED_EXTENSIONS, SUPPORTED_EXTENSIONS};
 
-    /// Those of scenes.
+    /// The choices of extensions of scenes.
     pub mod scene {
-        /// Those of lights (`KHR_lights_punctual`).
+        /// The choices of lights (`KHR_lights_punctual`).
         pub mod khr_lights_punctual {
             pub use gltf_choices::extensions::scene::khr_lights_punctual::{
                 LightType, Type, VALID_TYPES,
@@ -59,7 +59,7 @@ pub mod image {
     pub use gltf_choices::image::VALID_MIME_TYPES;
 }
 
-/// Laws of the definitions that contracts of these crates cite. Each is the contract of a function
+/// Laws of the definitions that contracts of these crates use. Each is the contract of a function
 /// that does nothing.
 pub mod laws {
     pub use gltf_checked::choice::spellings_are_read_back;
@@ -76,52 +76,52 @@ pub mod laws {
         names_are_read_back, sizes_are_compared_as_numbers, worked_paths, worked_pointers,
     };
 
-    /// That the constants of accessors list their choices.
+    /// The law that the constants of accessors list their choices.
     pub mod accessor {
         pub use gltf_choices::accessor::constants_are_listed;
     }
 
-    /// That the constants of animations list their choices.
+    /// The law that the constants of animations list their choices.
     pub mod animation {
         pub use gltf_choices::animation::constants_are_listed;
     }
 
-    /// That the constants of buffers list their choices.
+    /// The law that the constants of buffers list their choices.
     pub mod buffer {
         pub use gltf_choices::buffer::constants_are_listed;
     }
 
-    /// That the constants of cameras list their choices.
+    /// The law that the constants of cameras list their choices.
     pub mod camera {
         pub use gltf_choices::camera::constants_are_listed;
     }
 
-    /// That the constants of extensions list their names.
+    /// The law that the constants of extensions list their names.
     pub mod extensions {
         pub use gltf_choices::extensions::constants_are_listed;
     }
 
-    /// That the constants of images list their media types.
+    /// The law that the constants of images list their media types.
     pub mod image {
         pub use gltf_choices::image::constants_are_listed;
     }
 
-    /// That the constants of lights list their choices.
+    /// The law that the constants of lights list their choices.
     pub mod light {
         pub use gltf_choices::extensions::scene::khr_lights_punctual::constants_are_listed;
     }
 
-    /// That the constants of materials list their choices.
+    /// The law that the constants of materials list their choices.
     pub mod material {
         pub use gltf_choices::material::constants_are_listed;
     }
 
-    /// That the constants of meshes list their choices.
+    /// The law that the constants of meshes list their choices.
     pub mod mesh {
         pub use gltf_choices::mesh::constants_are_listed;
     }
 
-    /// That the constants of textures list their choices.
+    /// The law that the constants of textures list their choices.
     pub mod texture {
         pub use gltf_choices::texture::constants_are_listed;
     }
@@ -132,7 +132,7 @@ pub mod material {
     pub use gltf_choices::material::{AlphaMode, VALID_ALPHA_MODES};
 }
 
-/// The choices of meshes, and what their attributes mean.
+/// The choices of meshes, and the semantics of attributes.
 pub mod mesh {
     pub use gltf_checked::mesh::Semantic;
     pub use gltf_choices::mesh::{
@@ -141,7 +141,7 @@ pub mod mesh {
     };
 }
 
-/// The place of a thing in a document, as text and as steps.
+/// The path to a place in a document, as text and as steps.
 pub mod path {
     pub use gltf_paths::path::{KeyStep, Path, Step, Steps};
 }
@@ -160,8 +160,7 @@ pub mod texture {
     };
 }
 
-/// What is wrong at a place of a document, items of a choice that may be none of its values, and
-/// numbers of bytes or items.
+/// Faults of a document, items of a choice that may be invalid, and numbers of bytes or items.
 pub mod validation {
     pub use gltf_checked::validation::Checked;
     pub use gltf_paths::validation::{Error, USize64};

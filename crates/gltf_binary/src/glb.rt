@@ -24,8 +24,8 @@ pub struct Glb<'a> {
 }
 
 impl<'a> Glb<'a> {
-    /// Returns the parts of a file. Chunks of other types behind them are passed over. Fails with
-    /// the first fault from the left. It takes no memory.
+    /// Returns the parts of a file. Chunks of other types behind them are skipped. Fails with the
+    /// first fault from the left. It takes no memory.
     pub fn from_slice(bytes: &'a [u8]) -> Result<Glb<'a>, Error>
         // What is read is a container with these parts.
         ensures found { IfOk result (λ glb. IsGlb bytes.now (parts_of glb)) }

@@ -19,8 +19,8 @@ items_tree tree items = option_map (λ v. list_tree tree v.items) items
 abbrev pub is_among : List ℕ → List (List ℕ) → Bool
 is_among n names = list_any (bytes_eq n) names
 
--- the list is what the table reads of the member of the name, an empty one if there is no such member,
--- and None if the table refuses the member; nothing is said of a name that comes before
+-- the list is what the table reads of the member of the name: an empty one if there is no such member,
+-- None if the table refuses it. Nothing is said of a name that comes before
 abbrev pub HoldsMember : Kind → List ℕ → Option Tree → List (List ℕ) → Members → Type 0
 HoldsMember kind n t before ms = is_among n before ≡ false → read_member (unless (list end)) (read (ListOf kind)) (get_member n ms) ≡ t
 

@@ -36,7 +36,7 @@ pub trait Slots: Drop {
     /// Reads the next value of the text into the list of that name, with arrays and objects nested
     /// no deeper than `depth`. Returns `false`, and reads nothing, if no list has the name. Fails
     /// with `Refused` only if a list has the name and the text has no value there, and with
-    /// `Memory` only if a growth was refused.
+    /// `Memory` only if out of memory.
     fn read(
         &mut self,
         alloc: Global,
@@ -156,8 +156,8 @@ impl<A: Slots, B: Slots> Slots for (A, B) {
 }
 
 /// Returns the items of the array that is next in the text, with arrays and objects nested no
-/// deeper than `depth`, or `None` if the table refuses the value that is next. Each value is dropped
-/// as soon as its item is read.
+/// deeper than `depth`. Returns `None` if the table refuses the value that is next. Each value is
+/// dropped as soon as its item is read.
 fn read_list<T: Schema>(
     alloc: Global,
     reader: &mut Reader<'_>,
@@ -237,7 +237,7 @@ fn read_rest<'a, L: Slots>(
 /// Reads a text that is an object. The members of some names are lists, which are read an item at a
 /// time; the result has all other members, in the order of the text. Of several members of one name
 /// the last one counts. Fails with `Refused` only if the text is no object of JSON, and with
-/// `Memory` only if a growth was refused.
+/// `Memory` only if out of memory.
 pub fn read_object<'a, L: Slots>(
     alloc: Global,
     text: &'a str,

@@ -8,7 +8,7 @@ use crate::value::Borrowed;
 use serde_json::{Map, Value};
 use std::alloc::{AllocError, Global};
 
-/// Returns a copy of the value that owns its text. Fails if a growth was refused.
+/// Returns a copy of the value that owns its text. Fails if out of memory.
 #[cycle(owned)]
 pub(crate) fn owned(alloc: Global, value: &Borrowed<'_>) -> Result<Value, AllocError>
     ensures { IfOk result (λ v. view v ≡ data_of value.now) }
@@ -34,7 +34,7 @@ fn owned_items(alloc: Global, items: &Vec<Borrowed<'_>>) -> Result<Vec<Value>, A
     Ok(copies)
 }
 
-/// Returns the members as a map that owns its text. Fails if a growth was refused.
+/// Returns the members as a map that owns its text. Fails if out of memory.
 #[cycle(owned)]
 pub(crate) fn owned_members(
     alloc: Global,

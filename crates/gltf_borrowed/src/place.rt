@@ -14,7 +14,7 @@ use json::Scratch;
 use std::alloc::{AllocError, Global};
 use std::fmt::{self, Display, Formatter, Write};
 
-/// A place in a document, in two forms.
+/// A place in a document, as a path and as a JSON pointer.
 #[derive(Clone, Debug, Drop, PartialEq)]
 pub struct Place {
     /// As in a report, for example `accessors[0].count`. Empty for the document itself.
@@ -24,7 +24,7 @@ pub struct Place {
 }
 
 impl Place {
-    /// The place at the end of these steps. Fails only if memory was refused.
+    /// The place at the end of these steps. Fails only if out of memory.
     fn of(alloc: Global, steps: &[OwnedStep]) -> Result<Place, AllocError>
         ensures { IfOk result (IsAtEnd (map owned_step steps.now)) }
     {
@@ -47,7 +47,7 @@ impl Display for Place {
     }
 }
 
-/// The same steps, which borrow their names. Fails only if memory was refused.
+/// The same steps, which borrow their names. Fails only if out of memory.
 fn borrowed(alloc: Global, steps: &[OwnedStep]) -> Result<Vec<Step<'_>>, AllocError>
     ensures { IfOk result (λ v. map step_of v.items ≡ map owned_step steps.now) }
 {
@@ -59,8 +59,7 @@ fn borrowed(alloc: Global, steps: &[OwnedStep]) -> Result<Vec<Step<'_>>, AllocEr
 }
 
 /// Returns the innermost place that the table refuses in a text, or `None` if the table reads it.
-/// Fails with `Json` if the text is no JSON; `Memory` may come in place of any result if a growth
-/// was refused.
+/// Fails with `Json` if the text is no JSON. Out of memory, it may fail with `Memory` instead.
 pub fn refused_in_text<T: Schema>(alloc: Global, text: &str) -> Result<Option<Place>, Error>
     ensures { IsPlaceIn T.kind text.now result }
 {

@@ -20,7 +20,7 @@ const FEW: usize = 8;
 pub enum NoValue {
     /// The text is no JSON, nests too deep, or has a number out of range.
     Refused,
-    /// A growth was refused.
+    /// Out of memory.
     Memory,
 }
 
@@ -36,7 +36,7 @@ impl From<Invalid> for NoValue {
 
 /// Returns the value that is next in the text, with arrays and objects nested no deeper than
 /// `depth`: the one that `serde_json` reads there. Fails with `Refused` only if it reads none, and
-/// with `Memory` only if a growth was refused.
+/// with `Memory` only if out of memory.
 #[cycle(read_value)]
 #[inline(always)]
 pub fn read_value<'a>(
@@ -145,7 +145,7 @@ fn read_members<'a>(
     Ok(entries)
 }
 
-/// Adds a member behind the others. Fails if a growth was refused.
+/// Adds a member behind the others. Fails if out of memory.
 #[inline(always)]
 fn add_member<'a>(
     entries: &mut Vec<(&'a str, Borrowed<'a>)>,

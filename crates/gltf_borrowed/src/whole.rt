@@ -17,7 +17,7 @@ pub const MAX_DEPTH: usize = 127;
 
 /// Returns the value that a text is: the one that `serde_json` reads. Texts with escapes are kept
 /// in `scratch`. Fails with `Refused` only if `serde_json` reads no value, and with `Memory` only
-/// if a growth was refused.
+/// if out of memory.
 pub fn read_text<'a>(
     alloc: Global,
     text: &'a str,
@@ -37,8 +37,8 @@ pub fn read_text<'a>(
 }
 
 /// Returns what the table reads of a text. Fails with `Json` if and only if `serde_json` reads no
-/// value, and with `Schema` if and only if the table reads nothing of its value; `Memory` may come
-/// in place of either if a growth was refused.
+/// value, and with `Schema` if and only if the table reads nothing of its value. Out of memory, it
+/// may fail with `Memory` instead.
 pub fn decode_text<T: Schema>(alloc: Global, text: &str) -> Result<T, Error>
     ensures { IsDecoded T.tree (option_map (read T.kind) (read_json text.now)) result }
 {

@@ -31,7 +31,7 @@ IsChecked rules bytes old new returned =
 abbrev pub IsWritingOf : Answer → List ℕ → Type 0
 IsWritingOf due bytes = (t : Tree) × (due ≡ document t) × IsCompactOf t bytes × IsReadBack t bytes
 
--- a document was read in which something is invalid, so that it can't be written
+-- a document was read that can't be written, because something in it is invalid
 abbrev pub IsUnwritable : Answer → Type 0
 IsUnwritable due = (t : Tree) × (due ≡ document t) × (holds_invalid t ≡ true)
 

@@ -45,10 +45,10 @@ const NOT_TEXT: u8 = 6;
 /// | Status | Output |
 /// |---|---|
 /// | 0 | `clean` |
-/// | 1 | a line `path: error` for each report, in order |
+/// | 1 | a line `path: fault` for each report, in order |
 /// | 2 | `refused: not JSON` |
 /// | 3 | `refused: not a glTF document` |
-/// | 4 | `refused: input or output`, if memory was refused |
+/// | 4 | `refused: input or output`, if out of memory |
 #[unsafe(no_mangle)]
 pub extern "C" fn gltf_c_check(alloc: Global, document: &[u8], output: &mut [u8]) -> Returned
     ensures { IsChecked standard_rules document.now output.old output.new result }
@@ -90,14 +90,14 @@ pub extern "C" fn gltf_c_check_by(
 
 /// Writes a document anew: in one line, without blanks between its tokens, and with each default of
 /// the format left out or put in as `Root::to_vec` does. Output comes with the status 0 alone. The
-/// bytes decide the status, except that it is 4 if memory was refused.
+/// bytes decide the status, except that it is 4 if out of memory.
 ///
 /// | Status | Meaning |
 /// |---|---|
 /// | 0 | the document was written |
 /// | 2 | the bytes are no JSON |
 /// | 3 | the JSON is no glTF document |
-/// | 4 | memory was refused |
+/// | 4 | out of memory |
 /// | 5 | a choice or the name of an attribute is invalid |
 #[unsafe(no_mangle)]
 pub extern "C" fn gltf_c_rewrite(alloc: Global, document: &[u8], output: &mut [u8]) -> Returned

@@ -27,7 +27,7 @@ pub(crate) fn fill(output: &mut [u8], bytes: &[u8]) -> usize
     bytes.len()
 }
 
-/// Writes what there is to say of a document to a buffer.
+/// Writes the outcome for a document to a buffer.
 pub(crate) fn tell(outcome: &Outcome, output: &mut [u8]) -> Returned
     ensures { IsGiven (outcome_output outcome.now) output.old output.new result }
 {

@@ -13,7 +13,7 @@ use gltf_root::root::Root;
 use gltf_schema::Error;
 use std::alloc::{AllocError, Global};
 
-/// Checks a document by the rules, and writes what there is to say of it to a buffer.
+/// Checks a document by the rules, and writes the outcome to a buffer.
 pub(crate) fn check(
     alloc: Global,
     rules: &Rules<'_>,

@@ -24,7 +24,7 @@ spelled_in-cons spell y x ys s true h rest e =
     (ap spell (sym found) ∙ same_spelling (spell y) s h, (0, omega arith, found))
 spelled_in-cons spell y x ys s false h rest e = let r = rest e in (r.0, Contains-cons y x ys r.1)
 
--- an item that a spelling means is spelled so, and is one of the list
+-- an item that a spelling means has that spelling, and is one of the list
 pub item_spelled-Valid : {X : Type 0} (spell : X → Spelling) (xs : List X) (s : Spelling) (x : X) → item_spelled spell xs s ≡ Valid x → (spell x ≡ s) × Contains xs x
 item_spelled-Valid spell [] s x e = cc
 item_spelled-Valid spell (y ∷ ys) s x e = spelled_in-cons spell y x ys s (is_spelled (spell y) s) refl (item_spelled-Valid spell ys s x) e

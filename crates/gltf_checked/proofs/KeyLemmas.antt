@@ -20,7 +20,7 @@ key_named-key_text (joints set) small = rw (set_number-decimal set (ltb-true set
 key_named-key_text (weights set) small = rw (set_number-decimal set (ltb-true set (2 ^ 32) small)) refl
 key_named-key_text unknown named = absurd (false≢true named)
 
--- texts that differ are told apart
+-- texts that differ are not equal by their bytes
 bytes_eq-other : (s t : List ℕ) (b : Bool) → bytes_eq s t ≡ b → (s ≡ t → ⊥) → b ≡ false
 bytes_eq-other s t true h other = absurd (other ((bytes_eq-Decides s t).0 h))
 bytes_eq-other s t false h other = refl

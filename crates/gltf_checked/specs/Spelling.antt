@@ -25,7 +25,7 @@ is_spelled (by_number m) (by_number n) = m == n
 is_spelled (by_name s) (by_name t) = bytes_eq s t
 is_spelled _ _ = false
 
--- the item that a spelling is read as: the one of the list that is spelled so
+-- the item that a spelling is read as: the one of the list that has it
 abbrev pub item_spelled : {X : Type 0} → (X → Spelling) → List X → Spelling → Checked X
 item_spelled spell [] s = Invalid
 item_spelled spell (x ∷ xs) s = if is_spelled (spell x) s then Valid x else item_spelled spell xs s

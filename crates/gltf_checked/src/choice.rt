@@ -78,7 +78,7 @@ pub fn is_same(a: Spelling<'_>, b: Spelling<'_>) -> bool
     }
 }
 
-/// The item that a spelling means; `Invalid` where it means none.
+/// Returns the item with this spelling, or `Invalid` if there is none.
 pub fn item_of<T: Choice>(spelling: Spelling<'_>) -> Checked<T>
     ensures { result ≡ item_spelled T.spelling T.listed (spelling_of spelling.entry) }
 {
@@ -90,8 +90,8 @@ pub fn item_of<T: Choice>(spelling: Spelling<'_>) -> Checked<T>
     Checked::Invalid
 }
 
-/// Each item that is read is read back from its own spelling, and what a spelling is read as is
-/// spelled so: both for choices by number and for choices by name.
+/// Each item is read back from its own spelling, and what a spelling is read as has it. This holds
+/// for choices by number and for choices by name.
 pub fn spellings_are_read_back<T: Choice>()
     ensures listed { AllByRecursion (λ x. item_spelled T.spelling T.listed (T.spelling x) ≡ Valid x)
         T.listed }

@@ -16,7 +16,7 @@ use crate::mesh::Semantic;
 use crate::validation::Checked;
 use std::hash::Hash;
 
-/// An order is total, is `Equal` just where values are equal, and equal values hash alike.
+/// An order is total, and `Equal` if and only if values are equal. Equal values hash alike.
 pub fn orders_agree_with_equality<T: Ord + Hash>()
     ensures total { IsTotalOrder T.cmp }
     ensures equality { (x y : T) → T.eq x y ≡ is_eq (T.cmp x y) }

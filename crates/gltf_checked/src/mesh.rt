@@ -1,4 +1,4 @@
-//! What the attributes of meshes mean.
+//! The semantics of vertex attributes.
 
 ghost use Rattle.std.specs.Prelude.{◌≡◌, ◌++◌, codes, option_and_then, IsTrue, IsOk, IfOk, OnOk};
 ghost use Rattle.std.specs.Option.{option_copied};
@@ -12,30 +12,30 @@ use crate::validation::Checked;
 use std::alloc::{AllocError, Global};
 use std::fmt::Write;
 
-/// What an attribute of a mesh means.
+/// The semantic of a vertex attribute (glTF 2.0, section 3.7.2.1).
 #[derive(Clone, Debug, Drop, PartialEq, Eq, PartialOrd, Ord, Hash)]
 pub enum Semantic {
-    /// An attribute of an application's own, without the underscore.
+    /// An application-specific attribute, by its name without the underscore.
     Extras(String),
-    /// The positions of the vertices.
+    /// Vertex positions.
     Positions,
-    /// The directions at right angles to the surface.
+    /// Vertex normals.
     Normals,
-    /// The directions along the surface.
+    /// Vertex tangents.
     Tangents,
-    /// The colors of a set, by its number.
+    /// Vertex colors, of the set with this number.
     Colors(u32),
-    /// The texture coordinates of a set, by its number.
+    /// Texture coordinates, of the set with this number.
     TexCoords(u32),
-    /// The joints of a set, by its number.
+    /// Joints for skinning, of the set with this number.
     Joints(u32),
-    /// The weights of a set's joints, by its number.
+    /// Weights for skinning, of the set with this number.
     Weights(u32),
 }
 
 impl Semantic {
-    /// Returns the semantic that an attribute's name means (glTF 2.0, section 3.7.2.1). Memory is
-    /// taken only for the name of an application's own attribute. Fails only if it was refused.
+    /// Returns the semantic that an attribute's name means (glTF 2.0, section 3.7.2.1). It takes
+    /// memory only for an application-specific name. Fails only if out of memory.
     #[tactic(auto, unfolding(crate::specs::Names::key_named))]
     pub fn checked(alloc: Global, text: &str) -> Result<Checked<Semantic>, AllocError>
         ensures key { IfOk result (λ semantic. checked_key semantic ≡ key_named text.now) }
@@ -51,7 +51,7 @@ impl Semantic {
     }
 
     /// Returns the attribute's name that means the semantic. [`Semantic::checked`] reads it back.
-    /// Fails only if memory was refused.
+    /// Fails only if out of memory.
     pub fn to_string(&self, alloc: Global) -> Result<String, AllocError>
         ensures text { IfOk result (λ text. string_bytes text ≡ key_text (semantic_key self.now)) }
         ensures named { OnOk result (IsTrue (is_named (semantic_key self.now))) }
@@ -64,7 +64,7 @@ impl Semantic {
 
 impl Checked<Semantic> {
     /// Returns the attribute's name that means the semantic, or the text for an invalid one. Fails
-    /// only if memory was refused.
+    /// only if out of memory.
     pub fn to_string(&self, alloc: Global) -> Result<String, AllocError>
         ensures { IfOk result (λ text. string_bytes text ≡ key_text (checked_key self.now)) }
     {
@@ -123,8 +123,8 @@ fn parse_set(text: &str) -> Option<u32>
     text.parse().ok()
 }
 
-/// Appends the text of a semantic or of none. Fails only if memory was refused; part of the text
-/// may have been appended then.
+/// Appends the text of a semantic or of none. Fails only if out of memory; part of the text may
+/// have been appended then.
 pub fn write_semantic(text: &mut String, semantic: &Checked<Semantic>) -> Result<(), AllocError>
     ensures { OnOk result (string_bytes text.new
         ≡ string_bytes text.old ++ key_text (checked_key semantic.now)) }

@@ -4,19 +4,19 @@ ghost use Rattle.std.specs.Prelude.{◌≡◌};
 
 use std::fmt::{self, Display, Formatter, Write};
 
-/// An item of a choice, or a value that is none of the choice's.
+/// A valid item of a choice, or `Invalid`.
 #[derive(Clone, Copy, Debug, Drop, PartialEq, Eq, PartialOrd, Ord, Hash)]
 pub enum Checked<T> {
     /// The item.
     Valid(T),
-    /// A value that is none of the choice's items.
+    /// A value that the choice doesn't list.
     Invalid,
 }
 
 impl<T> Checked<T> {
     ghost use Rattle.gltf_checked.specs.Checked.{IsValid, checked_copied};
 
-    /// The item behind a reference.
+    /// Returns the item as a reference.
     pub fn as_ref(&self) -> Checked<&T>
         ensures { checked_copied result ≡ self.now }
     {
@@ -26,7 +26,7 @@ impl<T> Checked<T> {
         }
     }
 
-    /// The item, of what holds one.
+    /// Returns the item. There must be one.
     pub fn unwrap(self) -> T
         requires { IsValid self }
         ensures { self ≡ Checked.Valid result }

@@ -39,15 +39,15 @@ pub const VALID_COMPONENT_TYPES: &[u32] = &[
     FLOAT,
 ];
 
-/// The numbers of the component types of indexes.
+/// The numbers of the component types of indices.
 pub const VALID_INDEX_TYPES: &[u32] = &[UNSIGNED_BYTE, UNSIGNED_SHORT, UNSIGNED_INT];
 
-/// The names of the types.
+/// The names of the accessor types.
 pub const VALID_ACCESSOR_TYPES: &[&str] = &[
     "SCALAR", "VEC2", "VEC3", "VEC4", "MAT2", "MAT3", "MAT4",
 ];
 
-/// The type of one component of an element (glTF 2.0, section 5.1.3).
+/// The data type of a component (glTF 2.0, section 5.1.3).
 #[derive(Clone, Copy, Debug, PartialEq, Eq)]
 pub enum ComponentType {
     /// A signed integer of 8 bits.
@@ -65,7 +65,7 @@ pub enum ComponentType {
 }
 
 impl ComponentType {
-    /// How many bytes one component takes.
+    /// Returns the size of a component in bytes.
     pub fn size(&self) -> usize
         ensures { result ≡ component_size self.now }
     {
@@ -76,7 +76,7 @@ impl ComponentType {
         }
     }
 
-    /// The number by which a document spells the type.
+    /// Returns the number that stands for the type in a document.
     pub fn as_gl_enum(self) -> u32
         ensures { by_number result ≡ component_type_spelling self }
     {
@@ -164,7 +164,7 @@ impl Display for GenericComponentType {
 }
 
 impl GenericComponentType {
-    /// The component type that a number spells; `Invalid` where it spells none.
+    /// Returns the component type with this number, or `Invalid` if there is none.
     pub fn from_gl_enum(number: u64) -> Checked<GenericComponentType>
         ensures { result ≡ item_spelled generic_component_type_spelling generic_component_types
             (by_number number) }
@@ -172,7 +172,7 @@ impl GenericComponentType {
         item_of::<GenericComponentType>(Spelling::Number(number))
     }
 
-    /// The number by which a document spells the type.
+    /// Returns the number that stands for the type in a document.
     pub fn as_gl_enum(self) -> u32
         ensures { by_number result ≡ generic_component_type_spelling self }
     {
@@ -180,7 +180,7 @@ impl GenericComponentType {
     }
 }
 
-/// A component type of indexes. It may hold any of the six; three of them are read.
+/// A component type of indices. It may hold any of the six; three of them are read.
 #[derive(Clone, Copy, Debug)]
 pub struct IndexComponentType(pub ComponentType);
 
@@ -225,7 +225,7 @@ impl Display for IndexComponentType {
 }
 
 impl IndexComponentType {
-    /// The component type of indexes that a number spells; `Invalid` where it spells none.
+    /// Returns the component type of indices with this number, or `Invalid` if there is none.
     pub fn from_gl_enum(number: u64) -> Checked<IndexComponentType>
         ensures { result ≡ item_spelled index_component_type_spelling index_component_types
             (by_number number) }
@@ -233,7 +233,7 @@ impl IndexComponentType {
         item_of::<IndexComponentType>(Spelling::Number(number))
     }
 
-    /// The number by which a document spells the type, also of one that isn't read.
+    /// Returns the number that stands for the type in a document, also of one that isn't read.
     pub fn as_gl_enum(self) -> u32
         ensures { by_number result ≡ index_component_type_spelling self }
     {
@@ -241,22 +241,22 @@ impl IndexComponentType {
     }
 }
 
-/// How many components an element has, and how they lie (glTF 2.0, section 5.1.6).
+/// Whether elements are scalars, vectors or matrices (glTF 2.0, section 5.1.6).
 #[derive(Clone, Copy, Debug, PartialEq, Eq)]
 pub enum AccessorType {
-    /// One component.
+    /// A scalar.
     Scalar = 1,
-    /// Two components.
+    /// A vector of 2 components.
     Vec2,
-    /// Three components.
+    /// A vector of 3 components.
     Vec3,
-    /// Four components.
+    /// A vector of 4 components.
     Vec4,
-    /// Four components, by columns of two.
+    /// A 2x2 matrix, in column-major order.
     Mat2,
-    /// Nine components, by columns of three.
+    /// A 3x3 matrix, in column-major order.
     Mat3,
-    /// Sixteen components, by columns of four.
+    /// A 4x4 matrix, in column-major order.
     Mat4,
 }
 
@@ -305,7 +305,7 @@ impl Display for AccessorType {
 }
 
 impl AccessorType {
-    /// How many components an element has.
+    /// Returns the number of components of an element.
     pub fn multiplicity(&self) -> usize
         ensures { result ≡ component_count self.now }
     {
@@ -319,14 +319,14 @@ impl AccessorType {
         }
     }
 
-    /// The type that a name spells; `Invalid` where it spells none.
+    /// Returns the type with this name, or `Invalid` if there is none.
     pub fn from_name(name: &str) -> Checked<AccessorType>
         ensures { result ≡ item_spelled accessor_type_spelling accessor_types (by_name name.now) }
     {
         item_of::<AccessorType>(Spelling::Name(name))
     }
 
-    /// The name by which a document spells the type.
+    /// Returns the name that stands for the type in a document.
     pub fn name(self) -> &'static str
         ensures { by_name result.now ≡ accessor_type_spelling self }
     {

@@ -14,14 +14,14 @@ pub const VALID_INTERPOLATIONS: &[&str] = &["LINEAR", "STEP", "CUBICSPLINE"];
 /// The names of the properties.
 pub const VALID_PROPERTIES: &[&str] = &["translation", "rotation", "scale", "weights"];
 
-/// How values between two keyframes are found (glTF 2.0, section 5.8.2).
+/// How to interpolate between keyframes (glTF 2.0, section 5.8.2).
 #[derive(Clone, Copy, Debug, PartialEq, Eq)]
 pub enum Interpolation {
-    /// Along the straight line between them.
+    /// Linear interpolation.
     Linear = 1,
-    /// The value of the earlier one.
+    /// The value of the previous keyframe.
     Step,
-    /// Along a cubic spline with given tangents.
+    /// A cubic spline with specified tangents.
     CubicSpline,
 }
 
@@ -76,14 +76,14 @@ impl Display for Interpolation {
 }
 
 impl Interpolation {
-    /// The interpolation that a name spells; `Invalid` where it spells none.
+    /// Returns the interpolation with this name, or `Invalid` if there is none.
     pub fn from_name(name: &str) -> Checked<Interpolation>
         ensures { result ≡ item_spelled interpolation_spelling interpolations (by_name name.now) }
     {
         item_of::<Interpolation>(Spelling::Name(name))
     }
 
-    /// The name by which a document spells the interpolation.
+    /// Returns the name that stands for the interpolation in a document.
     pub fn name(self) -> &'static str
         ensures { by_name result.now ≡ interpolation_spelling self }
     {
@@ -95,16 +95,16 @@ impl Interpolation {
     }
 }
 
-/// The property of a node that an animation moves (glTF 2.0, section 5.7.2).
+/// The property of a node that a channel animates (glTF 2.0, section 5.7.2).
 #[derive(Clone, Copy, Debug, PartialEq, Eq)]
 pub enum Property {
-    /// The place of the node.
+    /// Translation.
     Translation = 1,
-    /// How it is turned.
+    /// Rotation, as a quaternion.
     Rotation,
-    /// How large it is.
+    /// Scale.
     Scale,
-    /// The weights of its morph targets.
+    /// Weights of morph targets.
     MorphTargetWeights,
 }
 
@@ -150,14 +150,14 @@ impl Display for Property {
 }
 
 impl Property {
-    /// The property that a name spells; `Invalid` where it spells none.
+    /// Returns the property with this name, or `Invalid` if there is none.
     pub fn from_name(name: &str) -> Checked<Property>
         ensures { result ≡ item_spelled property_spelling properties (by_name name.now) }
     {
         item_of::<Property>(Spelling::Name(name))
     }
 
-    /// The name by which a document spells the property.
+    /// Returns the name that stands for the property in a document.
     pub fn name(self) -> &'static str
         ensures { by_name result.now ≡ property_spelling self }
     {

@@ -15,21 +15,21 @@ pub const ARRAY_BUFFER: u32 = 34962;
 /// `GL_ELEMENT_ARRAY_BUFFER`.
 pub const ELEMENT_ARRAY_BUFFER: u32 = 34963;
 
-/// The numbers of the targets.
+/// The numbers of the buffer targets.
 pub const VALID_TARGETS: &[u32] = &[ARRAY_BUFFER, ELEMENT_ARRAY_BUFFER];
 
-/// The least stride of a view, in bytes.
+/// The minimum stride of a buffer view, in bytes.
 pub const MIN_BYTE_STRIDE: usize = 4;
 
-/// The greatest stride of a view, in bytes.
+/// The maximum stride of a buffer view, in bytes.
 pub const MAX_BYTE_STRIDE: usize = 252;
 
-/// What a view's data is bound to (glTF 2.0, section 5.11.5).
+/// The intended GPU buffer type of a buffer view (glTF 2.0, section 5.11.5).
 #[derive(Clone, Copy, Debug, PartialEq, Eq)]
 pub enum Target {
-    /// The attributes of vertices.
+    /// Vertex attributes.
     ArrayBuffer = 1,
-    /// The indexes of vertices.
+    /// Vertex indices.
     ElementArrayBuffer,
 }
 
@@ -70,14 +70,14 @@ impl Display for Target {
 }
 
 impl Target {
-    /// The target that a number spells; `Invalid` where it spells none.
+    /// Returns the target with this number, or `Invalid` if there is none.
     pub fn from_gl_enum(number: u64) -> Checked<Target>
         ensures { result ≡ item_spelled target_spelling targets (by_number number) }
     {
         item_of::<Target>(Spelling::Number(number))
     }
 
-    /// The number by which a document spells the target.
+    /// Returns the number that stands for the target in a document.
     pub fn as_gl_enum(self) -> u32
         ensures { by_number result ≡ target_spelling self }
     {

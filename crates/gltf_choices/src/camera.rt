@@ -9,15 +9,15 @@ use gltf_checked::choice::{Choice, Form, Spelling, item_of};
 use gltf_checked::validation::Checked;
 use std::fmt::{self, Display, Formatter, Write};
 
-/// The names of the types.
+/// The names of the camera types.
 pub const VALID_CAMERA_TYPES: &[&str] = &["perspective", "orthographic"];
 
-/// How a camera projects (glTF 2.0, section 5.12.3).
+/// The type of a camera's projection (glTF 2.0, section 5.12.3).
 #[derive(Clone, Copy, Debug, PartialEq, Eq)]
 pub enum CameraType {
-    /// With perspective.
+    /// A perspective projection.
     Perspective = 1,
-    /// Without perspective.
+    /// An orthographic projection.
     Orthographic,
 }
 
@@ -58,14 +58,14 @@ impl Display for CameraType {
 }
 
 impl CameraType {
-    /// The type that a name spells; `Invalid` where it spells none.
+    /// Returns the type with this name, or `Invalid` if there is none.
     pub fn from_name(name: &str) -> Checked<CameraType>
         ensures { result ≡ item_spelled camera_type_spelling camera_types (by_name name.now) }
     {
         item_of::<CameraType>(Spelling::Name(name))
     }
 
-    /// The name by which a document spells the type.
+    /// Returns the name that stands for the type in a document.
     pub fn name(self) -> &'static str
         ensures { by_name result.now ≡ camera_type_spelling self }
     {

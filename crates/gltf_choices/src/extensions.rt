@@ -5,9 +5,9 @@ ghost use Rattle.gltf_choices.specs.ExtensionNames.{enabled_extensions};
 
 pub mod scene;
 
-/// The names of the extensions that a document may require without a report, where a caller gives
-/// validation no rules. Reading doesn't go by it: an object of an extension that is not listed,
-/// such as `KHR_materials_volume`, is read as well. The list is the ported crate's.
+/// The names of the extensions that the standard rules enable: a document may require them without
+/// a report. Reading doesn't depend on it: an extension that isn't listed, such as
+/// `KHR_materials_volume`, is read too. The list is the ported crate's.
 pub const ENABLED_EXTENSIONS: &[&str] = &[
     "KHR_lights_punctual",
     "KHR_materials_pbrSpecularGlossiness",
@@ -18,8 +18,8 @@ pub const ENABLED_EXTENSIONS: &[&str] = &[
     "KHR_materials_emissive_strength",
 ];
 
-/// The extensions that the features of the ported crate can enable. They are the same names, since
-/// this library has no feature that leaves any out; nothing in it goes by this list.
+/// The extensions that the features of the ported crate can enable. They are the same names,
+/// because no feature of this library leaves any out. Nothing uses this list.
 pub const SUPPORTED_EXTENSIONS: &[&str] = ENABLED_EXTENSIONS;
 
 /// The constants of this module are the names in their order.

@@ -29,7 +29,7 @@ use crate::mesh::Mode;
 use crate::texture::{MagFilter, MinFilter, WrappingMode};
 use std::hash::Hash;
 
-/// Items of a choice are equal where they are spelled alike.
+/// Items of a choice are equal if they are spelled alike.
 pub fn items_are_equal_by_spelling()
     ensures component_type { (a b : AComponentType) → ⟦<ComponentType as PartialEq>⟧.eq a b
         ≡ is_spelled (component_type_spelling a) (component_type_spelling b) }
@@ -57,7 +57,7 @@ pub fn items_are_equal_by_spelling()
         ≡ is_spelled (wrapping_mode_spelling a) (wrapping_mode_spelling b) }
 {}
 
-/// Light types are equal exactly where they hash alike.
+/// Light types are equal if and only if they hash alike.
 pub fn equal_light_types_hash_alike()
     ensures { (a b : ALightType)
         → (⟦<LightType as PartialEq>⟧.eq a b ≡ true)

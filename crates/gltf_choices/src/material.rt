@@ -11,14 +11,14 @@ use std::fmt::{self, Display, Formatter, Write};
 /// The names of the modes.
 pub const VALID_ALPHA_MODES: &[&str] = &["OPAQUE", "MASK", "BLEND"];
 
-/// How the alpha of a base color is used (glTF 2.0, section 5.19.9).
+/// An alpha rendering mode (glTF 2.0, section 5.19.9).
 #[derive(Clone, Copy, Debug, PartialEq, Eq)]
 pub enum AlphaMode {
-    /// Not at all.
+    /// The alpha is ignored.
     Opaque = 1,
-    /// As a cutoff: what is below it is not shown.
+    /// Opaque or fully transparent, by the alpha cutoff.
     Mask,
-    /// To blend with what lies behind.
+    /// Blended with the background.
     Blend,
 }
 
@@ -69,14 +69,14 @@ impl Display for AlphaMode {
 }
 
 impl AlphaMode {
-    /// The mode that a name spells; `Invalid` where it spells none.
+    /// Returns the mode with this name, or `Invalid` if there is none.
     pub fn from_name(name: &str) -> Checked<AlphaMode>
         ensures { result ≡ item_spelled alpha_mode_spelling alpha_modes (by_name name.now) }
     {
         item_of::<AlphaMode>(Spelling::Name(name))
     }
 
-    /// The name by which a document spells the mode.
+    /// Returns the name that stands for the mode in a document.
     pub fn name(self) -> &'static str
         ensures { by_name result.now ≡ alpha_mode_spelling self }
     {

@@ -41,25 +41,25 @@ pub const VALID_MODES: &[u32] = &[
     TRIANGLE_FAN,
 ];
 
-/// The attributes that a morph target may move (glTF 2.0, section 3.7.2.2).
+/// The attributes that a morph target may displace (glTF 2.0, section 3.7.2.2).
 pub const VALID_MORPH_TARGETS: &[&str] = &["POSITION", "NORMAL", "TANGENT"];
 
-/// What the vertices of a primitive are joined to (glTF 2.0, section 5.24.4).
+/// The topology type of a primitive (glTF 2.0, section 5.24.4).
 #[derive(Clone, Copy, Debug, PartialEq, Eq)]
 pub enum Mode {
     /// Points.
     Points = 1,
-    /// Lines of two vertices each.
+    /// Separate lines of two vertices.
     Lines,
-    /// One line that comes back to its beginning.
+    /// A line strip that is closed at its end.
     LineLoop,
-    /// One line.
+    /// A line strip.
     LineStrip,
-    /// Triangles of three vertices each.
+    /// Separate triangles of three vertices.
     Triangles,
-    /// Triangles, each on an edge of the one before.
+    /// A triangle strip.
     TriangleStrip,
-    /// Triangles round the first vertex.
+    /// A triangle fan around the first vertex.
     TriangleFan,
 }
 
@@ -118,14 +118,14 @@ impl Display for Mode {
 }
 
 impl Mode {
-    /// The mode that a number spells; `Invalid` where it spells none.
+    /// Returns the mode with this number, or `Invalid` if there is none.
     pub fn from_gl_enum(number: u64) -> Checked<Mode>
         ensures { result ≡ item_spelled mode_spelling modes (by_number number) }
     {
         item_of::<Mode>(Spelling::Number(number))
     }
 
-    /// The number by which a document spells the mode.
+    /// Returns the number that stands for the mode in a document.
     pub fn as_gl_enum(self) -> u32
         ensures { by_number result ≡ mode_spelling self }
     {

@@ -52,12 +52,12 @@ pub const VALID_MIN_FILTERS: &[u32] = &[
 /// The numbers of the wrapping modes.
 pub const VALID_WRAPPING_MODES: &[u32] = &[CLAMP_TO_EDGE, MIRRORED_REPEAT, REPEAT];
 
-/// How a texture is shown larger than it is (glTF 2.0, section 5.26.1).
+/// A magnification filter (glTF 2.0, section 5.26.1).
 #[derive(Clone, Copy, Debug, PartialEq, Eq)]
 pub enum MagFilter {
-    /// By the nearest texel.
+    /// The nearest texel.
     Nearest = 1,
-    /// By a blend of the texels round the place.
+    /// Linear interpolation of texels.
     Linear,
 }
 
@@ -98,14 +98,14 @@ impl Display for MagFilter {
 }
 
 impl MagFilter {
-    /// The filter that a number spells; `Invalid` where it spells none.
+    /// Returns the filter with this number, or `Invalid` if there is none.
     pub fn from_gl_enum(number: u64) -> Checked<MagFilter>
         ensures { result ≡ item_spelled mag_filter_spelling mag_filters (by_number number) }
     {
         item_of::<MagFilter>(Spelling::Number(number))
     }
 
-    /// The number by which a document spells the filter.
+    /// Returns the number that stands for the filter in a document.
     pub fn as_gl_enum(&self) -> u32
         ensures { by_number result ≡ mag_filter_spelling self.now }
     {
@@ -126,20 +126,20 @@ impl MagFilter {
     }
 }
 
-/// How a texture is shown smaller than it is (glTF 2.0, section 5.26.2).
+/// A minification filter (glTF 2.0, section 5.26.2).
 #[derive(Clone, Copy, Debug, PartialEq, Eq)]
 pub enum MinFilter {
-    /// By the nearest texel.
+    /// The nearest texel.
     Nearest = 1,
-    /// By a blend of the texels round the place.
+    /// Linear interpolation of texels.
     Linear,
-    /// By the nearest texel of the nearest mipmap.
+    /// The nearest texel of the nearest mipmap.
     NearestMipmapNearest,
-    /// By a blend of texels of the nearest mipmap.
+    /// Linear interpolation of texels in the nearest mipmap.
     LinearMipmapNearest,
-    /// By the nearest texels of two mipmaps, blended.
+    /// Linear interpolation between the nearest texels of two mipmaps.
     NearestMipmapLinear,
-    /// By blends of texels of two mipmaps, blended.
+    /// Linear interpolation of texels in two mipmaps, and between the two.
     LinearMipmapLinear,
 }
 
@@ -187,14 +187,14 @@ impl Display for MinFilter {
 }
 
 impl MinFilter {
-    /// The filter that a number spells; `Invalid` where it spells none.
+    /// Returns the filter with this number, or `Invalid` if there is none.
     pub fn from_gl_enum(number: u64) -> Checked<MinFilter>
         ensures { result ≡ item_spelled min_filter_spelling min_filters (by_number number) }
     {
         item_of::<MinFilter>(Spelling::Number(number))
     }
 
-    /// The number by which a document spells the filter.
+    /// Returns the number that stands for the filter in a document.
     pub fn as_gl_enum(&self) -> u32
         ensures { by_number result ≡ min_filter_spelling self.now }
     {
@@ -223,14 +223,14 @@ impl MinFilter {
     }
 }
 
-/// What lies past the edges of a texture (glTF 2.0, sections 5.26.3 and 5.26.4).
+/// A wrapping mode of texture coordinates (glTF 2.0, sections 5.26.3 and 5.26.4).
 #[derive(Clone, Copy, Debug, PartialEq, Eq)]
 pub enum WrappingMode {
-    /// The texels at the edge.
+    /// Coordinates are clamped to the edge.
     ClampToEdge = 1,
-    /// The texture again, mirrored each time.
+    /// The texture repeats, mirrored each time.
     MirroredRepeat,
-    /// The texture again.
+    /// The texture repeats.
     Repeat,
 }
 
@@ -285,14 +285,14 @@ impl Display for WrappingMode {
 }
 
 impl WrappingMode {
-    /// The mode that a number spells; `Invalid` where it spells none.
+    /// Returns the mode with this number, or `Invalid` if there is none.
     pub fn from_gl_enum(number: u64) -> Checked<WrappingMode>
         ensures { result ≡ item_spelled wrapping_mode_spelling wrapping_modes (by_number number) }
     {
         item_of::<WrappingMode>(Spelling::Number(number))
     }
 
-    /// The number by which a document spells the mode.
+    /// Returns the number that stands for the mode in a document.
     pub fn as_gl_enum(&self) -> u32
         ensures { by_number result ≡ wrapping_mode_spelling self.now }
     {

@@ -23,8 +23,8 @@ pub data Change : Type 0 where
   set_extensions_used : Change
   set_extensions_required : Change
 
--- a call makes a new document of an old one by rules, and its success says that it may: the item that is pushed has no report at
--- its place, the scene is listed, and an item in the place of another and names that are required leave no report
+-- a call makes a new document of an old one by rules, and its success says that it may. A pushed item has no report at its
+-- place, and the scene is listed. A replaced item and required names leave no report
 abbrev pub IsChanged : Rules → Change → Root → Root → Type 0
 IsChanged rules (push named x) old new = (item_reports rules named x (root_tree old) ≡ []) × (root_tree new ≡ pushed named x (root_tree old))
 IsChanged rules (replace named n x) old new = IsClean rules (replaced named n x (root_tree old)) × (root_tree new ≡ replaced named n x (root_tree old))

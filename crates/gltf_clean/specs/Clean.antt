@@ -31,8 +31,8 @@ IsFull named root = 2 ^ 32 - 1 ≤ count_in named root
 abbrev pub HasRoom : ListName → Tree → Type 0
 HasRoom named root = count_in named root < 2 ^ 32 - 1
 
--- what became of a push of an item, which a tree stands for, onto a list of a document: the item stands at the list's end,
--- where it has no report; or the document stays, and the item is handed back
+-- what became of a push of an item, which a tree stands for, onto a list of a document. The item is at the list's end, where
+-- it has no report; or the document stays, and the item is handed back
 abbrev pub IsPushed : {P X : Type 0} → Rules → ListName → X → Tree → Tree → Result (IndexTo P) (CleanError X) → Tree → Type 0
 IsPushed rules named item x old (Ok index) new =
     HasRoom named old × (item_reports rules named x old ≡ []) × (index_number index ≡ count_in named old) × (new ≡ pushed named x old)

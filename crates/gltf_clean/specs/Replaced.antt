@@ -16,7 +16,7 @@ use Rattle.gltf_clean.specs.declared.refused.Refused.TheVariants.{Full, Memory, 
 abbrev pub replaced : ListName → ℕ → Tree → Tree → Tree
 replaced named n x root = with_list named (put_at n x (list_in named root)) root
 
--- what became of an item, which a tree stands for, that was to replace another by rules: it is in that one's place, and the
+-- what became of an item, which a tree stands for, that was to replace another by rules. It is in that one's place, and the
 -- document has no report; or the document stays, and the item is handed back
 abbrev pub IsReplaced : {X : Type 0} → Rules → ListName → ℕ → X → Tree → Tree → Result X (Refused X) → Tree → Type 0
 IsReplaced rules named n item x old (Ok was) new =

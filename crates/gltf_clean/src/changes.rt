@@ -15,16 +15,15 @@ ghost use Rattle.gltf_clean.specs.Replaced.{IsReplaced};
 ghost use Rattle.gltf_clean.specs.Set.{IsRequired};
 
 /// A document without reports stays one under any list of pushes, replacements and setters that
-/// succeed. It is so by any rules, which stay the same from call to call.
+/// succeed. This holds by any rules, which stay the same from call to call.
 pub fn changes_leave_no_reports()
     ensures { (rules : Allowed) (changes : List Change) (old new : Document)
         → AreChanged rules changes old new → IsClean rules (root_tree old)
         → IsClean rules (root_tree new) }
 {}
 
-/// What a call of `Clean` promises of its success makes it one of these changes: a push, a
-/// replacement, and names of extensions that are required. The setters promise their changes as
-/// they stand.
+/// Each call of `Clean` that succeeds is one of these changes: a push, a replacement, or names of
+/// required extensions. The setters promise their changes as they are.
 pub fn calls_that_succeed_are_changes<P, T>()
     ensures pushed { (rules : Allowed) (named : ListName) (item : T) (x : Tree)
         (index : AnIndex P) (old new : Document)

@@ -7,7 +7,7 @@ ghost use Rattle.gltf_clean.specs.Clean.{IsClean, IsClean-prop};
 use gltf_faults::Rules;
 use gltf_root::root::Root;
 
-/// A root that has no report under its rules.
+/// A root that has no report by its rules.
 // Its calls are in push.rt: their contracts name this type, and a file with a ghost field must not
 // import a file that imports it.
 #[derive(Drop)]

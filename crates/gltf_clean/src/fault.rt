@@ -38,8 +38,7 @@ impl Sink for FirstFault {
     }
 }
 
-/// The error of the first report of a value in `root`, seen from the value itself; `None` if it has
-/// none.
+/// Returns the fault of the first report of a value in `root`, or `None` if it has none.
 pub(crate) fn first_fault<V: Validate>(value: &V, rules: &Rules<'_>, root: &Root) -> Option<Error>
     requires { V.depth ≤ 10 }
     ensures { result ≡ first_error (reports_by V.kind (V.tree value.now) (V.own value.now)
@@ -53,8 +52,7 @@ pub(crate) fn first_fault<V: Validate>(value: &V, rules: &Rules<'_>, root: &Root
     }
 }
 
-/// The error of the first report of the last item of a list, from whichever place; `None` if it has
-/// none.
+/// Returns the fault of the first report of the last item of a list, or `None` if it has none.
 pub(crate) fn fault_of_last<T: Item>(rules: &Rules<'_>, root: &Root) -> Option<Error>
     ensures { (before : List T) (item : T) (base : List Step)
         → T.items root.now ≡ before ++ item ∷ []

@@ -19,8 +19,8 @@ use gltf_root::root::Root;
 use std::alloc::{AllocError, Global};
 
 impl<'a> Clean<'a> {
-    /// A document of version `2.0` that holds nothing, by the standard rules: `Root::new`, which
-    /// has no report. `Err` only if memory was refused for that text.
+    /// Returns an empty document of version `2.0`, by the standard rules. Fails only if out of
+    /// memory.
     pub fn new(alloc: Global) -> Result<Clean<'a>, AllocError>
         ensures rules { IfOk result (λ clean. rules_held clean ≡ standard_rules) }
         ensures root { IfOk result (λ clean. root_members (root_held clean)
@@ -29,8 +29,8 @@ impl<'a> Clean<'a> {
         Clean::with_rules(alloc, Rules::new())
     }
 
-    /// A document of version `2.0` that holds nothing, by the caller's rules. It has no report by
-    /// any rules. `Err` only if memory was refused for that text.
+    /// Returns an empty document of version `2.0`, by the caller's rules. It has no report by any
+    /// rules. Fails only if out of memory.
     pub fn with_rules(alloc: Global, rules: Rules<'a>) -> Result<Clean<'a>, AllocError>
         ensures rules { IfOk result (λ clean. rules_held clean ≡ rules_of rules.entry) }
         ensures root { IfOk result (λ clean. root_members (root_held clean)
@@ -40,9 +40,9 @@ impl<'a> Clean<'a> {
         Ok(Clean { rules, root })
     }
 
-    /// Holds the root with its rules if it has no report under them, as [`Clean::of`] does. If not,
-    /// it fails with `Faulty`, which has the root and its first report. It fails with `Memory` if
-    /// the root has a report, and memory was refused for its path.
+    /// Returns a `Clean` of the root if it has no report by the rules, as [`Clean::of`] does. If
+    /// not, it fails with `Faulty`, which has the root and its first report. It fails with `Memory`
+    /// instead if out of memory for the path.
     pub fn of_or_report(rules: Rules<'a>, root: Root) -> Result<Clean<'a>, Refused<Root>>
         ensures { IsHeldOrReported (rules_of rules.entry) root result }
     {
@@ -53,14 +53,15 @@ impl<'a> Clean<'a> {
         }
     }
 
-    /// The rules under which the root has no report. It takes no memory.
+    /// Returns the rules by which the root has no report. It takes no memory.
     pub fn rules(&self) -> Rules<'a>
         ensures { rules_of result ≡ rules_held self.now }
     {
         self.rules
     }
 
-    /// The item that an index names; `None` exactly past the end of its list. It takes no memory.
+    /// Returns the item that an index names, or `None` if and only if its list is too short. It
+    /// takes no memory.
     pub fn get<T: Item>(&self, index: Index<T>) -> Option<&T>
         ensures { option_copied result
             ≡ slice_get (T.items (root_held self.now)) (index_number index) }

@@ -19,7 +19,7 @@ use gltf_root::root::{RootItem, TopLevel};
 use gltf_textures::texture::{Sampler, Texture};
 use gltf_validation::validation::TableObject;
 
-/// What a root lists: each type that `RootItem` is for.
+/// A type that a root lists: each one that implements `RootItem`.
 pub trait Item: TableObject + RootItem {
     // The table has the type by the kind of the items of its list.
     ghost kinded: { Self.kind ≡ item_kind Self.list };
@@ -28,7 +28,8 @@ pub trait Item: TableObject + RootItem {
     ghost seen: { (item : Self) → Self.Visitable.tree item ≡ Self.RootItem.tree item };
 }
 
-/// What a list of the document itself holds: `Item` follows (docs/DECISIONS.md).
+/// A type whose list is a member of the document itself, for which `Item` is implemented
+/// (docs/DECISIONS.md, "Clean roots").
 pub trait TopLevelItem: TableObject + TopLevel {}
 
 impl<T: TopLevelItem> Item for T {

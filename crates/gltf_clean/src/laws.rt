@@ -10,8 +10,8 @@ ghost use Rattle.gltf_root.specs.Written.{IsCompactOf, IsPrettyOf};
 ghost use Rattle.gltf_root.specs.declared.root.Root.{Root as Document};
 ghost use Rattle.gltf_schema.specs.Plain.{is_plain};
 
-/// The root of a `Clean` that is written, read and handed to `Clean::of` with its rules is held
-/// again, and is the same document, if it is plain and isn't nested deeper than 127 levels.
+/// A plain root of a `Clean` that is written, read and handed to `Clean::of` with its rules is held
+/// again. It is the same document, if it isn't nested deeper than 127 levels.
 ///
 /// A root that was read is plain. One that was built is plain, unless it has one of these:
 /// - a null: `extras`, `min` and `max` of an accessor, or `extensions` of a light;

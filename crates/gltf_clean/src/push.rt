@@ -22,7 +22,7 @@ use std::fmt::{self, Debug, Display, Formatter, Write};
 pub enum CleanError<T> {
     /// The list has 4294967295 items or more.
     Full(T),
-    /// There was no memory for one more item.
+    /// Out of memory.
     Memory(T),
     /// The item has a report in the list: its first fault.
     Faulty(T, Error),
@@ -45,8 +45,8 @@ impl<T> Display for CleanError<T> {
 impl<T: Debug + Drop> std::error::Error for CleanError<T> {}
 
 impl<'a> Clean<'a> {
-    /// Holds the root with its rules if it has no report under them; if not, hands it back. It
-    /// takes no memory.
+    /// Returns a `Clean` of the root if it has no report by the rules. If not, it hands the root
+    /// back. It takes no memory.
     pub fn of(rules: Rules<'a>, root: Root) -> Result<Clean<'a>, Root>
         ensures { IsHeld (rules_of rules.entry) root result }
     {
@@ -56,7 +56,7 @@ impl<'a> Clean<'a> {
         }
     }
 
-    /// The root that is held. It takes no memory.
+    /// Returns the root. It takes no memory.
     pub fn root(&self) -> &Root
         ensures held { result.now ≡ root_held self.now }
         ensures clean { IsClean (rules_held self.now) (root_tree result.now) }
@@ -64,7 +64,7 @@ impl<'a> Clean<'a> {
         &self.root
     }
 
-    /// The root that was held. It takes no memory.
+    /// Returns the root without its rules. It takes no memory.
     pub fn into_root(self) -> Root
         ensures held { result ≡ root_held self.entry }
         ensures clean { IsClean (rules_held self.entry) (root_tree result) }

@@ -10,11 +10,11 @@ use std::fmt::{self, Debug, Display, Formatter, Write};
 pub enum Refused<T> {
     /// The list has 4294967295 items or more.
     Full(T),
-    /// There was no memory, for one more item or for the path of a report.
+    /// Out of memory, for one more item or for the path of a report.
     Memory(T),
     /// The index names no item.
     NoItem(T),
-    /// With the value the document would have a report: the first one.
+    /// The document would have a report with the value: the first one.
     Faulty(T, Report),
 }
 

@@ -19,12 +19,12 @@ use std::alloc::AllocError;
 use std::mem;
 
 impl<'a> Clean<'a> {
-    /// Puts an item in the place of the one that an index names, and returns that one, if the
-    /// document has no report then. The item may name any item of the document and itself.
+    /// Replaces the item that an index names, and returns the old one, if the document has no
+    /// report then. The item may name any item of the document and itself.
     ///
     /// Fails with `NoItem` if the index names no item. Fails with `Faulty` if the document would
     /// have a report, which may be at another item: at a mesh whose positions would have no bounds,
-    /// for example. Fails with `Memory` in place of that if memory was refused for the path of the
+    /// for example. Fails with `Memory` in place of that if out of memory for the path of the
     /// report. Each refusal hands the item back, and leaves the root as it was.
     ///
     /// It validates the whole document, so it takes as long as [`Clean::of`].

@@ -15,19 +15,19 @@ use gltf_walk::Walk;
 use std::alloc::AllocError;
 use std::fmt::{self, Display, Formatter, Write};
 
-/// A report of a document: a place, and what is wrong there.
+/// A report: a fault, and the path to its place.
 #[derive(Clone, Debug, Drop, PartialEq)]
 pub struct Report {
     /// The path from the document to the place.
     pub path: Path,
-    /// What is wrong there.
+    /// The fault.
     pub error: Error,
 }
 
 impl Display for Report {
     ghost output = { λ report. Some (report_text report) };
 
-    /// Writes the path and the error, with a colon between them.
+    /// Writes the path and the fault, with a colon between them.
     fn fmt<W: Write>(&self, f: &mut Formatter<W>) -> fmt::Result {
         write!(f, "{}: {}", self.path, self.error)
     }
@@ -36,7 +36,7 @@ impl Display for Report {
 impl std::error::Error for Report {}
 
 /// The first report of a root against itself; `None` if it has none. Fails only if it has one, and
-/// memory was refused for its path.
+/// it is out of memory for its path.
 pub(crate) fn first_report(rules: &Rules<'_>, root: &Root) -> Result<Option<Report>, AllocError>
     ensures found { IfOk result (λ found. option_map report_shown found
         ≡ first_report (document_reports (rules_of rules.now) (root_tree root.now))) }

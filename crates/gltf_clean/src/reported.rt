@@ -23,8 +23,8 @@ impl<'a> Clean<'a> {
     /// Appends an item to its list if it has no report there, as [`Clean::push`] does. A faulty
     /// item comes back with its first report, whose path begins at the document.
     ///
-    /// `Memory` comes in place of `Faulty` if memory was refused for the path. Either takes as long
-    /// as validating the whole document; a push that succeeds takes no longer than `Clean::push`.
+    /// `Memory` comes in place of `Faulty` if out of memory for the path. Either takes as long as
+    /// validating the whole document; a push that succeeds takes no longer than `Clean::push`.
     pub fn push_or_report<T: Item>(&mut self, item: T) -> Result<Index<T>, Refused<T>>
         ensures rules { rules_held self.new ≡ rules_held self.old }
         ensures pushed { IsPushedOrReported (rules_held self.old) T.list item

@@ -20,8 +20,8 @@ use std::alloc::{AllocError, AllocFailed};
 use std::mem;
 
 impl<'a> Clean<'a> {
-    /// Sets the scene that is shown first. It fails with `IndexOutOfBounds` if the index names no
-    /// scene, and then leaves the root as it was. It takes no memory.
+    /// Sets the default scene. It fails with `IndexOutOfBounds` if the index names no scene, and
+    /// then leaves the root as it was. It takes no memory.
     pub fn set_scene(&mut self, scene: Option<Index<Scene>>) -> Result<(), Error>
         ensures rules { rules_held self.new ≡ rules_held self.old }
         ensures set { IfOk result (λ _. IsShown scene (root_held self.old)
@@ -36,7 +36,7 @@ impl<'a> Clean<'a> {
         Ok(())
     }
 
-    /// Sets what the document says of itself. Nothing in it can be wrong. It takes no memory.
+    /// Sets the metadata about the document. Nothing in it can be wrong. It takes no memory.
     pub fn set_asset(&mut self, asset: Asset)
         ensures rules { rules_held self.new ≡ rules_held self.old }
         ensures set { root_held self.new ≡ record (root_held self.old) { asset = asset } }
@@ -61,8 +61,8 @@ impl<'a> Clean<'a> {
         self.root.extensions_used = names;
     }
 
-    /// Appends the name of an extension that the document uses. It fails only if memory was
-    /// refused, hands the name back then and leaves the names as they were.
+    /// Appends the name of an extension that the document uses. It fails only if out of memory,
+    /// hands the name back then and leaves the names as they were.
     pub fn push_extension_used(&mut self, name: String) -> Result<(), AllocFailed<String>>
         ensures rules { rules_held self.new ≡ rules_held self.old }
         ensures names { (root_held self.new).extensions_used.items
@@ -75,11 +75,11 @@ impl<'a> Clean<'a> {
         self.root.extensions_used.push(name)
     }
 
-    /// Sets the names of the extensions that a reader has to know, if the rules enable each.
+    /// Sets the names of the extensions that a reader has to support, if the rules enable each.
     ///
     /// It fails with `Faulty` if they don't enable one: the report is that of the first such name.
-    /// It fails with `Memory` in place of that if memory was refused for the path of the report.
-    /// Each refusal hands the names back, and leaves the root as it was.
+    /// It fails with `Memory` in place of that if out of memory for the path of the report. Each
+    /// refusal hands the names back, and leaves the root as it was.
     ///
     /// It validates the whole document, so it takes as long as [`Clean::of`].
     pub fn set_extensions_required(

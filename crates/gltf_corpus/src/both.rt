@@ -130,7 +130,7 @@ pub fn writing_difference(
     }
 }
 
-/// Whether there is a place that the table refuses exactly if the text is JSON and no document.
+/// Whether there is a place that the table refuses if and only if the text is JSON and no document.
 fn is_place_found(alloc: Global, text: &[u8], read: &Result<Root, Error>) -> bool {
     match (Root::refused_at(alloc, text), read) {
         (Ok(None), Ok(_)) => true,

@@ -1,8 +1,8 @@
 //! Prints for each document of `data/documents.jsonl`, below its title: the exit status and the
 //! output of a run over it, and what it is written as. `stdout` has what must be printed
-//! (docs/DECISIONS.md says from where). Then it prints where an object of the format differs from
-//! what the data expects of it (`objects.rt`), and last where the two ways of reading and writing
-//! differ (`cases.rt`).
+//! (docs/DECISIONS.md, "Expected results"). Then it prints where an object of the format differs
+//! from what the data expects of it (`objects.rt`). Last it prints where the two ways of reading
+//! and writing differ (`cases.rt`).
 #![tactic(auto)]
 
 mod both;

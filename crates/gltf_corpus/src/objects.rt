@@ -1,7 +1,7 @@
 //! Tries each member of each object of the format with many values, and compares what becomes of
 //! them with what `data/objects.json` expects. The file also has documents, each with a value for
-//! each member of an object, the fields that the Debug text of the first document names, and what
-//! absent numbers mean (`defaults.rt`). `tools/gen_objects.py` writes it from the table of the
+//! each member of an object. It says which fields the Debug text of the first document names, and
+//! what absent numbers mean (`defaults.rt`). `tools/gen_objects.py` writes it from the table of the
 //! format. Only what differs is printed.
 
 use crate::defaults::are_defaults_expected;

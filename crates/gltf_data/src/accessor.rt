@@ -1,4 +1,4 @@
-//! Accessors: how the data of a view is read as elements (glTF 2.0, section 5.1).
+//! Accessors: typed views into buffer views (glTF 2.0, section 5.1).
 
 ghost use Rattle.std.specs.Prelude.{◌≡◌, [], ◌∷◌, false, codes};
 ghost use Rattle.std.proofs.Common.{lit≤};
@@ -21,34 +21,34 @@ use serde_json::Value;
 
 pub mod sparse;
 
-/// How the data of a view is read as elements.
-// What takes longest to drop comes last (docs/DECISIONS.md).
+/// A typed view into a buffer view (glTF 2.0, section 5.1).
+// What takes longest to drop comes last (docs/DECISIONS.md, "Order of fields").
 #[derive(Clone, Debug)]
 pub struct Accessor {
-    /// The view that the elements lie in; without one they are zeros, or come from `sparse`.
+    /// The buffer view with the elements; if absent, they are zeros or come from `sparse`.
     pub buffer_view: Option<Index<View>>,
-    /// The offset into the view, in bytes.
+    /// The offset into the buffer view, in bytes.
     pub byte_offset: Option<USize64>,
-    /// How many elements there are.
+    /// The number of elements.
     pub count: USize64,
-    /// The type of one component.
+    /// The data type of the components.
     pub component_type: Checked<GenericComponentType>,
-    /// How many components an element has, and how they lie.
+    /// Whether elements are scalars, vectors or matrices.
     pub type_: Checked<AccessorType>,
-    /// Whether integers mean fractions.
+    /// Whether integer components are normalized.
     pub normalized: bool,
     pub name: Option<String>,
     pub extensions: Option<extensions::accessor::Accessor>,
     pub extras: Extras,
-    /// The least value of each component.
+    /// The minimum of each component.
     pub min: Option<Value>,
-    /// The greatest value of each component.
+    /// The maximum of each component.
     pub max: Option<Value>,
-    /// Elements that deviate from the view's.
+    /// Sparse storage of elements that replace those of the buffer view.
     pub sparse: Option<sparse::Sparse>,
 }
 
-// One call drops it, wherever it is held (docs/DECISIONS.md).
+// One call drops it, wherever it is held (docs/DECISIONS.md, "Large values").
 impl Drop for Accessor {
     fn drop(self) {
         let Accessor {
@@ -69,8 +69,8 @@ impl Drop for Accessor {
 }
 
 impl Accessor {
-    /// So many elements of a type. They are zeros until `buffer_view` or `sparse` is set, without
-    /// which the accessor is reported.
+    /// Returns an accessor of `count` elements of the given type, without data. It is reported
+    /// until `buffer_view` or `sparse` is set.
     #[tactic(auto, unfolding(crate::specs::Accessor::accessor_rows, crate::specs::Accessor::accessor_members))]
     pub fn new(count: u64, component_type: ComponentType, type_: AccessorType) -> Accessor
         ensures { accessor_members result ≡ made accessor_rows (

@@ -1,4 +1,4 @@
-//! Buffers and their views: the bytes behind a document (glTF 2.0, sections 5.10 and 5.11).
+//! Buffers and buffer views (glTF 2.0, sections 5.10 and 5.11).
 
 ghost use Rattle.std.specs.Prelude.{◌≡◌, [], ◌∷◌, false, refl, codes};
 ghost use Rattle.std.proofs.Common.{lit≤};
@@ -21,7 +21,7 @@ use gltf_schema::{
 use serde_json::Value;
 use std::alloc::Global;
 
-/// The distance from one element of a view to the next, in bytes.
+/// The stride between elements of a buffer view, in bytes.
 #[derive(Clone, Copy, Debug, Default, PartialEq, Eq, Hash)]
 pub struct Stride(pub usize);
 
@@ -47,19 +47,19 @@ impl Schema for Stride {
     }
 }
 
-/// Bytes, in a file or in the document itself.
+/// Binary data, in a file or in its URI (glTF 2.0, section 5.10).
 #[derive(Clone, Debug)]
 pub struct Buffer {
-    /// How many bytes there are.
+    /// The length of the buffer, in bytes.
     pub byte_length: USize64,
     pub name: Option<String>,
-    /// Where the bytes lie; without it they lie in the file that holds the document.
+    /// The URI of the data; if absent, the data is in the `.glb` file of the document.
     pub uri: Option<String>,
     pub extensions: Option<extensions::buffer::Buffer>,
     pub extras: Extras,
 }
 
-// One call drops it, wherever it is held (docs/DECISIONS.md).
+// One call drops it, wherever it is held (docs/DECISIONS.md, "Large values").
 impl Drop for Buffer {
     fn drop(self) {
         let Buffer {
@@ -73,7 +73,7 @@ impl Drop for Buffer {
 }
 
 impl Buffer {
-    /// A buffer of so many bytes, every other member at its default.
+    /// Returns a buffer of `byte_length` bytes, every other member at its default.
     #[tactic(auto, unfolding(crate::specs::Buffer::buffer_rows, crate::specs::Buffer::buffer_members))]
     pub fn new(byte_length: u64) -> Buffer
         ensures { buffer_members result
@@ -132,28 +132,27 @@ impl Object for Buffer {
     }
 }
 
-/// A part of a buffer.
-// What takes longest to drop comes last (docs/DECISIONS.md).
+/// A view into a buffer (glTF 2.0, section 5.11).
+// What takes longest to drop comes last (docs/DECISIONS.md, "Order of fields").
 #[derive(Clone, Debug)]
 pub struct View {
-    /// The buffer that it is a part of.
+    /// The buffer.
     pub buffer: Index<Buffer>,
-    /// How many bytes it has.
+    /// The length of the buffer view, in bytes.
     pub byte_length: USize64,
     /// The offset into the buffer, in bytes.
     pub byte_offset: Option<USize64>,
-    /// The distance from one element to the next, in bytes; without it elements lie one behind
-    /// another. A 0 that is written doesn't mean that: it is reported, as is all below 4 and above
-    /// 252.
+    /// The stride between elements, in bytes; if absent, elements are tightly packed. An explicit 0
+    /// is reported, as is any stride below 4 or above 252.
     pub byte_stride: Option<Stride>,
-    /// What the data is bound to.
+    /// The intended GPU buffer type.
     pub target: Option<Checked<Target>>,
     pub name: Option<String>,
     pub extensions: Option<extensions::buffer::View>,
     pub extras: Extras,
 }
 
-// One call drops it, wherever it is held (docs/DECISIONS.md).
+// One call drops it, wherever it is held (docs/DECISIONS.md, "Large values").
 impl Drop for View {
     fn drop(self) {
         let View {
@@ -170,7 +169,8 @@ impl Drop for View {
 }
 
 impl View {
-    /// So many bytes from the start of a buffer, every other member at its default.
+    /// Returns a buffer view of `byte_length` bytes at the start of a buffer, every other member at
+    /// its default.
     #[tactic(auto, unfolding(crate::specs::Buffer::view_rows, crate::specs::Buffer::view_members))]
     pub fn new(buffer: Index<Buffer>, byte_length: u64) -> View
         ensures { view_members result ≡ made view_rows (

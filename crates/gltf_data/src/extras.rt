@@ -1,4 +1,4 @@
-//! What an application adds of its own (glTF 2.0, section 5.16).
+//! Application-specific data (glTF 2.0, section 5.16).
 
 ghost use Rattle.std.specs.Prelude.{Some, codes};
 
@@ -6,17 +6,17 @@ use gltf_schema::Tabled;
 use serde_json::Value;
 use std::fmt::{self, Debug, Display, Formatter, Write};
 
-/// What an application adds to an object of its own: any JSON value.
+/// Application-specific data of an object: any JSON value.
 pub type Extras = Option<Value>;
 
-/// What an object holds in place of extras if an application adds nothing.
+/// The absence of application-specific data.
 #[derive(Clone, Drop)]
 pub struct Void {}
 
 impl Tabled for Void {}
 
 impl Void {
-    /// Nothing.
+    /// Returns a `Void`.
     pub fn new() -> Void {
         Void {}
     }

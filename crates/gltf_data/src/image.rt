@@ -18,7 +18,7 @@ use gltf_schema::{Error, Object, ReadRows, Refusal, Schema, Source, Tabled, Writ
 use serde_json::Value;
 use std::alloc::Global;
 
-/// The media type of an image's data; it may be another than those that `VALID_MIME_TYPES` lists.
+/// The media type of an image's data, also one that `VALID_MIME_TYPES` doesn't list.
 #[derive(Clone, Debug, Drop)]
 pub struct MimeType(pub String);
 
@@ -44,21 +44,21 @@ impl Schema for MimeType {
     }
 }
 
-/// The data of an image: in a view, or behind a URI.
+/// Image data, in a buffer view or at a URI (glTF 2.0, section 5.18).
 #[derive(Clone, Debug)]
 pub struct Image {
-    /// The view that the data lies in; an image has it or `uri`, not both.
+    /// The buffer view with the data; an image has either this or `uri`.
     pub buffer_view: Option<Index<View>>,
-    /// The media type of the data, which has to be there where the data lies in a view.
+    /// The media type of the data, which `buffer_view` requires.
     pub mime_type: Option<MimeType>,
     pub name: Option<String>,
-    /// Where the data lies.
+    /// The URI of the data.
     pub uri: Option<String>,
     pub extensions: Option<extensions::image::Image>,
     pub extras: Extras,
 }
 
-// One call drops it, wherever it is held (docs/DECISIONS.md).
+// One call drops it, wherever it is held (docs/DECISIONS.md, "Large values").
 impl Drop for Image {
     fn drop(self) {
         let Image {
@@ -73,7 +73,7 @@ impl Drop for Image {
 }
 
 impl Image {
-    /// An image with every member at its default: no data yet.
+    /// Returns an image without data, every member at its default.
     #[tactic(auto, unfolding(crate::specs::Image::image_rows, crate::specs::Image::image_members))]
     pub fn new() -> Image
         ensures { image_members result ≡ defaults image_rows }
@@ -88,7 +88,7 @@ impl Image {
         }
     }
 
-    /// An image whose data lies behind a URI.
+    /// Returns an image with its data at a URI.
     #[tactic(auto, unfolding(crate::specs::Image::image_rows, crate::specs::Image::image_members))]
     pub fn from_uri(uri: String) -> Image
         ensures { image_members result ≡ made image_rows (
@@ -105,7 +105,7 @@ impl Image {
         }
     }
 
-    /// An image whose data lies in a view, as `image/png` or of another media type.
+    /// Returns an image with its data in a buffer view, of a media type such as `image/png`.
     #[tactic(auto, unfolding(crate::specs::Image::image_rows, crate::specs::Image::image_members))]
     pub fn from_view(buffer_view: Index<View>, mime_type: MimeType) -> Image
         ensures { image_members result ≡ made image_rows (

@@ -10,13 +10,13 @@ use thiserror::Error;
 
 const PIECE_LEN: usize = 65536;
 
-/// A device refused a call.
+/// A device failed.
 #[derive(Clone, Copy, Debug, Error)]
 #[error("device failed")]
 pub struct Failed;
 
-/// What bytes are read from. An implementer holds what its calls have shown in fields of its own,
-/// as [`Watched`](crate::Watched) does.
+/// A reader of bytes. An implementation keeps in its fields what its calls have shown, as
+/// [`Watched`](crate::Watched) does.
 pub trait ByteIn {
     // The bytes that are left, where they are known.
     ghost left: { Self → Option (List ℕ) } = { λ _. None };
@@ -25,7 +25,7 @@ pub trait ByteIn {
     ghost seen: { Self → Seen };
 
     /// Reads bytes into the front of `buf` and returns how many. `Ok(0)` for a slice that isn't
-    /// empty is the end; `Err` comes where the device refused the call.
+    /// empty is the end. Fails if the device fails.
     fn read(&mut self, buf: &mut [u8]) -> Result<usize, Failed>
         ensures bound { IfOk result (λ n. n ≤ length buf.new) }
         ensures bytes { ReadConsumes (left self.old) (left self.new) result buf.new }
@@ -40,7 +40,7 @@ pub trait ByteIn {
             (λ _. (seen self.new).has_ended ≡ false) };
 }
 
-/// What bytes are written to. An implementer holds whether a call has failed in a field of its own.
+/// A writer of bytes. An implementation keeps in a field whether a call has failed.
 pub trait ByteOut {
     // The bytes that it took so far, where they are known.
     ghost taken: { Self → Option (List ℕ) } = { λ _. None };
@@ -49,7 +49,7 @@ pub trait ByteOut {
     ghost has_failed: { Self → Bool };
 
     /// Takes bytes from the front of `buf` and returns how many: at least one, if there is one.
-    /// `Err` comes where the device refused the call.
+    /// Fails if the device fails.
     fn write(&mut self, buf: &[u8]) -> Result<usize, Failed>
         ensures bound { IfOk result (λ n. n ≤ length buf.now) }
         ensures some { 0 < length buf.now → IfOk result (λ n. 0 < n) }
@@ -58,9 +58,9 @@ pub trait ByteOut {
         ensures works { OnOk result (has_failed self.new ≡ has_failed self.old) };
 }
 
-/// All bytes that a reader gives up to its end, read 65536 at a time. `Read` comes where the reader
-/// fails; `TooLong` where it gives more than `most_bytes` bytes, or hasn't given its end in
-/// `most_calls` calls; `Memory` where memory was refused.
+/// Returns all bytes of a reader up to its end, read 65536 at a time. Fails with `Read` if the
+/// reader fails, and with `Memory` if out of memory. Fails with `TooLong` if it gives more than
+/// `most_bytes` bytes, or hasn't ended within `most_calls` calls.
 pub fn read_to_end<R: ByteIn>(
     alloc: Global,
     reader: &mut R,
@@ -83,7 +83,7 @@ pub fn read_to_end<R: ByteIn>(
 }
 
 /// Appends all bytes up to the end, piece by piece.
-// It stands by itself, since a proof that knows what a new piece holds computes all its zeros.
+// It is a function of its own: a proof that knows what a new piece holds computes all its zeros.
 #[tactic(auto, using(crate::proofs::DeviceLemmas::reads))]
 fn fill<R: ByteIn>(
     reader: &mut R,
@@ -118,8 +118,8 @@ fn fill<R: ByteIn>(
     Err(DocumentError::TooLong)
 }
 
-/// Writes all bytes, in as many calls as the writer needs. `Err` comes where a call failed; the
-/// writer has taken a prefix of the bytes then.
+/// Writes all bytes, in as many calls as the writer needs. Fails if a call fails; the writer has
+/// taken a prefix of the bytes then.
 #[tactic(auto, using(crate::proofs::WriteLemmas::writes))]
 pub fn write_all<W: ByteOut>(writer: &mut W, bytes: &[u8]) -> Result<(), Failed>
     ensures works { OnOk result (W.has_failed writer.new ≡ W.has_failed writer.old) }

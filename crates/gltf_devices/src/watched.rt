@@ -7,9 +7,9 @@ ghost use Rattle.gltf_devices.specs.Watched.{device_of, seen_of};
 use crate::device::{ByteIn, ByteOut, Failed};
 use std::io::{Read, Write};
 
-/// A device of the system with what its calls have shown: a [`ByteIn`] over what can be read, and a
-/// [`ByteOut`] over what can be written. Any error of the device is a failure, also one that asks
-/// for another try, and so is a write of something that takes no byte.
+/// A device of std, and what its calls have shown: a [`ByteIn`] if it can be read, and a
+/// [`ByteOut`] if it can be written. Any error of the device is a failure, also one that asks for
+/// another try, and so is a write of something that takes no byte.
 #[derive(Drop)]
 pub struct Watched<D> {
     device: D,
@@ -24,7 +24,7 @@ pub struct Watched<D> {
 }
 
 impl<D> Watched<D> {
-    /// A device that no call has been made to.
+    /// Returns a device to which no call has been made yet.
     pub fn new(device: D) -> Watched<D>
         ensures device { device_of result ≡ device }
         ensures fresh { IsFresh (seen_of result) }
@@ -38,14 +38,14 @@ impl<D> Watched<D> {
         }
     }
 
-    /// Whether a call has failed; once it has, this stays so.
+    /// Returns whether any call has failed.
     pub fn failed(&self) -> bool
         ensures { result ≡ (seen_of self.now).has_failed }
     {
         self.failed
     }
 
-    /// The device.
+    /// Returns the device.
     pub fn into_inner(self) -> D
         ensures { result ≡ device_of self }
     {

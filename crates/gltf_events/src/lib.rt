@@ -114,7 +114,7 @@ fn event_of<'a, E: FromEvent<'a>, C: HasContext>(
 }
 
 /// Whether a walk looks at the value as a whole, and nothing is wrong in it. A walk looks at the
-/// items of lists and at values that hold all their errors. Other values get a frame without a
+/// items of lists and at values that hold all their faults. Other values get a frame without a
 /// look, which keeps a walk linear: a fault is looked at once for each list above it.
 pub fn is_quiet<C: HasContext>(value: &ValueRef<'_>, context: &C) -> bool
     ensures { result ≡ is_looked_at value.now

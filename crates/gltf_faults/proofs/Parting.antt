@@ -23,7 +23,7 @@ use Rattle.gltf_faults.proofs.Joining.{joined, first_none, second_none}
 use Rattle.gltf_faults.proofs.PushesOnto.{inserted}
 use Rattle.gltf_faults.proofs.Standing.{StandsBelow, reports_below}
 
--- ---- the test tells what stands below a place
+-- ---- the test decides what is below a place
 
 step_itself : (s : Step) → same_step s s ≡ true
 step_itself (field f) = (bytes_eq-Decides f f).1 refl
@@ -60,7 +60,7 @@ told_at false place q is off = refl
 told_elsewhere : (place : List Step) (q : Report) → StandsElsewhere place q → is_below place q ≡ false
 told_elsewhere place q off = told_at (is_below place q) place q refl off
 
--- ---- what is put in is parted from the rest by any test that tells them apart
+-- ---- what is put in is parted from the rest by any test that separates them
 
 all_kept : {A : Type 0} (p : A → Bool) (xs : List A) → All (λ x. p x ≡ true) xs → filter p xs ≡ xs
 all_kept p [] h = refl

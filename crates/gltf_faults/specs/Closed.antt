@@ -7,8 +7,8 @@ use Rattle.gltf_root.specs.Lists.{count_in, sampler_count}
 use Rattle.gltf_faults.specs.Context.{Context}
 use Rattle.gltf_faults.specs.References.{Reference, item_of, sampler_of, missing_image, unlisted, references}
 
--- an index is below the length of its list, and nothing is unlisted; that a texture may lack an
--- image only where the rules say so is the ported crate's rule
+-- an index is below the length of its list, and nothing is unlisted. A texture may lack an image
+-- only if the rules say so, as in the ported crate
 abbrev pub Resolves : Context → Reference → Type 0
 Resolves context (item_of named n) = n < count_in named context.root
 Resolves context (sampler_of animation n) = n < sampler_count animation

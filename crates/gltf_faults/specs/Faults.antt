@@ -8,7 +8,7 @@ use Rattle.gltf_schema.specs.Tree.{Tree, index, whole, invalid, Trees, end, with
 use Rattle.gltf_textures.specs.Texture.{no_image}
 use Rattle.gltf_sinks.specs.Report.{report, From}
 
--- a report where something is so
+-- a report if something holds
 abbrev pub report_if : Bool → Error → From
 report_if b error base = cond b (report base error ∷ []) []
 

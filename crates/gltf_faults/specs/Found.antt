@@ -60,7 +60,7 @@ pub record HasKey (text : List ℕ) (d : Data) : Type 0 where
   pub there : get name d ≡ Some value
   pub means : key_text (key_named name) ≡ text
 
--- steps lead to a value, and if there is a key among them, to an object that has it: what follows a
+-- steps lead to a value, and if there is a key among them, to an object that has it. What follows a
 -- key is in the accessor that the attribute names
 pub record Lead (steps : List Step) (d : Data) : Type 0 where
   pub place : Data

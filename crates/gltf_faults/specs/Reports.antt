@@ -23,7 +23,7 @@ animation_below holds_samplers t above = t
 
 abbrev mutual
   -- what is wrong in a tree of a kind, against a document, by rules, below an animation or none,
-  -- from a base: an object's members in the rows' order and then its rule
+  -- from a base. An object has its members' reports in the rows' order, and then its rule's
   pub reports : Kind → Tree → Context → Tree → From
   reports (IndexInto named) t context animation base = index_faults (count_in named context.root) t base
   reports SourceImage t context animation base = source_faults context.rules.empty_texture (count_in ListName.images context.root) t base

@@ -8,8 +8,8 @@ use Rattle.gltf_faults.specs.Context.{Rules}
 abbrev pub enables : Rules → List ℕ → Bool
 enables rules name = list_any (λ e. bytes_eq e name) rules.enabled
 
--- each extension that may be required by some rules may be by the others, and textures may be
--- without an image by the others if they may be by the first
+-- each extension that some rules enable is enabled by the others too, and these allow textures
+-- without an image if the first do
 pub record AllowsMore (narrow wide : Rules) : Type 0 where
   pub textures : narrow.empty_texture ≡ true → wide.empty_texture ≡ true
   pub names : (name : List ℕ) → enables narrow name ≡ true → enables wide name ≡ true

@@ -20,7 +20,7 @@ use gltf_base::{Index, IndexTo, Names};
 use gltf_root::root::{Root, RootItem};
 use gltf_textures::texture::{NO_IMAGE, Texture};
 
-/// What is wrong with an index: `IndexOutOfBounds` where it is past the end of its list in `root`.
+/// What is wrong with an index: `IndexOutOfBounds` if it is past the end of its list in `root`.
 pub fn index_fault<P: Names>(index: &IndexTo<P>, root: &Root) -> Option<Error>
 where
     P::Item: RootItem,
@@ -34,7 +34,7 @@ where
 }
 
 /// What is wrong with the image that a texture names. Where its number is [`NO_IMAGE`] that is
-/// `Missing`, and nothing where the rules allow it; else what is wrong with the index.
+/// `Missing`, and nothing if the rules allow it; otherwise it is what is wrong with the index.
 pub fn source_fault(texture: &Texture, context: &Context<'_>) -> Option<Error>
     ensures { (base : List Step) → found_at result base
         ≡ source_faults (context_of context.now).rules.empty_texture
@@ -50,8 +50,8 @@ pub fn source_fault(texture: &Texture, context: &Context<'_>) -> Option<Error>
     }
 }
 
-/// What is wrong with the sampler that a channel names: `IndexOutOfBounds` where it is past the end
-/// of the animation's own samplers.
+/// What is wrong with the sampler that a channel names: `IndexOutOfBounds` if it is past the end of
+/// the animation's own samplers.
 pub fn sampler_fault(channel: &Channel, animation: &Animation) -> Option<Error>
     ensures { (base : List Step) → found_at result base
         ≡ index_faults (sampler_count (closed_object (animation_members animation.now)))

@@ -1,5 +1,5 @@
-//! Laws of the definitions that the contracts of this crate speak by. Each is the contract of a
-//! function that does nothing.
+//! Laws of the definitions that contracts of this crate use. Each is the contract of a function
+//! that does nothing.
 
 ghost use Rattle.std.specs.Prelude.{◌≡◌, ◌≢◌, ◌↔◌, ℕ, List, [], true, not, Some, None};
 ghost use Rattle.std.specs.List.{filter};
@@ -38,10 +38,10 @@ pub fn reports_are_the_faults_of_places()
         → reports_by_rules rules kind tree root base ≡ reports_by_places rules kind tree root base }
 {}
 
-/// A document without reports is closed: every index in it names an item, a channel's sampler one
-/// of its own animation, and every choice and every key is one that is known. So is a document of
-/// which validation against itself left a new count at zero. It is so by any rules; a texture lacks
-/// an image only where they let textures be empty.
+/// A document without reports is closed: every index names an item, and every enum value and
+/// attribute name is valid. A channel's sampler is one of its own animation. A document of which
+/// validation left a new count at zero is closed too. This holds by any rules; a texture lacks an
+/// image only if they allow that.
 pub fn clean_documents_are_closed()
     ensures clean { (rules : Rules) (r : Document) → document_reports rules (root_tree r) ≡ []
         → IsClosed root_kind (root_tree r) (under rules (root_tree r)) absent }
@@ -50,9 +50,9 @@ pub fn clean_documents_are_closed()
         → IsClosed root_kind (root_tree r) (under rules (root_tree r)) absent }
 {}
 
-/// In a document without reports no index into a list is the number of the list's items, which is
-/// the one that the next item takes. It is so by any rules: if they let textures be empty, the
-/// number that means no image is no index.
+/// In a document without reports no index into a list is the number that the list's next item
+/// takes. This holds by any rules: if they allow empty textures, the number that means no image is
+/// no index.
 pub fn clean_documents_avoid_the_next_number()
     ensures { (rules : Rules) (r : Document) (named : ListName)
         → document_reports rules (root_tree r) ≡ []
@@ -71,10 +71,10 @@ pub fn pushes_change_one_list()
         ≡ tree_at n (members_in (root_tree r)) }
 {}
 
-/// One more item at the end of a list of a document leaves what is wrong in a value as it was,
-/// unless some index into the list, in the value, is the very number that the item takes. For the
-/// list of accessors the kind has to be sound, as each kind of the table is: the rule of primitives
-/// looks up an accessor, and in a sound kind it does so by an index of the value.
+/// A push leaves the reports of a value as they were, unless an index in the value is the number
+/// that the item takes. For the list of accessors the kind has to be sound, as each kind of the
+/// table is. The rule of primitives looks up an accessor, and in a sound kind it does so by an
+/// index of the value.
 pub fn pushes_leave_other_reports()
     ensures { (rules : Rules) (r : Document) (named : ListName) (x : Tree) (kind : Kind)
         (t above : Tree) (base : List Step)
@@ -84,8 +84,7 @@ pub fn pushes_leave_other_reports()
         ≡ reports kind t (under rules (root_tree r)) above base }
 {}
 
-/// One more item in a document without reports: what is wrong then is what is wrong with the item,
-/// at its place.
+/// After a push onto a document without reports, its reports are those of the item, at its place.
 pub fn pushes_onto_clean_documents()
     ensures { (rules : Rules) (r : Document) (named : ListName) (x : Tree)
         → let new = pushed named x (root_tree r) in
@@ -95,9 +94,9 @@ pub fn pushes_onto_clean_documents()
         (item_place named (count_in named (root_tree r))) }
 {}
 
-/// If no index into the list is the number that the item takes, what is wrong in the longer
-/// document at the item's place or below it is what is wrong with the item. The rest is what was
-/// wrong before, both in order. The reports of the item are all together among the others.
+/// After a push, the reports at the item's place or below it are those of the item, if no index is
+/// the number that it takes. All others are those from before, both in order. The reports of the
+/// item are all together among the others.
 pub fn pushes_add_reports_of_the_item()
     ensures of_item { (rules : Rules) (r : Document) (named : ListName) (x : Tree)
         → let n = count_in named (root_tree r) in let new = pushed named x (root_tree r) in
@@ -117,8 +116,8 @@ pub fn pushes_add_reports_of_the_item()
         (document_reports rules new) }
 {}
 
-/// A document that was read is refused for writing exactly if an item of a choice or the key of
-/// an attribute in it is invalid.
+/// A document that was read is refused for writing if and only if it holds an invalid enum value or
+/// attribute name.
 pub fn read_documents_are_refused_where_invalid()
     ensures { (d : Data) (t : Tree) → read root_kind d ≡ Some t
         → (write root_kind t ≡ None) ↔ (holds_invalid t ≡ true) }

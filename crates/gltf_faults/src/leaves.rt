@@ -12,7 +12,7 @@ use gltf_base::buffer::{MAX_BYTE_STRIDE, MIN_BYTE_STRIDE};
 use gltf_base::validation::{Checked, Error};
 use gltf_data::buffer::Stride;
 
-/// What is wrong with an item of a choice: `Invalid` where it is none of the choice's.
+/// What is wrong with an item of a choice: `Invalid` if the choice doesn't list it.
 pub fn choice_fault<T>(item: &Checked<T>) -> Option<Error>
     ensures { (spell : T → Spelling) (base : List Step)
         → found_at result base ≡ choice_faults (checked_tree spell item.now) base }
@@ -23,7 +23,7 @@ pub fn choice_fault<T>(item: &Checked<T>) -> Option<Error>
     }
 }
 
-/// What is wrong with a stride: `Invalid` where it is below 4 or above 252 bytes (glTF 2.0, section
+/// What is wrong with a stride: `Invalid` if it is below 4 or above 252 bytes (glTF 2.0, section
 /// 5.11.4).
 pub fn stride_fault(stride: &Stride) -> Option<Error>
     ensures { (base : List Step)

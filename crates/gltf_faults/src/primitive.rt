@@ -36,8 +36,9 @@ pub struct PositionFaults {
     pub max: Option<Error>,
 }
 
-/// What is wrong with the positions of a primitive: `Missing` where there are none; for each bound
-/// of their accessor, where it is there, `Missing` or, for what isn't three numbers, `Invalid`.
+/// What is wrong with the positions of a primitive: `Missing` if there are none. For each bound of
+/// their accessor, if the accessor is there, it is `Missing`, or `Invalid` if it isn't three
+/// numbers.
 #[tactic(auto, unfolding(gltf_meshes::specs::Mesh::primitive_rows, gltf_meshes::specs::Mesh::primitive_members))]
 pub fn position_faults(primitive: &Primitive, root: &Root) -> PositionFaults
     ensures { (base : List MathematicalStep) → found_in_positions result base

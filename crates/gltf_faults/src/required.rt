@@ -12,8 +12,7 @@ ghost use Rattle.gltf_faults.specs.Rules.{extension_faults};
 use crate::rules::Rules;
 use gltf_base::validation::Error;
 
-/// What is wrong with a required extension of a name: `Unsupported` where the rules don't enable
-/// it.
+/// What is wrong with a required extension of a name: `Unsupported` if the rules don't enable it.
 pub fn extension_fault(rules: &Rules<'_>, name: &str) -> Option<Error>
     ensures { (base : List Step) → found_at result (base ++ value name.now ∷ [])
         ≡ extension_faults (rules_of rules.now).enabled (text name.now) base }

@@ -8,17 +8,16 @@ use gltf_base::extensions::ENABLED_EXTENSIONS;
 /// What a caller allows when a document is validated.
 #[derive(Clone, Copy, Debug, Drop, PartialEq, Eq)]
 pub struct Rules<'a> {
-    /// Whether a texture may be without an image: the number 4294967295, which means none, is
-    /// then no fault at its `source`.
+    /// Whether a texture may be without an image. If so, the number 4294967295 at its `source`,
+    /// which means none, is no fault.
     pub empty_texture: bool,
     /// The names of the extensions that a document may require, each compared whole.
     pub enabled: &'a [&'a str],
 }
 
-/// The names of the extensions that a document may require where its textures may be without an
-/// image: those of `ENABLED_EXTENSIONS`, and the extensions that give a texture an image of another
-/// format. For callers that give it as `enabled` beside `empty_texture`; nothing goes by it
-/// otherwise.
+/// The names to enable if textures may be without an image: those of `ENABLED_EXTENSIONS`, and the
+/// extensions that give a texture an image of another format. Give it as `enabled` beside
+/// `empty_texture`; nothing uses it otherwise.
 pub const ENABLED_WITH_EMPTY_TEXTURES: &[&str] = &[
     "KHR_lights_punctual",
     "KHR_materials_pbrSpecularGlossiness",
@@ -39,8 +38,8 @@ pub fn constant_is_listed()
 {}
 
 impl<'a> Rules<'a> {
-    /// The rules where nobody rules otherwise: no texture may be without an image, and a document
-    /// may require what is in `ENABLED_EXTENSIONS`.
+    /// Returns the standard rules: each texture needs an image, and a document may require what
+    /// `ENABLED_EXTENSIONS` lists.
     pub fn new() -> Rules<'a>
         ensures { rules_of result ≡ standard_rules }
     {

@@ -13,7 +13,7 @@ pub record IsForest (nodes : List (List ℕ)) : Type 0 where
   pub one_parent : (p q i j c : ℕ) → IsChildAt nodes p i c → IsChildAt nodes q j c → (p ≡ q) × (i ≡ j)
   pub no_cycle : (k n : ℕ) → IsBelow nodes (suc k) n n → ⊥
 
--- what a fault says is so
+-- what a fault says is true
 abbrev pub IsHierarchyFault : List (List ℕ) → HierarchyFault → Type 0
 IsHierarchyFault nodes TooManyNodes = 2 ^ 32 ≤ length nodes
 IsHierarchyFault nodes (NoSuchChild p c) = (length nodes ≤ c) × ((i : ℕ) × IsChildAt nodes p i c)

@@ -28,7 +28,7 @@ impl Forest {
         // A forest is found, unless it has too many nodes or memory is refused.
         ensures only { IsForest (H.children nodes.now) → length (H.children nodes.now) < 2 ^ 32
             → IfErr result IsOutOfMemory }
-        // What the fault says is so.
+        // What the fault says is true.
         ensures fault { IfErr result (IsHierarchyFault (H.children nodes.now)) }
         // What the calls below return.
         ensures order { IfOk result (λ f. IsParentsFirst (H.children nodes.now) (forest_order f)) }
@@ -58,14 +58,14 @@ impl Forest {
         }
     }
 
-    /// The number of each node once, behind that of its parent.
+    /// Returns the number of each node once, behind that of its parent.
     pub fn order(&self) -> &[u32]
         ensures { result.now ≡ forest_order self.now }
     {
         &self.order
     }
 
-    /// The parent of a node. `None` if it is a root, or if there is no such node.
+    /// Returns the parent of a node, or `None` if it is a root or doesn't exist.
     pub fn parent(&self, node: u32) -> Option<u32>
         ensures { result ≡ parent_in (forest_parents self.now) node }
     {
@@ -75,7 +75,7 @@ impl Forest {
         }
     }
 
-    /// Whether there is such a node and it has no parent.
+    /// Returns whether there is such a node and it has no parent.
     pub fn is_root(&self, node: u32) -> bool
         ensures { IsTrue result ↔ (slice_get (forest_parents self.now) node ≡ Some None) }
     {
@@ -85,7 +85,7 @@ impl Forest {
         }
     }
 
-    /// How many steps a node is below a root. `None` if there is no such node.
+    /// Returns how many steps a node is below a root, or `None` if it doesn't exist.
     pub fn depth(&self, node: u32) -> Option<usize>
         ensures { result ≡ slice_get (forest_depths self.now) node }
     {

@@ -9,16 +9,16 @@ pub trait Hierarchy {
     // For each node the numbers of its children, in order.
     ghost children: { Self → List (List ℕ) };
 
-    /// How many nodes there are.
+    /// Returns how many nodes there are.
     fn node_count(&self) -> usize
         ensures { result ≡ length (children self.now) };
 
-    /// How many children a node has.
+    /// Returns how many children a node has.
     fn child_count(&self, node: u32) -> usize
         requires { node < length (children self.now) }
         ensures { result ≡ length (children_of (children self.now) node) };
 
-    /// The number of the child at a place among the children of a node.
+    /// Returns the number of the child at a place among the children of a node.
     fn child(&self, node: u32, place: usize) -> u32
         requires node { node < length (children self.now) }
         requires place { place < length (children_of (children self.now) node) }

@@ -1,5 +1,5 @@
-//! glTF 2.0 documents: read from JSON, checked against the table of the format, and written. This
-//! crate names what the crates below it hold, under the modules of the format.
+//! glTF 2.0 documents: read from JSON, validated, built and written. This crate re-exports the
+//! crates below it, under the modules of the format.
 #![tactic(auto)]
 
 pub use gltf_base::{Index, Path, Real, path};
@@ -20,7 +20,7 @@ pub use gltf_scene::skin::Skin;
 pub use gltf_scene::{animation, asset, camera, mesh, scene, skin};
 pub use serde_json::Value;
 
-/// Extension objects: what stands behind the member `extensions` of an object.
+/// Extension objects: the values of an object's member `extensions`.
 pub mod extensions {
     pub use gltf_faults::ENABLED_WITH_EMPTY_TEXTURES;
     pub use gltf_parts::extensions::{accessor, buffer, image, material, texture};
@@ -28,14 +28,14 @@ pub mod extensions {
         ENABLED_EXTENSIONS, SUPPORTED_EXTENSIONS, animation, asset, camera, mesh, scene, skin,
     };
 
-    /// Those of a whole document.
+    /// Extension objects of a whole document.
     pub mod root {
         pub use gltf_root::extensions::root::{KhrLightsPunctual, KhrMaterialsVariants, Root};
     }
 }
 
-/// What holds of the definitions that contracts cite, as contracts of functions that do nothing:
-/// here of documents and of validation, and in the modules of what these are made of.
+/// Laws of documents and of validation, each the contract of a function that does nothing. The
+/// modules have the laws of what documents are made of.
 pub mod laws {
     pub use gltf_base::laws as base;
     pub use gltf_clean::changes::{calls_that_succeed_are_changes, changes_leave_no_reports};
@@ -74,7 +74,7 @@ pub mod root {
     pub use gltf_root::root::{Get, Mark, Place, Root, RootItem};
 }
 
-/// What is wrong in a document, place by place.
+/// Validation: the faults of a document, and reports of them.
 pub mod validation {
     pub use gltf_base::validation::{Checked, Error, USize64};
     pub use gltf_clean::{Clean, CleanError, Item, Refused, Report};

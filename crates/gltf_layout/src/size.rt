@@ -5,7 +5,7 @@ ghost use Rattle.gltf_layout.specs.Sizes.{element_size};
 
 use gltf_choices::accessor::{AccessorType, ComponentType};
 
-/// How many bytes an element takes, with what pads the columns of matrices (glTF 2.0, sections
+/// Returns the size of an element in bytes, with the padding of matrix columns (glTF 2.0, sections
 /// 3.6.2.2 and 3.6.2.4).
 pub fn element_size(type_: AccessorType, component_type: ComponentType) -> u64
     ensures { result ≡ element_size type_ component_type }

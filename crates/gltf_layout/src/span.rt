@@ -8,30 +8,30 @@ use crate::size::element_size;
 use crate::view::ViewLayout;
 use gltf_choices::accessor::{AccessorType, ComponentType};
 
-/// What an accessor says of its elements (glTF 2.0, section 5.1). The indices and the values of a
+/// The layout of an accessor's elements (glTF 2.0, section 5.1). The indices and the values of a
 /// sparse accessor (sections 5.3 and 5.4) are described in the same way.
 #[derive(Clone, Copy, Debug, PartialEq, Eq)]
 pub struct AccessorLayout {
-    /// Where element 0 begins in the view: `byteOffset`, or 0.
+    /// Where element 0 begins in the view, in bytes: `byteOffset`, or 0.
     pub byte_offset: u64,
-    /// What the components of an element are.
+    /// The data type of the components.
     pub component_type: ComponentType,
-    /// How many components an element has: a number, a vector or a matrix.
+    /// Whether elements are scalars, vectors or matrices.
     pub type_: AccessorType,
-    /// How many elements there are.
+    /// The number of elements.
     pub count: u64,
 }
 
 /// Where the elements of an accessor lie in its buffer.
 #[derive(Clone, Copy, Debug, PartialEq, Eq)]
 pub struct Span {
-    /// Where element 0 begins in the buffer.
+    /// Where element 0 begins in the buffer, in bytes.
     pub start: u64,
-    /// From an element to the next.
+    /// The stride between elements, in bytes.
     pub stride: u64,
-    /// How many bytes an element takes.
+    /// The size of an element, in bytes.
     pub size: u64,
-    /// How many elements there are.
+    /// The number of elements.
     pub count: u64,
 }
 

@@ -27,7 +27,7 @@ unfoldable pub IsWritten : Output → Option (List ℕ) → Option (List ℕ) �
 IsWritten due old new failed_before failed status = IsWhole due old new failed_before failed status ⊎ BrokeOff due.text old new failed status
 
 -- what a run wrote and returned, by the rules: the refusal, or the output of an answer. That is the answer to the bytes that the
--- reader told at the start, if it told any. The last five are what the writer told before and after, whether it had failed
+-- reader has at the start, if it states any. The last five are what the writer states before and after, whether it had failed
 -- before and has failed then, and the status.
 pub record IsRun (rules : Rules) (input old new : Option (List ℕ)) (failed_before failed : Bool) (status : ℕ) : Type 0 where
   pub is : IsWritten refusal old new failed_before failed status

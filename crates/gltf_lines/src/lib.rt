@@ -26,10 +26,10 @@ use writing::write_outcome;
 /// | Status | Output |
 /// |---|---|
 /// | 0 | `clean` |
-/// | 1 | a line `path: error` for each report, in order |
+/// | 1 | a line `path: fault` for each report, in order |
 /// | 2 | `refused: not JSON` |
 /// | 3 | `refused: not a glTF document` |
-/// | 4 | `refused: input or output`, if the reader failed, a limit of [`Root::from_reader`] was passed or memory was refused; a prefix of the output that was due, where the writer failed |
+/// | 4 | `refused: input or output`, if the reader failed, a limit of [`Root::from_reader`] was passed, or out of memory; a prefix of the output, if the writer failed |
 ///
 /// The whole output is made before its first byte is written. Paths escape nothing, so a report on
 /// a name with a newline in it takes more than one line.
@@ -46,7 +46,7 @@ pub fn run<R: ByteIn, W: ByteOut>(alloc: Global, reader: &mut R, writer: &mut W)
     run_with(alloc, &Rules::new(), reader, writer)
 }
 
-/// [`run`] by the caller's rules.
+/// Runs as [`run`] does, by the caller's rules.
 pub fn run_with<R: ByteIn, W: ByteOut>(
     alloc: Global,
     rules: &Rules<'_>,

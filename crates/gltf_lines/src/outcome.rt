@@ -1,4 +1,4 @@
-//! What there is to say of a document.
+//! The outcome of checking a document.
 
 ghost use Rattle.std.specs.Prelude.{◌≡◌, ◌≤◌, ◌⊎◌, None, Some};
 ghost use Rattle.gltf_faults.specs.Context.{rules_of};
@@ -12,31 +12,31 @@ use gltf_root::root::Root;
 use gltf_schema::Error;
 use std::alloc::Global;
 
-/// What there is to say of a document.
+/// The outcome of checking a document.
 #[derive(Debug, Drop)]
 pub enum Outcome {
     /// The document has no report.
     Clean,
-    /// A line `path: error` for each report, in order.
+    /// A line `path: fault` for each report, in order.
     Reports(String),
     /// The bytes are no JSON.
     NotJson,
     /// The JSON is no document.
     NotDocument,
-    /// Memory was refused, or the document was not read to its end.
+    /// Out of memory, or the document was not read to its end.
     GivenUp,
 }
 
 impl Outcome {
-    /// What there is to say of the bytes of a document by the rules. `GivenUp` comes only if memory
-    /// was refused.
+    /// Returns the outcome for the bytes of a document by the rules. It is `GivenUp` only if out of
+    /// memory.
     pub fn of(alloc: Global, rules: &Rules<'_>, document: &[u8]) -> Outcome
         ensures { IsOutcome (output (rules_of rules.now) document.now) result }
     {
         Outcome::of_reading(alloc, rules, &Root::from_slice(alloc, document))
     }
 
-    /// What there is to say of a reading, by the rules.
+    /// Returns the outcome for a reading, by the rules.
     pub(crate) fn of_reading(
         alloc: Global,
         rules: &Rules<'_>,
@@ -59,7 +59,7 @@ impl Outcome {
         }
     }
 
-    /// The text, which ends in a newline.
+    /// Returns the text, which ends in a newline.
     pub fn text(&self) -> &str
         ensures { result.now ≡ (outcome_output self.now).text }
     {
@@ -72,7 +72,7 @@ impl Outcome {
         }
     }
 
-    /// The exit status that goes with the text.
+    /// Returns the exit status that belongs to the text.
     pub fn status(&self) -> u8
         ensures status { result ≡ (outcome_output self.now).status }
         ensures bound { result ≤ 4 }

@@ -24,7 +24,7 @@ pub enum Kind {
 }
 
 impl Kind {
-    /// What an argument names. If nothing is there, reading it as a file says so.
+    /// What an argument names. If nothing is there, reading it as a file fails.
     pub fn of_argument(rt: &HostRuntime, name: &str) -> Kind {
         match fs::metadata(rt, name) {
             Ok(metadata) if metadata.is_dir() && name != STANDARD_INPUT => Kind::Folder,
@@ -33,7 +33,7 @@ impl Kind {
     }
 
     /// What an entry of a folder names: a folder, or a file with the name of a document. A link to
-    /// a folder is not followed, so that no folder is checked inside itself.
+    /// a folder is not followed, or a folder could be checked inside itself.
     fn of_entry(entry: &DirEntry) -> io::Result<Option<Kind>> {
         let name = entry.file_name();
         if entry.file_type()?.is_dir() {

@@ -20,7 +20,7 @@ pub struct Found {
     pub faults: u64,
 }
 
-/// Finds what is wrong in the document of a file. Fails only if memory was refused.
+/// Finds what is wrong in the document of a file. Fails only if out of memory.
 pub fn found_in(
     alloc: Global,
     options: &Options<'_>,

@@ -30,7 +30,7 @@ pub enum Refusal {
     /// Its JSON is no glTF document, because of what is at this place.
     #[error("JSON, but not a glTF document: {0}")]
     Member(Place),
-    /// Memory was refused.
+    /// Out of memory.
     #[error("out of memory")]
     Memory,
 }

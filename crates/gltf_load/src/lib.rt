@@ -1,6 +1,6 @@
-//! Loads what a document describes without bounds checks: its nodes as a forest (glTF 2.0, section
-//! 3.5.2), the scenes that list root nodes (section 3.5.1), and where the elements of an accessor
-//! lie (section 3.6.2). It requires no valid document.
+//! Loads documents without bounds checks (glTF 2.0): nodes as a forest (section 3.5.2), scenes that
+//! list root nodes (section 3.5.1), and the place of an accessor's elements (section 3.6.2). It
+//! requires no valid document.
 #![tactic(auto)]
 
 mod fault;

@@ -43,7 +43,7 @@ pub fn forest_of(alloc: Global, nodes: &[Node]) -> Result<Forest, HierarchyFault
     // A forest is found, unless it has too many nodes or memory is refused.
     ensures only { IsForest (children_named nodes.now) → length nodes.now < 2 ^ 32
         → IfErr result IsOutOfMemory }
-    // What the fault says is so.
+    // What the fault says is true.
     ensures fault { IfErr result (IsHierarchyFault (children_named nodes.now)) }
     // What the calls of a forest return.
     ensures order { IfOk result (λ f. IsParentsFirst (children_named nodes.now) (forest_order f)) }

@@ -25,7 +25,7 @@ pub fn span_of(
     // Elements that lie in the buffer are found.
     ensures only { (s : Span) → LieIn views.now buffers.now accessor.now s
         → result ≡ Ok (Some s) }
-    // What the fault says is so, and no earlier one is.
+    // What the fault says is true, and no earlier one is.
     ensures fault { IfErr result (IsLayoutFault views.now buffers.now accessor.now) }
 {
     let index = match accessor.buffer_view {

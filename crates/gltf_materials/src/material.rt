@@ -23,31 +23,31 @@ use gltf_textures::texture::{Info, Texture};
 use serde_json::Value;
 use std::alloc::Global;
 
-/// How a surface looks.
+/// The appearance of a surface (glTF 2.0, section 5.19).
 #[derive(Clone, Debug)]
 pub struct Material {
-    /// The alpha below which nothing is shown where `alpha_mode` is `Mask`; without it one half.
+    /// The alpha cutoff of the mode `Mask`; if absent, one half.
     pub alpha_cutoff: Option<AlphaCutoff>,
-    /// How the alpha of the base color is used.
+    /// The alpha rendering mode.
     pub alpha_mode: Checked<AlphaMode>,
-    /// Whether the back of the surface is shown too.
+    /// Whether back faces are rendered too.
     pub double_sided: bool,
     pub name: Option<String>,
     /// The parameters of the metallic-roughness model.
     pub pbr_metallic_roughness: PbrMetallicRoughness,
-    /// Normals in tangent space.
+    /// The tangent-space normal texture.
     pub normal_texture: Option<NormalTexture>,
-    /// How much indirect light reaches each point of the surface.
+    /// The occlusion texture.
     pub occlusion_texture: Option<OcclusionTexture>,
-    /// The color of the light that the surface emits.
+    /// The emissive texture.
     pub emissive_texture: Option<Info>,
-    /// The factors of that color.
+    /// The emissive factor.
     pub emissive_factor: EmissiveFactor,
     pub extensions: Option<extensions::material::Material>,
     pub extras: Extras,
 }
 
-// One call drops it, wherever it is held (docs/DECISIONS.md).
+// One call drops it, wherever it is held (docs/DECISIONS.md, "Large values").
 impl Drop for Material {
     fn drop(self) {
         let Material {
@@ -67,7 +67,7 @@ impl Drop for Material {
 }
 
 impl Material {
-    /// A material with every member at its default.
+    /// Returns a material with every member at its default.
     #[tactic(auto, unfolding(crate::specs::Material::material_rows, crate::specs::Material::material_members))]
     pub fn new() -> Material
         ensures { material_members result ≡ defaults material_rows }
@@ -87,7 +87,7 @@ impl Material {
         }
     }
 
-    /// The alpha below which nothing is shown, as a float, or [`AlphaCutoff::DEFAULT`].
+    /// Returns the alpha cutoff as a float, or [`AlphaCutoff::DEFAULT`] if it is absent.
     pub fn alpha_cutoff_value(&self) -> f64
         ensures { result
             ≡ float_or AlphaCutoff.DEFAULT (option_map (λ c. c.0) self.now.alpha_cutoff) }
@@ -166,21 +166,21 @@ impl Object for Material {
 /// The parameters of the metallic-roughness model.
 #[derive(Clone, Debug)]
 pub struct PbrMetallicRoughness {
-    /// The factors of the base color.
+    /// The base color factor.
     pub base_color_factor: PbrBaseColorFactor,
-    /// The base color.
+    /// The base color texture.
     pub base_color_texture: Option<Info>,
-    /// The factor of how metallic the surface is.
+    /// The factor of the metalness.
     pub metallic_factor: StrengthFactor,
-    /// The factor of how rough the surface is.
+    /// The factor of the roughness.
     pub roughness_factor: StrengthFactor,
-    /// How rough the surface is, in the green channel, and how metallic, in the blue one.
+    /// The texture with the roughness in its green channel and the metalness in its blue one.
     pub metallic_roughness_texture: Option<Info>,
     pub extensions: Option<extensions::material::PbrMetallicRoughness>,
     pub extras: Extras,
 }
 
-// One call drops it, wherever it is held (docs/DECISIONS.md).
+// One call drops it, wherever it is held (docs/DECISIONS.md, "Large values").
 impl Drop for PbrMetallicRoughness {
     fn drop(self) {
         let PbrMetallicRoughness {
@@ -196,7 +196,7 @@ impl Drop for PbrMetallicRoughness {
 }
 
 impl PbrMetallicRoughness {
-    /// Parameters with every member at its default.
+    /// Returns parameters with every member at its default.
     #[tactic(auto, unfolding(crate::specs::Material::pbr_metallic_roughness_rows, crate::specs::Material::pbr_metallic_roughness_members))]
     pub fn new() -> PbrMetallicRoughness
         ensures { pbr_metallic_roughness_members result ≡ defaults pbr_metallic_roughness_rows }
@@ -264,20 +264,20 @@ impl Blank for PbrMetallicRoughness {
     }
 }
 
-/// A reference to a texture of normals.
+/// A reference to a normal texture.
 #[derive(Clone, Debug)]
 pub struct NormalTexture {
     /// The texture.
     pub index: Index<Texture>,
-    /// The factor of a normal's first two components; `None` means 1.
+    /// The factor of the X and Y components of normals; `None` means 1.
     pub scale: Option<Real>,
-    /// Which set of texture coordinates is used: the number in `TEXCOORD_n`.
+    /// The set of texture coordinates: the number in `TEXCOORD_n`.
     pub tex_coord: u32,
     pub extensions: Option<extensions::material::NormalTexture>,
     pub extras: Extras,
 }
 
-// One call drops it, wherever it is held (docs/DECISIONS.md).
+// One call drops it, wherever it is held (docs/DECISIONS.md, "Large values").
 impl Drop for NormalTexture {
     fn drop(self) {
         let NormalTexture {
@@ -291,7 +291,7 @@ impl Drop for NormalTexture {
 }
 
 impl NormalTexture {
-    /// A reference to a texture, by the first set of texture coordinates.
+    /// Returns a reference to a texture, with the first set of texture coordinates.
     #[tactic(auto, unfolding(crate::specs::Material::normal_texture_rows, crate::specs::Material::normal_texture_members))]
     pub fn new(index: Index<Texture>) -> NormalTexture
         ensures { normal_texture_members result ≡ made normal_texture_rows (
@@ -360,20 +360,20 @@ impl Object for NormalTexture {
     }
 }
 
-/// A reference to a texture of occlusion.
+/// A reference to an occlusion texture.
 #[derive(Clone, Debug)]
 pub struct OcclusionTexture {
     /// The texture.
     pub index: Index<Texture>,
-    /// How much of the occlusion is applied.
+    /// The strength of the occlusion.
     pub strength: StrengthFactor,
-    /// Which set of texture coordinates is used: the number in `TEXCOORD_n`.
+    /// The set of texture coordinates: the number in `TEXCOORD_n`.
     pub tex_coord: u32,
     pub extensions: Option<extensions::material::OcclusionTexture>,
     pub extras: Extras,
 }
 
-// One call drops it, wherever it is held (docs/DECISIONS.md).
+// One call drops it, wherever it is held (docs/DECISIONS.md, "Large values").
 impl Drop for OcclusionTexture {
     fn drop(self) {
         let OcclusionTexture {
@@ -387,7 +387,7 @@ impl Drop for OcclusionTexture {
 }
 
 impl OcclusionTexture {
-    /// A reference to a texture, by the first set of texture coordinates.
+    /// Returns a reference to a texture, with the first set of texture coordinates.
     #[tactic(auto, unfolding(crate::specs::Material::occlusion_texture_rows, crate::specs::Material::occlusion_texture_members))]
     pub fn new(index: Index<Texture>) -> OcclusionTexture
         ensures { occlusion_texture_members result ≡ made occlusion_texture_rows (
@@ -443,7 +443,7 @@ impl Object for OcclusionTexture {
     }
 }
 
-/// The alpha below which nothing is shown.
+/// An alpha cutoff: what has less alpha isn't rendered.
 #[derive(Clone, Debug, Drop)]
 pub struct AlphaCutoff(pub Real);
 
@@ -481,7 +481,7 @@ impl Schema for AlphaCutoff {
     }
 }
 
-/// The factors of an emitted color: red, green, blue; `None` means zeros.
+/// An emissive factor: red, green, blue; `None` means zeros.
 #[derive(Clone, Debug, Default, Drop)]
 pub struct EmissiveFactor(pub Option<[Real; 3]>);
 
@@ -506,7 +506,7 @@ impl Tabled for EmissiveFactor {
     ghost tree = { λ factor. tree_or_absent reals_tree factor.0 };
 }
 
-/// The factors of a base color: red, green, blue, alpha; `None` means ones.
+/// A base color factor: red, green, blue, alpha; `None` means ones.
 #[derive(Clone, Debug, Default, Drop)]
 pub struct PbrBaseColorFactor(pub Option<[Real; 4]>);
 

@@ -20,20 +20,20 @@ use gltf_materials::material::Material;
 use gltf_schema::{Object, ReadRows, WriteRows};
 use std::collections::BTreeMap;
 
-/// Geometry that nodes place in a scene.
-// What takes longest to drop comes last (docs/DECISIONS.md).
+/// A set of primitives to render (glTF 2.0, section 5.23).
+// What takes longest to drop comes last (docs/DECISIONS.md, "Order of fields").
 #[derive(Clone, Debug)]
 pub struct Mesh {
     pub name: Option<String>,
-    /// How much of each morph target is added.
+    /// The weights of the morph targets.
     pub weights: Option<Vec<Real>>,
-    /// The parts of the mesh; each is drawn by itself.
+    /// The primitives, each of which is rendered by itself.
     pub primitives: Vec<Primitive>,
     pub extensions: Option<extensions::mesh::Mesh>,
     pub extras: Extras,
 }
 
-// One call drops it, wherever it is held (docs/DECISIONS.md).
+// One call drops it, wherever it is held (docs/DECISIONS.md, "Large values").
 impl Drop for Mesh {
     fn drop(self) {
         let Mesh {
@@ -47,7 +47,7 @@ impl Drop for Mesh {
 }
 
 impl Mesh {
-    /// A mesh of these parts.
+    /// Returns a mesh of these primitives.
     #[tactic(auto, unfolding(crate::specs::Mesh::mesh_rows, crate::specs::Mesh::mesh_members))]
     pub fn new(primitives: Vec<Primitive>) -> Mesh
         ensures { mesh_members result ≡ made mesh_rows ((
@@ -109,26 +109,25 @@ impl Object for Mesh {
     }
 }
 
-/// A part of a mesh: what is drawn at once, with one material.
-// What takes longest to drop comes last (docs/DECISIONS.md).
+/// Geometry to render with one material (glTF 2.0, section 5.24).
+// What takes longest to drop comes last (docs/DECISIONS.md, "Order of fields").
 #[derive(Clone, Debug, Drop)]
 pub struct Primitive {
-    /// The numbers of the vertices in drawing order; without it all vertices are drawn, in the
-    /// order in which they lie.
+    /// The vertex indices; if absent, the vertices are rendered in their order.
     pub indices: Option<Index<Accessor>>,
     pub material: Option<Index<Material>>,
-    /// What the vertices are drawn as.
+    /// The topology type.
     pub mode: Checked<Mode>,
-    /// The data of the vertices, by what it means.
+    /// The vertex attributes, by semantic.
     pub attributes: BTreeMap<Checked<Semantic>, Index<Accessor>>,
-    /// What can be added to the attributes, by the mesh's weights.
+    /// The morph targets.
     pub targets: Option<Vec<MorphTarget>>,
     pub extensions: Option<extensions::mesh::Primitive>,
     pub extras: Extras,
 }
 
 impl Primitive {
-    /// Triangles of vertices with this data.
+    /// Returns a primitive of triangles with these attributes.
     #[tactic(auto, unfolding(crate::specs::Mesh::primitive_rows, crate::specs::Mesh::primitive_members))]
     pub fn new(attributes: BTreeMap<Checked<Semantic>, Index<Accessor>>) -> Primitive
         ensures { primitive_members result ≡ made primitive_rows (
@@ -194,19 +193,19 @@ impl Object for Primitive {
     }
 }
 
-/// What a morph target adds to each vertex.
+/// A morph target: displacements of vertex attributes.
 #[derive(Clone, Debug, Drop)]
 pub struct MorphTarget {
-    /// What is added to `POSITION`.
+    /// The displacements of `POSITION`.
     pub positions: Option<Index<Accessor>>,
-    /// What is added to `NORMAL`.
+    /// The displacements of `NORMAL`.
     pub normals: Option<Index<Accessor>>,
-    /// What is added to `TANGENT`.
+    /// The displacements of `TANGENT`.
     pub tangents: Option<Index<Accessor>>,
 }
 
 impl MorphTarget {
-    /// A target that adds nothing.
+    /// Returns a morph target without displacements.
     #[tactic(auto, unfolding(crate::specs::Mesh::morph_target_rows, crate::specs::Mesh::morph_target_members))]
     pub fn new() -> MorphTarget
         ensures { morph_target_members result ≡ defaults morph_target_rows }

@@ -18,11 +18,11 @@ use gltf_base::{Listed, Real};
 use gltf_data::extras::Extras;
 use gltf_schema::{Object, ReadRows, WriteRows};
 
-/// How a scene is seen from a node.
-// What takes longest to drop comes last (docs/DECISIONS.md).
+/// A camera's projection (glTF 2.0, section 5.12).
+// What takes longest to drop comes last (docs/DECISIONS.md, "Order of fields").
 #[derive(Clone, Debug)]
 pub struct Camera {
-    /// How the camera projects.
+    /// Whether the projection is perspective or orthographic.
     pub type_: Checked<CameraType>,
     pub name: Option<String>,
     pub extensions: Option<extensions::camera::Camera>,
@@ -33,7 +33,7 @@ pub struct Camera {
     pub perspective: Option<Perspective>,
 }
 
-// One call drops it, wherever it is held (docs/DECISIONS.md).
+// One call drops it, wherever it is held (docs/DECISIONS.md, "Large values").
 impl Drop for Camera {
     fn drop(self) {
         let Camera {
@@ -48,7 +48,7 @@ impl Drop for Camera {
 }
 
 impl Camera {
-    /// A camera of type `Perspective`.
+    /// Returns a camera with a perspective projection.
     #[tactic(auto, unfolding(crate::specs::Camera::camera_rows, crate::specs::Camera::camera_members))]
     pub fn perspective(projection: Perspective) -> Camera
         ensures { camera_members result ≡ made camera_rows (
@@ -66,7 +66,7 @@ impl Camera {
         }
     }
 
-    /// A camera of type `Orthographic`.
+    /// Returns a camera with an orthographic projection.
     #[tactic(auto, unfolding(crate::specs::Camera::camera_rows, crate::specs::Camera::camera_members))]
     pub fn orthographic(projection: Orthographic) -> Camera
         ensures { camera_members result ≡ made camera_rows (
@@ -133,23 +133,23 @@ impl Object for Camera {
     }
 }
 
-/// A projection without perspective.
+/// An orthographic projection (glTF 2.0, section 5.13).
 #[derive(Clone, Debug, Drop)]
 pub struct Orthographic {
-    /// Half of the width that is seen, in meters.
+    /// The horizontal magnification: half of the visible width, in meters.
     pub xmag: Real,
-    /// Half of the height that is seen, in meters.
+    /// The vertical magnification: half of the visible height, in meters.
     pub ymag: Real,
-    /// How far away the last is that is seen, in meters.
+    /// The distance to the far clipping plane, in meters.
     pub zfar: Real,
-    /// How far away the first is that is seen, in meters.
+    /// The distance to the near clipping plane, in meters.
     pub znear: Real,
     pub extensions: Option<extensions::camera::Orthographic>,
     pub extras: Extras,
 }
 
 impl Orthographic {
-    /// Half of the width and half of the height that is seen, and its far and near ends.
+    /// Returns a projection with these magnifications and clipping planes.
     #[tactic(auto, unfolding(crate::specs::Camera::orthographic_rows, crate::specs::Camera::orthographic_members))]
     pub fn new(xmag: Real, ymag: Real, zfar: Real, znear: Real) -> Orthographic
         ensures { orthographic_members result ≡ made orthographic_rows (
@@ -212,23 +212,23 @@ impl Object for Orthographic {
     }
 }
 
-/// A projection with perspective.
+/// A perspective projection (glTF 2.0, section 5.14).
 #[derive(Clone, Debug, Drop)]
 pub struct Perspective {
-    /// The width of the view divided by its height; without it that of the viewport.
+    /// The aspect ratio: width divided by height; if absent, that of the viewport.
     pub aspect_ratio: Option<Real>,
-    /// The angle of the view from top to bottom, in radians.
+    /// The vertical field of view, in radians.
     pub yfov: Real,
-    /// How far away the far end of the view is, in meters; without it there is none.
+    /// The distance to the far clipping plane, in meters; if absent, it is infinite.
     pub zfar: Option<Real>,
-    /// How far away the near end of the view is, in meters.
+    /// The distance to the near clipping plane, in meters.
     pub znear: Real,
     pub extensions: Option<extensions::camera::Perspective>,
     pub extras: Extras,
 }
 
 impl Perspective {
-    /// The angle of the view from top to bottom, and where it begins; it has no end.
+    /// Returns a projection with an infinite far distance.
     #[tactic(auto, unfolding(crate::specs::Camera::perspective_rows, crate::specs::Camera::perspective_members))]
     pub fn new(yfov: Real, znear: Real) -> Perspective
         ensures { perspective_members result ≡ made perspective_rows (

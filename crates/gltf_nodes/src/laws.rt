@@ -8,7 +8,7 @@ ghost use Rattle.gltf_nodes.specs.Scene.{unit_quaternion_tree, no_rotation};
 use crate::extensions::scene::khr_lights_punctual::{Light, Spot};
 use crate::scene::{Node, UnitQuaternion};
 
-/// A quaternion turns nothing by default.
+/// The default quaternion is the identity rotation.
 pub fn quaternions_turn_nothing_by_default()
     ensures { (q : _) → ⟦<UnitQuaternion as Default>⟧.is_default q
         → unit_quaternion_tree q ≡ no_rotation }

@@ -21,32 +21,32 @@ use gltf_schema::{Error, Object, ReadRows, Refusal, Schema, Source, Tabled, Writ
 use serde_json::Value;
 use std::alloc::Global;
 
-/// A place in the hierarchy of a scene, and what is there.
-// What takes longest to drop comes last (docs/DECISIONS.md).
+/// A node in the node hierarchy (glTF 2.0, section 5.25).
+// What takes longest to drop comes last (docs/DECISIONS.md, "Order of fields").
 #[derive(Clone, Debug)]
 pub struct Node {
     pub camera: Option<Index<Camera>>,
     pub mesh: Option<Index<Mesh>>,
-    /// The skin that the mesh follows.
+    /// The skin of the mesh.
     pub skin: Option<Index<Skin>>,
     pub name: Option<String>,
-    /// The nodes that move with this one.
+    /// The child nodes.
     pub children: Option<Vec<Index<Node>>>,
-    /// How much of each morph target of the mesh is added; without it the mesh's own weights hold.
+    /// The weights of the mesh's morph targets; if absent, those of the mesh apply.
     pub weights: Option<Vec<Real>>,
-    /// The place of the node in its parent, as a matrix by columns.
+    /// The local transform, as a 4x4 matrix in column-major order.
     pub matrix: Option<[Real; 16]>,
-    /// How the node is turned in its parent.
+    /// The local rotation.
     pub rotation: Option<UnitQuaternion>,
-    /// How the node is scaled in its parent, along the axes.
+    /// The local scale along the axes.
     pub scale: Option<[Real; 3]>,
-    /// How far the node is moved in its parent, along the axes, in meters.
+    /// The local translation along the axes, in meters.
     pub translation: Option<[Real; 3]>,
     pub extensions: Option<extensions::scene::Node>,
     pub extras: Extras,
 }
 
-// One call drops it, wherever it is held (docs/DECISIONS.md).
+// One call drops it, wherever it is held (docs/DECISIONS.md, "Large values").
 impl Drop for Node {
     fn drop(self) {
         let Node {
@@ -67,7 +67,7 @@ impl Drop for Node {
 }
 
 impl Node {
-    /// A node with every member at its default.
+    /// Returns a node with every member at its default.
     #[tactic(auto, unfolding(crate::specs::Scene::node_rows, crate::specs::Scene::node_members))]
     pub fn new() -> Node
         ensures { node_members result ≡ defaults node_rows }
@@ -193,18 +193,18 @@ impl Object for Node {
     }
 }
 
-/// The nodes that are shown together.
-// What takes longest to drop comes last (docs/DECISIONS.md).
+/// The root nodes of a scene (glTF 2.0, section 5.27).
+// What takes longest to drop comes last (docs/DECISIONS.md, "Order of fields").
 #[derive(Clone, Debug)]
 pub struct Scene {
     pub name: Option<String>,
-    /// The roots of the scene's hierarchies.
+    /// The root nodes.
     pub nodes: Vec<Index<Node>>,
     pub extensions: Option<extensions::scene::Scene>,
     pub extras: Extras,
 }
 
-// One call drops it, wherever it is held (docs/DECISIONS.md).
+// One call drops it, wherever it is held (docs/DECISIONS.md, "Large values").
 impl Drop for Scene {
     fn drop(self) {
         let Scene {
@@ -217,7 +217,7 @@ impl Drop for Scene {
 }
 
 impl Scene {
-    /// A scene of the hierarchies below these nodes.
+    /// Returns a scene with these root nodes.
     #[tactic(auto, unfolding(crate::specs::Scene::scene_rows, crate::specs::Scene::scene_members))]
     pub fn new(nodes: Vec<Index<Node>>) -> Scene
         ensures { scene_members result ≡ made scene_rows (
@@ -273,7 +273,7 @@ impl Object for Scene {
     }
 }
 
-/// A rotation as a quaternion of length 1: x, y, z, w.
+/// A rotation as a unit quaternion: x, y, z, w.
 #[derive(Clone, Debug, Drop)]
 pub struct UnitQuaternion(pub [Real; 4]);
 
@@ -290,7 +290,7 @@ impl UnitQuaternion {
 impl Default for UnitQuaternion {
     ghost is_default = { λ q. unit_quaternion_tree q ≡ no_rotation };
 
-    /// The rotation that turns nothing.
+    /// Returns the identity rotation.
     fn default() -> UnitQuaternion {
         UnitQuaternion([
             Real::from_i64(0),

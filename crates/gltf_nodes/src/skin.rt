@@ -1,4 +1,4 @@
-//! Skins: meshes that follow a skeleton (glTF 2.0, section 5.28).
+//! Skins: joints and their inverse bind matrices (glTF 2.0, section 5.28).
 
 ghost use Rattle.std.specs.Prelude.{◌≡◌, [], ◌∷◌, false, codes};
 ghost use Rattle.std.proofs.Common.{lit≤};
@@ -15,23 +15,22 @@ use gltf_data::accessor::Accessor;
 use gltf_data::extras::Extras;
 use gltf_schema::{Object, ReadRows, WriteRows};
 
-/// The joints that the vertices of a mesh follow.
-// What takes longest to drop comes last (docs/DECISIONS.md).
+/// The joints and matrices for skinning a mesh (glTF 2.0, section 5.28).
+// What takes longest to drop comes last (docs/DECISIONS.md, "Order of fields").
 #[derive(Clone, Debug)]
 pub struct Skin {
-    /// The matrices that bring vertices into the space of each joint; without it each is the
-    /// identity.
+    /// The inverse bind matrix of each joint; if absent, each is the identity.
     pub inverse_bind_matrices: Option<Index<Accessor>>,
-    /// The node that is the root of the skeleton.
+    /// The root node of the skeleton.
     pub skeleton: Option<Index<Node>>,
     pub name: Option<String>,
-    /// The nodes that vertices follow, in the order in which vertices name them.
+    /// The joint nodes, in the order by which vertices refer to them.
     pub joints: Vec<Index<Node>>,
     pub extensions: Option<extensions::skin::Skin>,
     pub extras: Extras,
 }
 
-// One call drops it, wherever it is held (docs/DECISIONS.md).
+// One call drops it, wherever it is held (docs/DECISIONS.md, "Large values").
 impl Drop for Skin {
     fn drop(self) {
         let Skin {
@@ -46,7 +45,7 @@ impl Drop for Skin {
 }
 
 impl Skin {
-    /// A skin of these joints.
+    /// Returns a skin with these joints.
     #[tactic(auto, unfolding(crate::specs::Scene::skin_rows, crate::specs::Scene::skin_members))]
     pub fn new(joints: Vec<Index<Node>>) -> Skin
         ensures { skin_members result ≡ made skin_rows (

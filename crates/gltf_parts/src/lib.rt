@@ -8,7 +8,7 @@ pub use gltf_schema::{
     ReadRows, Reading, Refusal, Schema, Source, Tabled, Tokens, Unlisted, WriteRows, Writing,
 };
 
-/// Accessors: how the data of a view is read as elements.
+/// Accessors: typed views into buffer views.
 pub mod accessor {
     pub use gltf_base::accessor::{
         AccessorType, BYTE, ComponentType, FLOAT, GenericComponentType, IndexComponentType, SHORT,
@@ -23,7 +23,7 @@ pub mod accessor {
     }
 }
 
-/// Buffers and their views: the bytes behind a document.
+/// Buffers and buffer views.
 pub mod buffer {
     pub use gltf_base::buffer::{
         ARRAY_BUFFER, ELEMENT_ARRAY_BUFFER, MAX_BYTE_STRIDE, MIN_BYTE_STRIDE, Target, VALID_TARGETS,
@@ -33,27 +33,27 @@ pub mod buffer {
 
 /// Extension objects: the values of an object's member `extensions`.
 pub mod extensions {
-    /// Those of accessors.
+    /// Extension objects of accessors.
     pub mod accessor {
         pub use gltf_data::extensions::accessor::Accessor;
 
-        /// Those of their sparse storage.
+        /// Extension objects of sparse storage.
         pub mod sparse {
             pub use gltf_data::extensions::accessor::sparse::{Indices, Sparse, Values};
         }
     }
 
-    /// Those of buffers and their views.
+    /// Extension objects of buffers and their views.
     pub mod buffer {
         pub use gltf_data::extensions::buffer::{Buffer, View};
     }
 
-    /// Those of images.
+    /// Extension objects of images.
     pub mod image {
         pub use gltf_data::extensions::image::Image;
     }
 
-    /// Those of materials and of their references to textures.
+    /// Extension objects of materials and of their references to textures.
     pub mod material {
         pub use gltf_shading::extensions::material::{
             AttenuationColor, AttenuationDistance, EmissiveStrength, EmissiveStrengthFactor,
@@ -64,7 +64,7 @@ pub mod extensions {
         };
     }
 
-    /// Those of textures, their samplers and the references to them.
+    /// Extension objects of textures, their samplers and the references to textures.
     pub mod texture {
         pub use gltf_textures::extensions::texture::{
             Info, Sampler, Texture, TextureTransform, TextureTransformOffset,
@@ -73,7 +73,7 @@ pub mod extensions {
     }
 }
 
-/// What an application adds to an object.
+/// Application-specific data.
 pub mod extras {
     pub use gltf_data::extras::{Extras, Void};
 }
@@ -84,7 +84,7 @@ pub mod image {
     pub use gltf_data::image::{Image, MimeType};
 }
 
-/// What holds of the table and of the objects, as contracts of functions that do nothing.
+/// Laws of the table and of the objects, each the contract of a function that does nothing.
 pub mod laws {
     pub use gltf_data::laws::strides_are_compared_as_numbers;
     pub use gltf_schema::laws::{
@@ -94,17 +94,17 @@ pub mod laws {
         written_trees_hold_nothing_invalid,
     };
 
-    /// Of the factors of materials.
+    /// Laws of the factors of materials.
     pub mod material {
         pub use gltf_materials::laws::{defaults_are_listed, factors_are_absent_by_default};
     }
 
-    /// Of the factors of materials' extensions.
+    /// Laws of the factors of materials' extensions.
     pub mod shading {
         pub use gltf_shading::laws::{defaults_are_listed, factors_are_absent_by_default};
     }
 
-    /// Of the factors of textures' extensions.
+    /// Laws of the factors of textures' extensions.
     pub mod texture {
         pub use gltf_textures::laws::{defaults_are_listed, factors_are_absent_by_default};
     }

@@ -1,4 +1,4 @@
--- The text, the code and the rank of each error that validation reports.
+-- The text, the code and the rank of each fault.
 use Rattle.std.specs.Prelude.{ℕ, List, codes}
 use Rattle.gltf_paths.specs.declared.validation.Error.{Error}
 use Rattle.gltf_paths.specs.declared.validation.Error.TheVariants.{IndexOutOfBounds, Invalid, Missing, Oversize, Unsupported}
@@ -10,7 +10,7 @@ error_text Missing = codes "Missing data"
 error_text Oversize = codes "Size exceeds system limits"
 error_text Unsupported = codes "Unsupported extension"
 
--- the name of the error for machines
+-- the name of the fault for machines
 abbrev pub error_code : Error → List ℕ
 error_code IndexOutOfBounds = codes "index-out-of-bounds"
 error_code Invalid = codes "invalid"
@@ -18,7 +18,7 @@ error_code Missing = codes "missing"
 error_code Oversize = codes "oversize"
 error_code Unsupported = codes "unsupported"
 
--- the place of the error in the order of errors
+-- the place of the fault in the order of faults
 abbrev pub error_rank : Error → ℕ
 error_rank IndexOutOfBounds = 0
 error_rank Invalid = 1

@@ -6,22 +6,20 @@ use std::fmt;
 /// Why a document could not be read or written. It has the kind only, and not the place.
 #[derive(Debug, Drop)]
 pub enum Error {
-    /// The bytes are no JSON: a fault of syntax, an early end, nesting past 127 levels, or no
+    /// The bytes are no JSON: a syntax error, an early end, nesting past 127 levels, or invalid
     /// UTF-8.
     Json,
     /// The JSON is no glTF document.
     Schema,
-    /// An item of a choice, or the key of an attribute, was to be written that is none of its
-    /// values.
+    /// The document holds an invalid enum value or attribute name.
     InvalidItem,
     /// The reader failed.
     Read,
     /// The writer failed, or took no byte.
     Write,
-    /// A growth was refused.
+    /// Out of memory.
     Memory(AllocError),
-    /// The reader gave more bytes than the limits allow, or not its end in the calls that they
-    /// allow.
+    /// The input is longer than the limits allow, in bytes or in calls of the reader.
     TooLong,
 }
 

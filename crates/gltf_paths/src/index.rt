@@ -21,11 +21,11 @@ impl<T: Listed + 'static> Names for *const T {
     type Item = T;
 }
 
-/// The place of a `T` in the document's list of them.
+/// An index into the document's list of `T`.
 pub type Index<T> = IndexTo<*const T>;
 
-/// A place in a list. It names what the list holds as behind a pointer, so that a node may hold
-/// indexes of nodes. No pointer is ever made.
+/// An index into a list. It names what the list holds behind a pointer type, because a node may
+/// hold indexes of nodes. No pointer is ever made.
 #[derive_where(Clone, Copy, PartialEq, Eq, PartialOrd, Ord, Hash)]
 pub struct IndexTo<P>(u32, PhantomData<P>);
 
@@ -40,22 +40,23 @@ impl<T> Index<T> {
     ghost use Rattle.gltf_paths.specs.Indexes.{index_number};
     ghost use Rattle.gltf_paths.specs.Pushes.{IsHandedBack};
 
-    /// The index that a number is.
+    /// Returns the index with this number.
     pub fn new(number: u32) -> Index<T>
         ensures { index_number result ≡ number }
     {
         IndexTo::from_number(number)
     }
 
-    /// The index as a place in a slice.
+    /// Returns the number as a `usize`, to index a slice.
     pub fn value(&self) -> usize
         ensures { result ≡ index_number self.now }
     {
         self.0 as usize
     }
 
-    /// Appends an item to its list, and returns its index. `Full` comes for a list of 4294967295
-    /// items or more, before any memory is taken; `Memory` where the list could not grow.
+    /// Appends an item to its list, and returns its index. Fails with `Full` if the list has
+    /// 4294967295 items or more, before any memory is taken, and with `Memory` if the list can't
+    /// grow.
     pub fn push(list: &mut Vec<T>, item: T) -> Result<Index<T>, PushError<T>>
         ensures pushed { IfOk result (λ index. (index_number index ≡ vec_len list.old)
             × (list.new.items ≡ list.old.items ++ item ∷ [])) }
@@ -74,12 +75,12 @@ impl<T> Index<T> {
     }
 }
 
-/// Why an item was not appended; each kind hands it back.
+/// Why an item was not appended; each case hands it back.
 #[derive(Debug, Drop)]
 pub enum PushError<T> {
     /// The list has 4294967295 items or more.
     Full(T),
-    /// There was no memory for one more item.
+    /// Out of memory.
     Memory(T),
 }
 
@@ -102,14 +103,14 @@ impl<T: Debug + Drop> std::error::Error for PushError<T> {}
 impl<P> IndexTo<P> {
     ghost use Rattle.gltf_paths.specs.Indexes.{index_number};
 
-    /// The index that a number is, whatever it goes into.
+    /// Returns the index with this number, into any list.
     pub fn from_number(number: u32) -> IndexTo<P>
         ensures { index_number result ≡ number }
     {
         IndexTo(number, PhantomData)
     }
 
-    /// The number of the index, whatever it goes into.
+    /// Returns the number of the index, into any list.
     pub fn number(&self) -> u32
         ensures { result ≡ index_number self.now }
     {

@@ -30,7 +30,7 @@ pub fn indexes_are_compared_as_numbers<P>()
         → ⟦<IndexTo<P> as Hash>⟧.hash_input i ≡ ⟦<u32 as Hash>⟧.hash_input (index_number i) }
 {}
 
-/// Errors are in the order in which they are declared.
+/// Faults are in the order in which they are declared.
 pub fn errors_are_ordered_by_rank()
     ensures order { (a b : AnError)
         → ⟦<Error as Ord>⟧.cmp a b ≡ nat_cmp (error_rank a) (error_rank b) }
@@ -38,12 +38,12 @@ pub fn errors_are_ordered_by_rank()
         → ⟦<Error as PartialEq>⟧.eq a b ≡ (error_rank a == error_rank b) }
 {}
 
-/// Errors with the same code are the same.
+/// Faults with the same code are the same.
 pub fn codes_tell_errors_apart()
     ensures { (a b : AnError) → error_code a ≡ error_code b → a ≡ b }
 {}
 
-/// Sizes are equal where their numbers are.
+/// Sizes are equal if their numbers are.
 pub fn sizes_are_compared_as_numbers()
     ensures equality { (a b : ASize) → ⟦<USize64 as PartialEq>⟧.eq a b ≡ (a.0 == b.0) }
     ensures hash { (a : ASize) → ⟦<USize64 as Hash>⟧.hash_input a ≡ ⟦<u64 as Hash>⟧.hash_input a.0 }

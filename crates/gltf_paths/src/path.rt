@@ -39,11 +39,11 @@ impl Default for Step<'_> {
 /// The steps from a root to a place.
 pub type Steps<'a> = ArrayVec<Step<'a>, 16>;
 
-/// A key of a map, as a step.
+/// A key of a map, and the step to its entry.
 pub trait KeyStep {
     ghost key_text: { Self → List ℕ };
 
-    /// The step to the entry of this key.
+    /// Returns the step to the entry of this key.
     fn key_step(&self) -> Step<'_>
         ensures { step_of result ≡ key (key_text self.now) };
 }
@@ -74,15 +74,15 @@ impl KeyStep for Checked<Semantic> {
 pub struct Path(pub String);
 
 impl Path {
-    /// The text of the steps, applied from the left to the empty path. Here and in the calls below
-    /// `Err` comes only where memory was refused.
+    /// Returns the path of the steps, from the left. This and the calls below fail only if out of
+    /// memory.
     pub fn of(alloc: Global, steps: &Steps<'_>) -> Result<Path, AllocError>
         ensures { IfOk result (λ path. string_bytes path.0 ≡ path_text (steps_of steps.now)) }
     {
         Path::of_steps(alloc, steps.as_slice())
     }
 
-    /// The text of steps in a slice, as [`Path::of`].
+    /// Returns the path of steps in a slice, as [`Path::of`] does.
     pub fn of_steps(alloc: Global, steps: &[Step<'_>]) -> Result<Path, AllocError>
         ensures { IfOk result (λ path. string_bytes path.0 ≡ path_text (map step_of steps.now)) }
     {
@@ -93,14 +93,14 @@ impl Path {
         Ok(Path(written))
     }
 
-    /// The path of no steps.
+    /// Returns the path of no steps.
     pub fn new(alloc: Global) -> Path
         ensures { string_bytes result.0 ≡ [] }
     {
         Path(String::new(alloc))
     }
 
-    /// The path to a member of an object.
+    /// Returns the path to a member of the object at this path.
     pub fn field(&self, alloc: Global, name: &str) -> Result<Path, AllocError>
         ensures { IfOk result (λ path. string_bytes path.0
             ≡ text_with (string_bytes self.now.0) (field name.now)) }
@@ -108,7 +108,7 @@ impl Path {
         self.with(alloc, Step::Field(name))
     }
 
-    /// The path to an item of a list.
+    /// Returns the path to an item of the list at this path.
     pub fn index(&self, alloc: Global, n: usize) -> Result<Path, AllocError>
         ensures { IfOk result (λ path. string_bytes path.0
             ≡ text_with (string_bytes self.now.0) (item n)) }
@@ -116,7 +116,7 @@ impl Path {
         self.with(alloc, Step::Index(n))
     }
 
-    /// The path to an entry of a map. Nothing in the key is escaped.
+    /// Returns the path to an entry of the map at this path. Nothing in the key is escaped.
     pub fn key(&self, alloc: Global, k: &str) -> Result<Path, AllocError>
         ensures { IfOk result (λ path. string_bytes path.0
             ≡ text_with (string_bytes self.now.0) (key k.now)) }
@@ -124,7 +124,7 @@ impl Path {
         self.with(alloc, Step::Key(k))
     }
 
-    /// The path that also names the value at its end. Nothing in the value is escaped.
+    /// Returns the path that also names the value at its end. Nothing in the value is escaped.
     pub fn value_str(&self, alloc: Global, v: &str) -> Result<Path, AllocError>
         ensures { IfOk result (λ path. string_bytes path.0
             ≡ text_with (string_bytes self.now.0) (value v.now)) }
@@ -132,7 +132,7 @@ impl Path {
         self.with(alloc, Step::Value(v))
     }
 
-    /// The text of the path.
+    /// Returns the text of the path.
     pub fn as_str(&self) -> &str
         ensures { result.now ≡ string_bytes self.now.0 }
     {

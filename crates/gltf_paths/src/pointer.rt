@@ -13,7 +13,7 @@ impl Path {
     /// Returns the JSON pointer (RFC 6901) to the place at the end of the steps, such as
     /// `/accessors/0/bufferView`. In a name or a key `~` becomes `~0`, and `/` becomes `~1`. A step
     /// to a value adds nothing, since the pointer is that of the place which holds it. Fails only
-    /// if memory was refused.
+    /// if out of memory.
     pub fn pointer_of(alloc: Global, steps: &Steps<'_>) -> Result<String, AllocError>
         ensures { IfOk result (λ pointer. string_bytes pointer
             ≡ pointer_text (steps_of steps.now)) }
@@ -21,7 +21,7 @@ impl Path {
         Path::pointer_of_steps(alloc, steps.as_slice())
     }
 
-    /// Returns the JSON pointer of steps in a slice, as [`Path::pointer_of`].
+    /// Returns the JSON pointer of steps in a slice, as [`Path::pointer_of`] does.
     pub fn pointer_of_steps(alloc: Global, steps: &[Step<'_>]) -> Result<String, AllocError>
         ensures { IfOk result (λ pointer. string_bytes pointer
             ≡ pointer_text (map step_of steps.now)) }

@@ -7,7 +7,7 @@ ghost use Rattle.serde_json.specs.View.{view};
 use serde_json::{Number, Value};
 use std::alloc::AllocError;
 
-/// A JSON number, carried untouched.
+/// A JSON number, kept as it was read.
 #[derive(Debug)]
 pub struct Real {
     value: Value,
@@ -19,7 +19,7 @@ impl Real {
     ghost use Rattle.serde_json.specs.Find.{of_integer, of_float, to_float};
     ghost use Rattle.gltf_paths.specs.Reals.{real_value, real_number};
 
-    /// The number that a value is; a value that is none is handed back.
+    /// Returns the number if the value is one, and otherwise hands the value back.
     pub fn from_value(value: Value) -> Result<Real, Value>
         ensures number { IfOk result (λ x. real_value x ≡ value) }
         ensures is_number { IfOk result (λ x. as_number (view value) ≡ Some (real_number x)) }
@@ -32,7 +32,7 @@ impl Real {
         }
     }
 
-    /// A whole number.
+    /// Returns a whole number.
     pub fn from_i64(number: i64) -> Real
         ensures { real_number result ≡ of_integer number }
     {
@@ -41,7 +41,7 @@ impl Real {
         }
     }
 
-    /// A number from a float; `None` if the float is infinite or NaN, which JSON can't write.
+    /// Returns the number, or `None` if it is infinite or NaN, which JSON can't write.
     pub fn from_f64(number: f64) -> Option<Real>
         ensures { option_map real_number result ≡ of_float number }
     {
@@ -53,7 +53,7 @@ impl Real {
         }
     }
 
-    /// The number held, as the nearest float.
+    /// Returns the nearest float.
     pub fn as_f64(&self) -> f64
         ensures { result ≡ to_float (real_number self.now) }
     {
@@ -64,7 +64,7 @@ impl Real {
         }
     }
 
-    /// The number held, as a value.
+    /// Returns the number as a JSON value.
     pub fn as_value(&self) -> &Value
         ensures held { result.now ≡ real_value self.now }
         ensures is_number { as_number (view result.now) ≡ Some (real_number self.now) }
@@ -73,7 +73,8 @@ impl Real {
     }
 }
 
-// One call drops it, wherever it is held: only here are the six kinds of a value told apart.
+// One call drops it, wherever it is held (docs/DECISIONS.md, "Large values"). Only here are the six
+// kinds of a JSON value tested for.
 impl Drop for Real {
     fn drop(self) {
         let Real { value: _ } = self;

@@ -1,18 +1,18 @@
-//! What is wrong at a place of a document, and numbers of bytes or items.
+//! Faults of a document, and numbers of bytes or items.
 
 ghost use Rattle.std.specs.Prelude.{◌≡◌};
 
 use std::fmt::{self, Display, Formatter, Write};
 
-/// What is wrong at a place of a document.
+/// A fault: what is wrong with a value of a document.
 #[derive(Clone, Copy, Debug, PartialEq, Eq, PartialOrd, Ord, Hash)]
 pub enum Error {
     /// An index past the end of its list.
     IndexOutOfBounds,
-    /// A value that the specification doesn't list, a stride that is too short or too long, or a
-    /// bound of positions that isn't three numbers.
+    /// A value that the specification doesn't list, a stride that is too short or too long, or
+    /// bounds of positions that aren't three numbers.
     Invalid,
-    /// Data that the specification asks for, and that isn't there.
+    /// Required data that is missing.
     Missing,
     /// A size past what the machine can address. It is never reported, since `usize` has 64 bits.
     Oversize,
@@ -23,8 +23,8 @@ pub enum Error {
 impl Error {
     ghost use Rattle.gltf_paths.specs.Errors.{error_code};
 
-    /// Returns a name of the error for machines, in lowercase letters and hyphens. Each error has a
-    /// name of its own.
+    /// Returns a name of the fault for machines, in lowercase letters and hyphens. Each fault has
+    /// its own.
     pub fn code(&self) -> &'static str
         ensures { result.now ≡ error_code self.now }
     {
@@ -57,7 +57,7 @@ impl Display for Error {
 
 impl std::error::Error for Error {}
 
-/// A number of bytes or items, as JSON can hold it.
+/// A number of bytes or items, as in JSON.
 #[derive(Clone, Copy, Debug, PartialEq, Eq, Hash)]
 pub struct USize64(pub u64);
 

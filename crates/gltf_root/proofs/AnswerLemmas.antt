@@ -19,7 +19,7 @@ use Rattle.gltf_devices.specs.Device.{Seen, IsWithin, IsCause, IsReadError, IsRe
 use Rattle.gltf_root.specs.Root.{root_kind, root_tree, root_sound}
 use Rattle.gltf_root.specs.declared.root.Root.{Root}
 
--- bytes of a JSON value are answered by the table
+-- the answer for bytes of a JSON value is that of the table
 pub answer-json : (bytes : List ℕ) (d : Data) → IsUtf8 bytes → read_json bytes ≡ Some d → answer bytes ≡ tree_answer (read root_kind d)
 answer-json bytes d utf8 is = rw (is_utf8-from_IsUtf8 bytes utf8, is)
 
@@ -92,7 +92,7 @@ IsReadAnswer-gave_up due Write h = absurd h
 IsReadAnswer-gave_up due TooLong h = tt
 IsReadAnswer-gave_up due InvalidItem h = absurd h
 
--- bytes that were read to their end are those that the reader told
+-- bytes that were read to their end are those that the reader had
 pub told-all : (old new : Option (List ℕ)) (bytes : List ℕ) (r : Result Root Error) → IsReadToEnd old new bytes → IsAnswer (answer bytes) r
     → IfSome old (λ told. IsReadAnswer (answer told) r)
 told-all old new bytes r all h =

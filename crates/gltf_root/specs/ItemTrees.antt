@@ -1,5 +1,5 @@
--- The lists in the extensions of a document are in its tree where the table lists them, also if
--- another list is put there: what the implementations for lights and variants promise.
+-- What the implementations for lights and variants promise. The lists in the extensions of a document
+-- are in its tree where the table lists them, also if another list is put there.
 use Rattle.std.proofs.Common.{◌≡◌, List, true, not, map, option_map, Option, Some, None, refl, ap}
 use Rattle.std.specs.declared.alloc.Global.{Global}
 use Rattle.std.specs.declared.vec.Vec.{Vec}

@@ -42,8 +42,8 @@ without_extension name root =
 abbrev pub without_extensions : Tree → Tree
 without_extensions root = with_member extensions_name root_rows absent root
 
--- a document of which a push onto a list is taken back, where the mark is that of the document
--- before the push: the last item is gone, and so is what was made to hold it
+-- a document of which a push onto a list is taken back, by the mark of the document before the
+-- push. The last item is gone, and so is what was made to hold it
 abbrev pub undone : ListName → Mark → Tree → Tree
 undone ListName.lights NoObject root = without_extension lights_name root
 undone ListName.lights NoExtensions root = without_extensions root

@@ -1,4 +1,4 @@
-//! What a document says of itself (glTF 2.0, section 5.9).
+//! Metadata about the document (glTF 2.0, section 5.9).
 
 ghost use Rattle.std.specs.Prelude.{◌≡◌, false, IfOk, codes, None, string_bytes};
 ghost use Rattle.std.proofs.Common.{lit≤};
@@ -10,22 +10,22 @@ use gltf_data::extras::Extras;
 use gltf_schema::{Blank, Object, ReadRows, WriteRows};
 use std::alloc::{AllocError, Global};
 
-/// What a document says of itself.
+/// Metadata about the document.
 #[derive(Clone, Debug)]
 pub struct Asset {
-    /// A note for credit to the author.
+    /// A copyright message to credit the author.
     pub copyright: Option<String>,
-    /// The tool that wrote the document.
+    /// The tool that generated the document.
     pub generator: Option<String>,
-    /// The least version of glTF that a reader has to know.
+    /// The minimum glTF version that a reader has to support.
     pub min_version: Option<String>,
-    /// The version of glTF that the document is written for.
+    /// The glTF version of the document.
     pub version: String,
     pub extensions: Option<extensions::asset::Asset>,
     pub extras: Extras,
 }
 
-// One call drops it, wherever it is held (docs/DECISIONS.md).
+// One call drops it, wherever it is held (docs/DECISIONS.md, "Large values").
 impl Drop for Asset {
     fn drop(self) {
         let Asset {
@@ -40,7 +40,7 @@ impl Drop for Asset {
 }
 
 impl Asset {
-    /// Version `2.0`, and nothing else. `Err` only if memory was refused for that text.
+    /// Returns metadata with version `2.0` alone. Fails only if out of memory.
     #[tactic(auto, unfolding(crate::specs::Asset::asset_members))]
     pub fn new(alloc: Global) -> Result<Asset, AllocError>
         ensures { IfOk result (λ a. asset_members a ≡ asset_of_version (codes "2.0")) }

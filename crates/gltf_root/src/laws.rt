@@ -1,5 +1,5 @@
-//! Laws of the definitions that the contracts of this crate speak by. Each is the contract of a
-//! function that does nothing.
+//! Laws of the definitions that contracts of this crate use. Each is the contract of a function
+//! that does nothing.
 
 ghost use Rattle.std.specs.Prelude.{◌≡◌};
 ghost use Rattle.gltf_paths.specs.Lists.{ListName};

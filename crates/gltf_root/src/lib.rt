@@ -1,5 +1,5 @@
-//! Whole glTF 2.0 documents: their own description, their lists, and how they are read from bytes
-//! and devices and written to them.
+//! Whole glTF 2.0 documents: their metadata, their lists, and how they are read from bytes and
+//! devices and written to them.
 #![tactic(auto)]
 
 pub mod asset;

@@ -39,37 +39,37 @@ pub use gltf_borrowed::Place;
 pub use mark::Mark;
 pub use top_level::TopLevel;
 
-/// A whole document.
-// What takes longest to drop comes last (docs/DECISIONS.md).
+/// A whole document (glTF 2.0, section 5.17).
+// What takes longest to drop comes last (docs/DECISIONS.md, "Order of fields").
 #[derive(Clone, Debug)]
 pub struct Root {
-    /// The scene that is shown first.
+    /// The default scene.
     pub scene: Option<Index<Scene>>,
     pub accessors: Vec<Accessor>,
     pub animations: Vec<Animation>,
     pub buffers: Vec<Buffer>,
     pub buffer_views: Vec<View>,
-    /// The names of the extensions that the document uses anywhere.
+    /// The names of the extensions that the document uses.
     pub extensions_used: Vec<String>,
-    /// The names of those that a reader has to know.
+    /// The names of the extensions that a reader has to support.
     pub extensions_required: Vec<String>,
     pub cameras: Vec<Camera>,
     pub images: Vec<Image>,
     pub materials: Vec<Material>,
     pub meshes: Vec<Mesh>,
     pub nodes: Vec<Node>,
-    /// How textures are sampled; animations hold samplers of their own.
+    /// The samplers of textures; animations hold their own.
     pub samplers: Vec<texture::Sampler>,
     pub scenes: Vec<Scene>,
     pub skins: Vec<Skin>,
     pub textures: Vec<Texture>,
-    /// What the document says of itself.
+    /// Metadata about the document.
     pub asset: Asset,
     pub extensions: Option<extensions::root::Root>,
     pub extras: Extras,
 }
 
-// One call drops it, wherever it is held (docs/DECISIONS.md).
+// One call drops it, wherever it is held (docs/DECISIONS.md, "Large values").
 impl Drop for Root {
     fn drop(self) {
         let Root {
@@ -97,8 +97,7 @@ impl Drop for Root {
 }
 
 impl Root {
-    /// A document of version `2.0` that holds nothing. `Err` only if memory was refused for that
-    /// text.
+    /// Returns an empty document of version `2.0`. Fails only if out of memory.
     #[tactic(auto, unfolding(crate::specs::Root::root_rows, crate::specs::Root::root_members))]
     pub fn new(alloc: Global) -> Result<Root, AllocError>
         ensures { IfOk result (λ root. root_members root

@@ -1,9 +1,9 @@
-//! The glTF 2.0 objects of meshes, nodes, scenes and animations, and a document's own description.
-//! This crate names what `gltf_meshes`, `gltf_nodes` and `gltf_animations` hold, and `Asset` of
-//! `gltf_root`, under the modules of the format.
+//! The glTF 2.0 objects of meshes, nodes, scenes and animations, and `Asset`. This crate names what
+//! `gltf_meshes`, `gltf_nodes` and `gltf_animations` hold, and `Asset` of `gltf_root`, under the
+//! modules of the format.
 #![tactic(auto)]
 
-/// What moves nodes over time.
+/// Keyframe animations of nodes.
 pub mod animation {
     pub use gltf_animations::animation::{Animation, Channel, Sampler, Target};
     pub use gltf_base::animation::{
@@ -11,12 +11,12 @@ pub mod animation {
     };
 }
 
-/// What a document says of itself.
+/// Metadata about the document.
 pub mod asset {
     pub use gltf_root::asset::Asset;
 }
 
-/// How a scene is seen.
+/// Cameras and their projections.
 pub mod camera {
     pub use gltf_base::camera::{CameraType, Type, VALID_CAMERA_TYPES};
     pub use gltf_nodes::camera::{Camera, Orthographic, Perspective};
@@ -26,27 +26,27 @@ pub mod camera {
 pub mod extensions {
     pub use gltf_base::extensions::{ENABLED_EXTENSIONS, SUPPORTED_EXTENSIONS};
 
-    /// Those of animations.
+    /// Extension objects of animations.
     pub mod animation {
         pub use gltf_animations::extensions::animation::{Animation, Channel, Sampler, Target};
     }
 
-    /// That of a document's own description.
+    /// Extension objects of assets.
     pub mod asset {
         pub use gltf_root::extensions::asset::Asset;
     }
 
-    /// Those of cameras and their projections.
+    /// Extension objects of cameras and their projections.
     pub mod camera {
         pub use gltf_nodes::extensions::camera::{Camera, Orthographic, Perspective};
     }
 
-    /// Those of meshes and their primitives.
+    /// Extension objects of meshes and their primitives.
     pub mod mesh {
         pub use gltf_meshes::extensions::mesh::{KhrMaterialsVariants, Mapping, Mesh, Primitive};
     }
 
-    /// Those of nodes and scenes.
+    /// Extension objects of nodes and scenes.
     pub mod scene {
         pub use gltf_nodes::extensions::scene::{Node, Scene};
 
@@ -66,18 +66,18 @@ pub mod extensions {
         }
     }
 
-    /// Those of skins.
+    /// Extension objects of skins.
     pub mod skin {
         pub use gltf_nodes::extensions::skin::Skin;
     }
 }
 
-/// What holds of the objects, as contracts of functions that do nothing.
+/// Laws of the objects, each the contract of a function that does nothing.
 pub mod laws {
     pub use gltf_nodes::laws::{defaults_are_listed, quaternions_turn_nothing_by_default};
 }
 
-/// Geometry, and what its attributes mean.
+/// Meshes, primitives and the semantics of attributes.
 pub mod mesh {
     pub use gltf_base::mesh::{
         LINE_LOOP, LINE_STRIP, LINES, Mode, POINTS, Semantic, TRIANGLE_FAN, TRIANGLE_STRIP,
@@ -91,7 +91,7 @@ pub mod scene {
     pub use gltf_nodes::scene::{Node, Scene, UnitQuaternion};
 }
 
-/// Meshes that follow a skeleton.
+/// Skins: joints and their inverse bind matrices.
 pub mod skin {
     pub use gltf_nodes::skin::Skin;
 }

@@ -25,7 +25,7 @@ may_be_absent or_null = true
 may_be_absent _ = false
 
 abbrev mutual
-  -- the tree has the shape of the kind, also if an item or a key in it is invalid; an item of a
+  -- the tree has the shape of the kind, also if an item or a key in it is invalid. An item of a
   -- choice has to be spelled as the choice spells its items, and need not be listed
   pub is_of_kind : Kind → Tree → Bool
   is_of_kind (IndexInto named) (index n) = nat_lt n (2 ^ 32)

@@ -40,8 +40,8 @@ all_trees p end = true
 all_trees p (with_tree t ts) = p t && all_trees p ts
 
 abbrev mutual
-  -- no member is null if null is read as absent, no other member has a row's name, others are there
-  -- only if they are kept, and each choice has an item that is listed
+  -- no member is null if null is read as absent, and no other member has a row's name. Others are
+  -- there only if they are kept, and each choice has an item that is listed
   pub is_plain : Kind → Tree → Bool
   is_plain (Choice form listed) (chosen s) = is_of_form form s && list_any (λ t. is_spelled t s) listed
   is_plain (ListOf kind) (list ts) = all_trees (is_plain kind) ts

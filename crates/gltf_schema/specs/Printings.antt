@@ -1,5 +1,5 @@
 -- What each method of Printing gives: the tokens of what is printed, or the error that was met. Each
--- definition stays folded in a record, so that an object's chain of rows isn't computed.
+-- definition stays folded in a record, which keeps an object's chain of rows from being computed.
 use Rattle.std.specs.Prelude.{◌≡◌, ◌⊎◌, ℕ, List, [], ◌∷◌, ◌++◌, Bool, false, Option, Some, None, option_map, unwrap_or, Result, Ok, Err, MatchOption, IsSomeAnd, ⊤}
 use Rattle.json.specs.Token.{Token, begin_object, end_object, key}
 use Rattle.serde_json.specs.Data.{Data, Members, no_members, put}
@@ -13,8 +13,8 @@ use Rattle.gltf_schema.specs.Tree.{Tree}
 use Rattle.gltf_schema.specs.Invalid.{holds_invalid}
 use Rattle.gltf_schema.specs.Put.{put_member}
 
--- what is printed so far: the tokens, behind what the buffer held at first; the error that was met;
--- and the members of an object that keeps unknown ones, while they are gathered
+-- what is printed so far: the tokens, behind what the buffer held at first, or the error that was
+-- met. The members of an object that keeps unknown ones are gathered meanwhile
 pub record Printed : Type 0 where
   pub failed : Option Error
   pub kept : Option Members

@@ -1,5 +1,5 @@
 -- Rows written one after another, each putting its member in.
--- The three names stay folded, so that an object's chain of rows isn't computed.
+-- The three names stay folded, which keeps an object's chain of rows from being computed.
 use Rattle.std.specs.Prelude.{ℕ, List, Bool, Option}
 use Rattle.serde_json.specs.Data.{Members}
 use Rattle.gltf_schema.specs.Tree.{Tree, Trees}

@@ -1,5 +1,5 @@
 -- What each method of ReadRows gives, and what an object's rows and other members are read as.
--- Each definition stays folded in a record, so that an object's chain of rows isn't computed.
+-- Each definition stays folded in a record, which keeps an object's chain of rows from being computed.
 use Rattle.std.specs.Prelude.{◌≡◌, ℕ, List, Bool, true, false, Option, Some, None, option_map, Result, Ok, Err}
 use Rattle.serde_json.specs.Data.{Data, Members, no_members}
 use Rattle.serde_json.specs.Find.{get_member}

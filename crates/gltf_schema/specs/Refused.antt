@@ -28,9 +28,9 @@ abbrev pub IsMissingOr : List Step → (Data → Type 0) → Option Data → Typ
 IsMissingOr steps Refused None = steps ≡ []
 IsMissingOr steps Refused (Some d) = Refused d
 
--- the steps lead to the innermost place at which the table refuses the value: in an object through
--- the first row that refuses its member, in attributes through the first member that is no index, and
--- in an array through the first item that is refused. The place is a member that is missing, an array
+-- the steps lead to the innermost place at which the table refuses the value. In an object they go
+-- through the first row that refuses its member, in attributes through the first member that is no
+-- index. In an array they go through the first item that is refused. The place is a member that is missing, an array
 -- of numbers that are too many or too few, or a value of another kind of JSON than is wanted
 abbrev pub IsRefusedAt : List Step → Kind → Data → Type 0
 IsRefusedAt [] (Object rule rows keeps) d = as_object d ≡ None

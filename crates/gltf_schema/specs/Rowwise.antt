@@ -1,5 +1,5 @@
 -- What each method of WriteRows gives: what is written so far, or the error that was met. Each
--- definition stays folded in a record, so that an object's chain of rows isn't computed.
+-- definition stays folded in a record, which keeps an object's chain of rows from being computed.
 use Rattle.std.specs.Prelude.{◌≡◌, ℕ, List, false, Option, Some, None, Result, Ok, Err, ◌⊎◌}
 use Rattle.serde_json.specs.Data.{Data, Members, no_members, put}
 use Rattle.gltf_paths.specs.declared.error.Error.{Error}

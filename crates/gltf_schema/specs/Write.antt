@@ -1,5 +1,5 @@
--- The JSON that each tree is written as. There is none if an item or a key in it is invalid, if the
--- tree has another shape than the kind, or if a number of 32 bits is larger. Nothing asks whether a
+-- The JSON that each tree is written as. There is none if an item or a key in it is invalid, if its
+-- shape isn't that of the kind, or if a number of 32 bits is larger. Nothing asks whether a
 -- choice has the item that is written, or whether a `U64` or a stride has 64 bits.
 use Rattle.std.specs.Prelude.{ℕ, ◌^◌, ◌==◌, nat_lt, length, List, [], ◌∷◌, Bool, true, false, not, ◌&&◌, Option, Some, None, option_map, if◌then◌else◌}
 use Rattle.std.specs.Ordering.{is_lt}

@@ -1,5 +1,5 @@
-//! Laws of the definitions that the contracts of this crate speak by. Each is the contract of a
-//! function that does nothing.
+//! Laws of the definitions that contracts of this crate use. Each is the contract of a function
+//! that does nothing.
 
 ghost use Rattle.std.specs.Prelude.{◌≡◌, ◌↔◌, ◌∷◌, ℕ, List, [], true, false, Some, None, codes};
 ghost use Rattle.serde_json.specs.Data.{Data, Members, member, no_members, number, object, unsigned};
@@ -23,7 +23,7 @@ pub fn read_trees_are_plain()
         → is_plain kind t ≡ true }
 {}
 
-/// What a plain tree is written as is read back as that tree.
+/// A plain tree that is written is read back as that tree.
 pub fn written_trees_are_read_back()
     ensures { (kind : Kind) (t : Tree) (d : Data) → is_sound kind ≡ true → is_plain kind t ≡ true
         → write kind t ≡ Some d → read kind d ≡ Some t }
@@ -35,20 +35,20 @@ pub fn written_trees_hold_nothing_invalid()
         → holds_invalid t ≡ false }
 {}
 
-/// What a sound kind reads is refused for writing exactly if an item or a key in it is invalid.
+/// What a sound kind reads is refused for writing if and only if an item or a key in it is invalid.
 pub fn read_trees_are_refused_where_invalid()
     ensures { (kind : Kind) (d : Data) (t : Tree) → is_sound kind ≡ true
         → read kind d ≡ Some t → (write kind t ≡ None) ↔ (holds_invalid t ≡ true) }
 {}
 
-/// A tree of a kind is refused for writing exactly where an item or a key in it is invalid. So a
-/// plain one of a sound kind, in which none is, is written and read back as that tree.
+/// A tree of a kind is refused for writing if and only if an item or a key in it is invalid. So a
+/// plain tree of a sound kind without invalid ones is written, and read back as that tree.
 pub fn trees_of_a_kind_are_refused_where_invalid()
     ensures { (kind : Kind) (t : Tree) → is_of_kind kind t ≡ true
         → (write kind t ≡ None) ↔ (holds_invalid t ≡ true) }
 {}
 
-/// Attributes that were read have a key exactly where a name means it, with the index of the last
+/// Attributes that were read have a key if and only if a name means it, with the index of the last
 /// such name.
 #[tactic(auto, unfolding(gltf_checked::specs::Names::key_named))]
 pub fn keys_have_the_indexes_of_their_last_names()
@@ -62,7 +62,7 @@ pub fn keys_have_the_indexes_of_their_last_names()
         ≡ Some (attributes ((colors 1, 2) ∷ [])) }
 {}
 
-/// What the table refuses at a place it doesn't read, and it refuses a value at one place.
+/// A value that is refused at a place isn't read, and a value is refused at one place.
 pub fn values_are_refused_at_one_place()
     ensures refused { (kind : Kind) (d : Data) (steps : List Step) → IsRefusedAt steps kind d
         → read kind d ≡ None }

@@ -45,7 +45,7 @@ impl OwnedStep {
 pub enum Refusal {
     /// The table refuses what these steps lead to: a value, or a required member that is missing.
     At(Vec<OwnedStep>),
-    /// A growth was refused.
+    /// Out of memory.
     Memory(AllocError),
 }
 

@@ -1,4 +1,4 @@
-//! Values of `serde_json`, printed. Each function fails if a growth was refused.
+//! Values of `serde_json`, printed. Each function fails if out of memory.
 
 ghost use Rattle.std.specs.Prelude.{◌≡◌, OnOk};
 ghost use Rattle.serde_json.specs.Data.{null, boolean, string, number, unsigned};

@@ -106,8 +106,8 @@ impl<S: Source> Reading<S> {
 
     /// What the table reads of a member's value; if it refuses the value, it refuses the row.
     ///
-    /// Whether the member is there is found out before, on the small `Option<S>`: the `None` of a
-    /// large type is as large, and each function that passes it on copies it.
+    /// The row looks for the member first, by the small `Option<S>`. The `None` of a large type is
+    /// as large, and each function that passes it on copies it.
     #[inline(always)]
     fn decode<T: Schema>(&mut self, value: S) -> Option<T>
         ensures { ReadsValue T.tree (members_or_error S.members self.old.state) result T.kind

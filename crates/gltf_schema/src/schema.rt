@@ -33,20 +33,18 @@ use gltf_base::Error;
 use serde_json::{Map, Value};
 use std::alloc::{AllocError, Global};
 
-/// A type whose values are read and written as those of a kind of the table.
+/// A type that is read from JSON and written to it.
 pub trait Schema: Tabled + Drop {
-    /// Returns the value that a JSON value is, as the table reads it, from any source of JSON.
-    /// Fails with `Schema` if and only if the table does not read it; `Memory` may come in place of
-    /// either if a growth was refused.
+    /// Decodes a value from any source of JSON. Fails with `Schema` if and only if the JSON isn't
+    /// valid for this type. Out of memory, it may fail with `Memory` instead.
     fn decode_from<S: Source>(alloc: Global, source: S) -> Result<Self, Error>
         ensures by_table { Reads Self.tree result (read Self.kind (S.given source)) }
         // What is no object needs no memory to be refused.
         ensures no_object { IsTrue (wants_object Self.kind (S.given source))
             → result ≡ Err Error.Schema };
 
-    /// Returns the value that a JSON value is, as the table reads it. Fails with `Schema` if and
-    /// only if the table does not read it; `Memory` may come in place of either if a growth was
-    /// refused.
+    /// Decodes a JSON value. Fails with `Schema` if and only if the value isn't valid for this
+    /// type. Out of memory, it may fail with `Memory` instead.
     fn decode(alloc: Global, value: Value) -> Result<Self, Error>
         ensures by_table { Reads Self.tree result (read Self.kind (view value)) }
         // What is no object needs no memory to be refused.
@@ -56,9 +54,8 @@ pub trait Schema: Tabled + Drop {
         Self::decode_from(alloc, value)
     }
 
-    /// Reads a value as [`Schema::decode_from`] does, and pushes it onto a list, which saves moving
-    /// it. Fails with `Schema` if and only if the table does not read it; `Memory` may come in
-    /// place of either result if a growth was refused. After an error the items are as they were.
+    /// Decodes a value as [`Schema::decode_from`] does, and pushes it onto a list, which saves
+    /// moving it. After an error the items are as they were.
     fn decode_onto<S: Source>(alloc: Global, source: S, list: &mut Vec<Self>) -> Result<(), Error>
         ensures { ReadsOnto Self.tree list.old.items result list.new.items
             (read Self.kind (S.given source)) }
@@ -70,22 +67,20 @@ pub trait Schema: Tabled + Drop {
         Ok(())
     }
 
-    /// Returns the value that a JSON value is, as the table reads it. Fails with the place of what
-    /// the table refuses: in each object in the first row that refuses its member, in attributes
-    /// the first member that is no index, in each array in the first item that is refused. For a
-    /// kind without places inside it, [`whole_or_refused`](crate::whole_or_refused) gives the value
-    /// itself.
+    /// Decodes a value, or fails with the place of what isn't valid. In an object that is in the
+    /// first row that refuses its member. In attributes it is the first member that is no index, in
+    /// an array the first item that is refused. For a kind without places inside it,
+    /// [`whole_or_refused`](crate::whole_or_refused) gives the value itself.
     fn decode_or_place<S: Source>(alloc: Global, source: S) -> Result<Self, Refusal>
         ensures by_table { ReadsOrPlaces Self.tree result Self.kind (S.given source) };
 
-    /// Returns the JSON value that the value is written as. Fails with `InvalidItem` if and only if
-    /// an item of a choice or the key of an attribute is invalid, here or below; `Memory` may come
-    /// in place of either if a growth was refused.
+    /// Encodes the value as JSON. Fails with `InvalidItem` if and only if it holds an invalid enum
+    /// value or attribute name. Out of memory, it may fail with `Memory` instead.
     fn encode(&self, alloc: Global) -> Result<Value, Error>
         ensures { Writes view result (write Self.kind (Self.tree self.now))
             (holds_invalid (Self.tree self.now)) };
 
-    /// Prints the value as the JSON that [`Schema::encode`] gives, with errors of the same kinds.
+    /// Prints the JSON that [`Schema::encode`] returns, and fails for the same reasons.
     fn print<W: Tokens>(&self, to: &mut Printing<W>)
         ensures { PrintsValue (printing_state W.written W.before to.old)
             (write Self.kind (Self.tree self.now)) (holds_invalid (Self.tree self.now))
@@ -118,7 +113,7 @@ pub trait Object: Drop {
     ghost height: { ℕ };
 
     /// Returns the object of these members. Fails with `Schema` if a row refuses its member or
-    /// lacks it, and with `Memory` if a growth was refused.
+    /// lacks it, and with `Memory` if out of memory.
     #[inline(always)]
     fn decode_members<S: Source>(alloc: Global, found: S::Fields) -> Result<Self, Error>
         ensures { Reads (λ x. (members x, unknown x)) result
@@ -146,8 +141,8 @@ pub trait Object: Drop {
             (trees_by_name rows (members self.now)) (W.state to.old) (W.state to.new) };
 
     /// Returns the members of this object: each row's onto those that no row names. Fails with
-    /// `InvalidItem` if a row's member holds an invalid item or key, and with `Memory` if a growth
-    /// was refused.
+    /// `InvalidItem` if a row's member holds an invalid item or key, and with `Memory` if out of
+    /// memory.
     fn encode_members(&self, alloc: Global) -> Result<Map<String, Value>, Error>
         ensures { Writes (λ m. members_view m.entries) result
             (put_rows rows (members self.now) (unknown self.now))

@@ -12,12 +12,12 @@ use serde_json::{Map, Value};
 use std::alloc::{AllocError, Global};
 use std::vec::IntoIter;
 
-/// A JSON value to read from. What is read of it moves out.
+/// A JSON value to read from. What is read moves out of it.
 pub trait Source: Drop {
-    /// The members that are left of an object.
+    /// The members of an object that are left to read.
     type Fields: Drop;
 
-    /// The items that are left of an array.
+    /// The items of an array that are left to read.
     type Items: Drop;
 
     ghost given: { Self → Data };
@@ -26,57 +26,57 @@ pub trait Source: Drop {
 
     ghost items: { Self.Items → DataItems };
 
-    /// Whether the value is null.
+    /// Returns whether the value is null.
     fn is_null(&self) -> bool
         ensures { result ≡ is_some (as_null (given self.now)) };
 
-    /// The truth value, if it is one.
+    /// Returns the truth value if the value is one.
     fn truth(&self) -> Option<bool>
         ensures { result ≡ as_bool (given self.now) };
 
-    /// The whole number of 64 bits, if it is one.
+    /// Returns the whole number if the value is one of 64 bits.
     fn whole(&self) -> Option<u64>
         ensures { result ≡ whole_number (given self.now) };
 
-    /// The text, if it is one.
+    /// Returns the text if the value is one.
     fn text(&self) -> Option<&str>
         ensures { option_map (λ t. t.now) result ≡ as_str (given self.now) };
 
-    /// The text as a `String`, if it is one. Fails if a growth was refused.
+    /// Returns the text as a `String` if the value is one. Fails if out of memory.
     fn into_text(self, alloc: Global) -> Result<Option<String>, AllocError>
         ensures { IfOk result (λ t. option_map string_bytes t ≡ as_str (given self)) };
 
-    /// The whole value. Fails if a growth was refused.
+    /// Returns the whole value. Fails if out of memory.
     fn into_value(self, alloc: Global) -> Result<Value, AllocError>
         ensures { IfOk result (λ v. view v ≡ given self) };
 
-    /// The members, if the value is an object.
+    /// Returns the members if the value is an object.
     fn into_fields(self) -> Option<Self::Fields>
         ensures { option_map members result ≡ as_object (given self) };
 
-    /// The items, if the value is an array.
+    /// Returns the items if the value is an array.
     fn into_items(self) -> Option<Self::Items>
         ensures { option_map items result ≡ as_array (given self) };
 
-    /// No members.
+    /// Returns the members of an empty object.
     fn no_fields(alloc: Global) -> Self::Fields
         ensures { members result ≡ no_members };
 
-    /// Takes the member of a name out: of several, the last one.
+    /// Takes out the member with a name; of several, the last one.
     fn take(fields: &mut Self::Fields, name: &str) -> Option<Self>
         ensures taken { option_map given result ≡ get_member name.now (members fields.old) }
         ensures left { members fields.new ≡ without name.now (members fields.old) };
 
-    /// The members that are left. Fails if a growth was refused.
+    /// Returns the members that are left. Fails if out of memory.
     fn into_others(fields: Self::Fields, alloc: Global) -> Result<Map<String, Value>, AllocError>
         ensures { IfOk result (λ m. members_view m.entries ≡ members fields) };
 
-    /// Takes the first item.
+    /// Takes out the first item that is left.
     fn next(rest: &mut Self::Items) -> Option<Self>
         ensures { MatchOption result (items rest.old ≡ no_items)
             (λ x. items rest.old ≡ item (given x) (items rest.new)) };
 
-    /// How many items are left, for the memory that is asked for at once; no contract speaks of it.
+    /// Returns how many items are left, to reserve memory for them. No contract uses it.
     fn room(rest: &Self::Items) -> usize;
 }
 

@@ -14,7 +14,7 @@ use std::alloc::AllocError;
 
 /// What takes the tokens of JSON.
 ///
-/// Each method adds one token behind those that are there, or fails if a growth was refused.
+/// Each method adds one token behind those that are there, or fails if out of memory.
 pub trait Tokens: Drop {
     /// The tokens so far.
     ghost written: { Self → List SpecToken };

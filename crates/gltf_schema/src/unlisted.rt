@@ -16,7 +16,7 @@ use crate::writing::WriteRows;
 use serde_json::{Map, Value};
 use std::alloc::Global;
 
-/// An extension object of which no member is known: it keeps them all, or drops them all.
+/// An extension object without known extensions, which keeps or drops unknown ones.
 pub trait Unlisted: Drop {
     ghost is_keeping: { Bool };
 
@@ -63,10 +63,10 @@ impl<T: Unlisted> Object for T {
     }
 }
 
-/// The extensions of an object whose unknown extensions are kept: none of its members is known.
+/// An extension object without known extensions, which keeps unknown ones.
 #[derive(Clone, Debug, Drop)]
 pub struct KeptExtensions {
-    /// The extensions that are not known.
+    /// Unknown extensions, kept as they are.
     pub others: Map<String, Value>,
 }
 
@@ -89,7 +89,7 @@ impl Unlisted for KeptExtensions {
 }
 
 impl KeptExtensions {
-    /// No extension.
+    /// Returns an empty extension object.
     pub fn new(alloc: Global) -> KeptExtensions
         ensures { members_view result.others.entries ≡ no_members }
     {
@@ -99,7 +99,7 @@ impl KeptExtensions {
     }
 }
 
-/// The extensions of an object whose unknown extensions are dropped: none of its members is known.
+/// An extension object without known extensions, which drops unknown ones.
 #[derive(Clone, Debug, Drop)]
 pub struct DroppedExtensions {}
 
@@ -122,7 +122,7 @@ impl Unlisted for DroppedExtensions {
 }
 
 impl DroppedExtensions {
-    /// No extension.
+    /// Returns an empty extension object.
     pub fn new() -> DroppedExtensions {
         DroppedExtensions {}
     }

@@ -4,12 +4,12 @@ use crate::sink::Sink;
 use gltf_base::Steps;
 use gltf_base::validation::Error;
 
-/// What takes reports, without a ghost member and without a clause. [`By`] makes it a [`Sink`].
+/// A receiver of reports without contracts. [`By`] makes it a [`Sink`].
 pub trait Take {
     /// Why a report is refused.
     type Refusal;
 
-    /// Takes a report: what is wrong at the end of a path. Any error stops the walk.
+    /// Takes a report: a fault, and the path to its place. Any error stops the walk.
     fn take(&mut self, path: &Steps<'_>, error: Error) -> Result<(), Self::Refusal>;
 }
 

@@ -9,7 +9,7 @@ use gltf_base::validation::Error;
 use gltf_base::{Path, Steps};
 use std::alloc::{AllocError, Global};
 
-/// A sink that collects reports. It refuses a report only if a growth was refused.
+/// A sink that collects reports. It refuses a report only if out of memory.
 #[derive(Clone, Debug, Drop)]
 pub struct Collect {
     alloc: Global,
@@ -17,7 +17,7 @@ pub struct Collect {
 }
 
 impl Collect {
-    /// A collection of none. It takes no memory yet.
+    /// Returns an empty collection. It takes no memory yet.
     pub fn new(alloc: Global) -> Collect
         ensures { reports_collected result ≡ [] }
     {
@@ -27,7 +27,7 @@ impl Collect {
         }
     }
 
-    /// The reports so far: for each its place, and what is wrong there.
+    /// Returns the reports so far: for each its path and its fault.
     pub fn reports(&self) -> &[(Path, Error)]
         ensures { texts_and_errors result.now ≡ reports_collected self.now }
     {

@@ -7,7 +7,7 @@ use crate::sink::{Sink, Stop};
 use gltf_base::Steps;
 use gltf_base::validation::Error;
 
-/// Hands over what was found at a place, if anything. It stops with `Sink` where the sink refuses.
+/// Hands over what was found at a place, if anything. It stops with `Sink` if the sink refuses it.
 pub fn tell<S: Sink>(
     path: &Steps<'_>,
     found: Option<Error>,

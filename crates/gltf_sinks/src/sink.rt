@@ -1,4 +1,4 @@
-//! What takes reports.
+//! A receiver of reports.
 
 ghost use Rattle.std.specs.Prelude.{◌≡◌, ℕ, List, OnOk, IfErr};
 ghost use Rattle.gltf_paths.specs.Steps.{Step, steps_of};
@@ -9,7 +9,7 @@ use gltf_base::Steps;
 use gltf_base::validation::Error;
 use std::fmt::{self, Debug, Display, Formatter, Write};
 
-/// What takes reports.
+/// A receiver of reports.
 pub trait Sink {
     /// Why a report is refused.
     type Refusal;
@@ -25,7 +25,7 @@ pub trait Sink {
     /// When a report is refused, and the state then.
     ghost refuses: { State → List Step → Error → Self.Refusal → State → Type 0 };
 
-    /// Takes a report: what is wrong at the end of a path. Any error stops the walk.
+    /// Takes a report: a fault, and the path to its place. Any error stops the walk.
     fn report(&mut self, path: &Steps<'_>, error: Error) -> Result<(), Self::Refusal>
         ensures taken { OnOk result (state self.new
             ≡ next (state self.old) (steps_of path.now) error) }
@@ -75,14 +75,14 @@ pub struct Count {
 }
 
 impl Count {
-    /// A count of none.
+    /// Returns a count of zero.
     pub fn new() -> Count
         ensures { reports_counted result ≡ 0 }
     {
         Count { count: 0 }
     }
 
-    /// How many reports were counted.
+    /// Returns how many reports were counted.
     pub fn count(&self) -> u64
         ensures { result ≡ reports_counted self.now }
     {

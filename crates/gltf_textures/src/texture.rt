@@ -18,24 +18,24 @@ use gltf_data::extras::Extras;
 use gltf_data::image::Image;
 use gltf_schema::{Object, ReadRows, WriteRows};
 
-/// How a texture is sampled: how it is filtered, and what lies past its edges.
-// What takes longest to drop comes last (docs/DECISIONS.md).
+/// Filters and wrapping modes of a texture (glTF 2.0, section 5.26).
+// What takes longest to drop comes last (docs/DECISIONS.md, "Order of fields").
 #[derive(Clone, Debug)]
 pub struct Sampler {
-    /// How the texture is shown larger than it is.
+    /// The magnification filter.
     pub mag_filter: Option<Checked<MagFilter>>,
-    /// How the texture is shown smaller than it is.
+    /// The minification filter.
     pub min_filter: Option<Checked<MinFilter>>,
-    /// What lies past the left and the right edge.
+    /// The S (U) wrapping mode.
     pub wrap_s: Checked<WrappingMode>,
-    /// What lies past the upper and the lower edge.
+    /// The T (V) wrapping mode.
     pub wrap_t: Checked<WrappingMode>,
     pub name: Option<String>,
     pub extensions: Option<extensions::texture::Sampler>,
     pub extras: Extras,
 }
 
-// One call drops it, wherever it is held (docs/DECISIONS.md).
+// One call drops it, wherever it is held (docs/DECISIONS.md, "Large values").
 impl Drop for Sampler {
     fn drop(self) {
         let Sampler {
@@ -51,7 +51,7 @@ impl Drop for Sampler {
 }
 
 impl Sampler {
-    /// A sampler with every member at its default: it repeats the texture.
+    /// Returns a sampler with every member at its default: it repeats the texture.
     #[tactic(auto, unfolding(crate::specs::Texture::sampler_rows, crate::specs::Texture::sampler_members))]
     pub fn new() -> Sampler
         ensures { sampler_members result ≡ defaults sampler_rows }
@@ -120,21 +120,21 @@ impl Object for Sampler {
 /// The number at `source` that means no image.
 pub const NO_IMAGE: u32 = u32::MAX;
 
-/// An image and how it is sampled.
-// What takes longest to drop comes last (docs/DECISIONS.md).
+/// An image and its sampler (glTF 2.0, section 5.29).
+// What takes longest to drop comes last (docs/DECISIONS.md, "Order of fields").
 #[derive(Clone, Debug)]
 pub struct Texture {
-    /// The image; [`NO_IMAGE`], which is 4294967295, where the document names none, as where an
+    /// The image, or [`NO_IMAGE`] (4294967295) if the document names none, for example because an
     /// extension gives it.
     pub source: Index<Image>,
-    /// How the image is sampled; without it the texture repeats and is filtered at will.
+    /// The sampler; if absent, the texture repeats, with any filters.
     pub sampler: Option<Index<Sampler>>,
     pub name: Option<String>,
     pub extensions: Option<extensions::texture::Texture>,
     pub extras: Extras,
 }
 
-// One call drops it, wherever it is held (docs/DECISIONS.md).
+// One call drops it, wherever it is held (docs/DECISIONS.md, "Large values").
 impl Drop for Texture {
     fn drop(self) {
         let Texture {
@@ -148,7 +148,7 @@ impl Drop for Texture {
 }
 
 impl Texture {
-    /// An image, sampled by default: `Index::new(NO_IMAGE)` for none.
+    /// Returns a texture without a sampler; `Index::new(NO_IMAGE)` stands for no image.
     #[tactic(auto, unfolding(crate::specs::Texture::texture_rows, crate::specs::Texture::texture_members))]
     pub fn new(source: Index<Image>) -> Texture
         ensures { texture_members result ≡ made texture_rows (
@@ -213,13 +213,13 @@ impl Object for Texture {
 pub struct Info {
     /// The texture.
     pub index: Index<Texture>,
-    /// Which set of texture coordinates is used: the number in `TEXCOORD_n`.
+    /// The set of texture coordinates: the number in `TEXCOORD_n`.
     pub tex_coord: u32,
     pub extensions: Option<extensions::texture::Info>,
     pub extras: Extras,
 }
 
-// One call drops it, wherever it is held (docs/DECISIONS.md).
+// One call drops it, wherever it is held (docs/DECISIONS.md, "Large values").
 impl Drop for Info {
     fn drop(self) {
         let Info {
@@ -232,7 +232,7 @@ impl Drop for Info {
 }
 
 impl Info {
-    /// A reference to a texture, by the first set of texture coordinates.
+    /// Returns a reference to a texture, with the first set of texture coordinates.
     #[tactic(auto, unfolding(crate::specs::Texture::info_rows, crate::specs::Texture::info_members))]
     pub fn new(index: Index<Texture>) -> Info
         ensures { info_members result ≡ made info_rows (

@@ -22,7 +22,7 @@ mod within;
 
 pub use table::{InTable, TableObject};
 
-/// What can be validated.
+/// A type that can be validated.
 pub trait Validate {
     /// The kind of such a value in the table; `None` for a type with reports of its own.
     ghost kind: { Option Kind } = { None };
@@ -33,11 +33,11 @@ pub trait Validate {
     /// The reports of a type that has no kind, against a document by rules, from a base.
     ghost own: { Self → Context → From } = { no_reports };
 
-    /// A bound on the steps from a value's place to what its walk visits: the members and the items
-    /// in which something can be wrong, and the places of its reports.
+    /// A bound on the steps from a value's place to what its walk visits. Those are the members and
+    /// items in which something can be wrong, and the places of its reports.
     ghost depth: { ℕ } = { 0 };
 
-    /// Hands the sink each report of the value by `rules`, in order; each path begins with the
+    /// Hands the sink each report of the value by `rules`, in order. Each path begins with the
     /// steps of `path`. Indexes are looked up in `root`. On every exit `path` is as it was. Nothing
     /// is allocated.
     ///

@@ -21,7 +21,7 @@ use gltf_json::{Error, Root};
 use std::alloc::Global;
 use std::fmt::Write;
 
-/// A document that tells its version alone, of 27 bytes: what a new one is written as.
+/// A document with its version alone, of 27 bytes: what a new one is written as.
 pub(crate) const NEW: &str = r#"{"asset":{"version":"2.0"}}"#;
 
 /// The same document in lines.

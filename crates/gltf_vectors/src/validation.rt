@@ -102,7 +102,7 @@ fn holds_what_it_takes(rt: HostRuntime) -> Result<(), Fail> {
     Ok(())
 }
 
-/// Whether lines are so many of the first of the six reports, and then tell how validation ended.
+/// Whether lines are so many of the first of the six reports, and then how validation ended.
 fn are_first_lines(lines: &str, count: usize, ended: &str) -> bool {
     match lines.strip_suffix(ended) {
         Some(front) => SIX_LINES.starts_with(front) && line_count(front) == count,

@@ -25,7 +25,7 @@ pub found_error : (f : From) (e : Option Error) → ((base : List Step) → foun
 found_error f None h = rw (sym (h [])) refl
 found_error f (Some error) h = rw (sym (h [])) refl
 
--- the one error of a choice
+-- the one fault of a choice
 pub found_choice : (t : Tree) (e : Option Error) → ((base : List Step) → found_at e base ≡ choice_faults t base)
     → leaf (invalid_if (is_some e)) ≡ leaf_of (choice_faults t)
 found_choice t None h = ap leaf (found_error (choice_faults t) None h)

@@ -15,12 +15,12 @@ mutual
     nothing : Outlines
     below : Step → Outline → Outlines → Outlines
 
--- the error at a place, if there is one
+-- the fault at a place, if there is one
 abbrev pub errors : Option Error → List Error
 errors None = []
 errors (Some error) = error ∷ []
 
--- a place with nothing below and at most one error
+-- a place with nothing below and at most one fault
 abbrev pub leaf : Option Error → Outline
 leaf e = place nothing (errors e)
 
@@ -30,7 +30,7 @@ also (below s p ps) qs = below s p (also ps qs)
 
 -- ---- what is reported
 
--- each error at a place
+-- each fault at a place
 abbrev pub reports_here : List Error → From
 reports_here [] base = []
 reports_here (error ∷ es) base = report base error ∷ reports_here es base

@@ -24,16 +24,16 @@ same_steps [] [] = true
 same_steps (s ∷ ss) (u ∷ us) = same_step s u && same_steps ss us
 same_steps _ _ = false
 
--- the error of the first report at the steps
+-- the fault of the first report at the steps
 abbrev pub error_among : List Step → List Report → Option Error
 error_among steps [] = None
 error_among steps (r ∷ rs) = cond (same_steps steps r.steps) (Some r.error) (error_among steps rs)
 
--- the error of the first report, at any place
+-- the fault of the first report, at any place
 abbrev pub error_of : From → Option Error
 error_of f = first_error (f [])
 
--- a place with nothing below and the first of these errors
+-- a place with nothing below and the first of these faults
 abbrev pub leaf_of : From → Outline
 leaf_of f = leaf (error_of f)
 
@@ -55,7 +55,7 @@ item_outlines f i (with_tree t ts) = below (item i) (f t) (item_outlines f (suc 
 
 -- ---- the rules of objects, for places below the object
 
--- the errors at the positions and at the bounds of their accessor
+-- the faults at the positions and at the bounds of their accessor
 abbrev pub bounds_outline : Option Error → Option Error → Option Error → Outline
 bounds_outline positions min max = place (below (field (codes "min")) (leaf min) (below (field (codes "max")) (leaf max) nothing)) (errors positions)
 

@@ -48,7 +48,7 @@ two_textures s r n m = place (below (field (member_text n)) (reference_outline s
 abbrev pub extensions_outline : Context → Tree → Outline
 extensions_outline context t = outline material_extensions_kind t context absent
 
--- the error of a choice
+-- the fault of a choice
 abbrev pub invalid_if : Bool → Option Error
 invalid_if is_invalid = cond is_invalid (Some Invalid) None
 

@@ -94,7 +94,7 @@ IsNumbered _ = ⊤
 
 -- ---- what a walk looks at
 
--- a value that holds all its errors; materials are looked at as items of a list
+-- a value that holds all its faults; materials are looked at as items of a list
 abbrev pub is_found : ValueRef → Bool
 is_found (value_ref.Leaf e) = true
 is_found (value_ref.Attribute k i) = true
@@ -105,7 +105,7 @@ is_found (value_ref.OneTexture s n) = true
 is_found (value_ref.TwoTextures s r n m) = true
 is_found _ = false
 
--- an item of a list, or a value that holds all its errors
+-- an item of a list, or a value that holds all its faults
 abbrev pub is_looked_at : ValueRef → Bool
 is_looked_at (value_ref.Accessor x) = true
 is_looked_at (value_ref.View x) = true

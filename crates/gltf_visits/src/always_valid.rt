@@ -26,7 +26,7 @@ pub trait AlwaysValid {
     /// The value as the table sees it.
     ghost tree: { Self → Tree } = { λ _. absent };
 
-    // The outline is a leaf without an error.
+    // The outline is a leaf without a fault.
     ghost silent: { (x : Self) (context : MathematicalContext)
         → outline kind (tree x) context absent ≡ leaf None };
 }

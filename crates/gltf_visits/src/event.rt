@@ -22,7 +22,7 @@ use gltf_faults::HasContext;
 pub enum Event<'a> {
     /// A step down, to a value.
     Enter(Step<'a>, ValueRef<'a>),
-    /// An error at the place of the value itself.
+    /// A fault at the place of the value itself.
     Fault(Error),
     /// Nothing more.
     End,
@@ -48,12 +48,12 @@ pub trait EventBuilder<'a>: Sized {
         ensures { (move : Move) → down (at_number number) (outline T.kind (T.tree value.now)
             (C.context context.now) absent) ≡ move → gives (C.context context.now) move result };
 
-    /// An error at a member of an object, or none.
+    /// A fault at a member of an object, or none.
     fn fault_at(name: &'static str, fault: Option<Error>) -> Self
         ensures { (context : _) (move : Move) → down (field name.now) (leaf fault) ≡ move
             → gives context move result };
 
-    /// An error at the place itself, or none, after which nothing comes.
+    /// A fault at the place itself, or none, after which nothing comes.
     fn fault_here(fault: Option<Error>) -> Self
         ensures { (context : _) (move : Move) → first_move (leaf fault) ≡ move
             → gives context move result };

@@ -48,7 +48,7 @@ pub fn item_at<'a, T: Quiet, E: EventBuilder<'a>, C: HasContext>(
     }
 }
 
-/// The event at a number of an attribute: the error of its key, then the error of its index.
+/// The event at a number of an attribute: the fault of its key, then the fault of its index.
 pub fn in_attribute<'a, E: EventBuilder<'a>>(
     key: Option<Error>,
     index: Option<Error>,
@@ -144,7 +144,7 @@ pub fn at_attributes<'a>(faults: PositionFaults, number: usize) -> Event<'a>
 }
 
 /// The event at a number of the positions of a primitive: the bounds of their accessor, then the
-/// error if there are no positions.
+/// fault if there are no positions.
 pub fn in_positions<'a, E: EventBuilder<'a>>(faults: PositionFaults, number: usize) -> E
     ensures comes { (context : _)
         → E.gives context (move_at (faults_outline faults) number) result }

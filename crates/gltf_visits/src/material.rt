@@ -124,7 +124,7 @@ pub fn in_material<'a, E: EventBuilder<'a>, C: HasContext>(
     }
 }
 
-/// The error of the alpha mode of a material.
+/// The fault of the alpha mode of a material.
 fn alpha_mode_fault(faults: MaterialFaults) -> Option<Error>
     ensures { result ≡ invalid_if faults.is_alpha_mode_invalid }
 {

@@ -31,11 +31,11 @@ use gltf_shading::extensions::material::Material as MaterialExtensions;
 use gltf_textures::texture::{Sampler, Texture};
 use std::collections::BTreeMap;
 
-/// A value that a walk comes to: an object, a list or a map in which something can be wrong, a
-/// place that an object's rule names, or a place with nothing below.
+/// A value that a walk comes to: an object, a list or a map in which something can be wrong. It may
+/// also be a place that an object's rule names, or a place with nothing below.
 #[derive(Clone, Copy, Drop)]
 pub enum ValueRef<'a> {
-    /// A place with nothing below, and the error there.
+    /// A place with nothing below, and the fault there.
     Leaf(Option<Error>),
     Root(&'a Root),
     RootExtensions(&'a RootExtensions),
@@ -66,7 +66,8 @@ pub enum ValueRef<'a> {
     Image(&'a Image),
     Materials(&'a Vec<Material>),
     /// What is wrong in the members of a material, with its extensions; or extensions alone. One
-    /// variant for both: the compiler limits what references reach (docs/DECISIONS.md).
+    /// variant has both, because the compiler limits what references reach (docs/DECISIONS.md,
+    /// "What references may reach").
     Material(Option<MaterialFaults>, &'a MaterialExtensions),
     /// What is wrong in the members of a material without extensions.
     PlainMaterial(MaterialFaults),
@@ -79,7 +80,7 @@ pub enum ValueRef<'a> {
     Primitives(&'a Vec<Primitive>),
     Primitive(&'a Primitive),
     Attributes(&'a BTreeMap<Checked<Semantic>, Index<Accessor>>),
-    /// The errors of an attribute's key and of its index.
+    /// The faults of an attribute's key and of its index.
     Attribute(Option<Error>, Option<Error>),
     /// The attributes as their primitive's rule looks at them, and the positions in them.
     AtPositions(PositionFaults),
@@ -102,7 +103,7 @@ pub enum ValueRef<'a> {
 }
 
 impl<'a> ValueRef<'a> {
-    /// Whether this is a value that holds all its errors, and holds none.
+    /// Whether this is a value that holds all its faults, and holds none.
     pub fn has_no_fault(&self) -> bool
         ensures { (context : MathematicalContext)
             → result ≡ is_found self.now && quiet (outline_of context self.now) }

@@ -30,7 +30,7 @@ pub trait Visitable {
     /// The value as the table sees it.
     ghost tree: { Self → Tree };
 
-    /// The value as a borrowed value of a document. This call finds the error of a place with
+    /// The value as a borrowed value of a document. This call finds the fault of a place with
     /// nothing below.
     fn value_ref<'a>(&'a self, context: &Context<'_>) -> ValueRef<'a>
         ensures { outline_of (context_of context.now) result

@@ -52,9 +52,9 @@ impl<'a> ValueWalk<'a> {
         }
     }
 
-    /// The error of the next report, whose path is then in `steps`; `None` if there are no more.
-    /// Fails with `StepsFull` only if the steps of the base and those below the value are more than
-    /// 16 together.
+    /// Returns the fault of the next report, whose path is then in `steps`, or `None` if there are
+    /// no more. Fails with `StepsFull` only if the steps of the base and those below the value are
+    /// more than 16 together.
     pub fn next_report(&mut self) -> Result<Option<Error>, StepsFull>
         ensures next { IfOk result (λ error. IsNextOf self.old error self.new) }
         ensures depth { depth_in self.new ≤ depth_in self.old }
@@ -89,7 +89,7 @@ impl<'a> ValueWalk<'a> {
         Ok(None)
     }
 
-    /// The path of the last report.
+    /// Returns the path of the last report.
     pub fn steps(&self) -> &Steps<'a>
         ensures { steps_of result.now ≡ path_in self.now }
     {
@@ -98,7 +98,7 @@ impl<'a> ValueWalk<'a> {
 }
 
 impl<'a> Walk<'a> {
-    /// A walk over `root` that has not begun.
+    /// Returns a walk over `root` that has not begun.
     pub fn new(root: &'a Root) -> Walk<'a>
         ensures reports { to_come result ≡ document_reports standard_rules (root_tree root.now) }
         ensures path { path_of result ≡ [] }
@@ -106,7 +106,7 @@ impl<'a> Walk<'a> {
         Walk::with_rules(Rules::new(), root)
     }
 
-    /// A walk over `root` by the caller's rules that has not begun.
+    /// Returns a walk over `root` by the caller's rules that has not begun.
     pub fn with_rules(rules: Rules<'a>, root: &'a Root) -> Walk<'a>
         ensures reports { to_come result
             ≡ document_reports (rules_of rules.entry) (root_tree root.now) }
@@ -117,8 +117,8 @@ impl<'a> Walk<'a> {
         }
     }
 
-    /// The error of the next report, whose path is then in `steps`; `None`, with empty `steps`, if
-    /// there are no more.
+    /// Returns the fault of the next report, whose path is then in `steps`. Returns `None`, with
+    /// empty `steps`, if there are no more.
     pub fn next_report(&mut self) -> Option<Error>
         ensures { IsNext (to_come self.old) result (path_of self.new) (to_come self.new) }
     {
@@ -129,7 +129,8 @@ impl<'a> Walk<'a> {
         }
     }
 
-    /// The path of the last report; empty before the first one and after the last one.
+    /// Returns the path of the last report. It is empty before the first one and after the last
+    /// one.
     pub fn steps(&self) -> &Steps<'a>
         ensures { steps_of result.now ≡ path_of self.now }
     {

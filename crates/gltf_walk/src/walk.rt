@@ -27,7 +27,7 @@ pub struct ValueWalk<'a> {
     ghost beside: { length frames.items ≤ suc (length steps.items) },
 }
 
-/// A walk over a document against itself, which gives its reports one at a time.
+/// A walk over a document, which returns its reports one at a time.
 #[derive(Drop)]
 pub struct Walk<'a> {
     pub(crate) inner: ValueWalk<'a>,

@@ -1,4 +1,4 @@
-//! Sparse storage: elements that deviate from those of an accessor's view (glTF 2.0, sections 5.2
+//! Sparse storage: elements that replace those of an accessor's buffer view (glTF 2.0, sections 5.2
 //! to 5.4).
 
 ghost use Rattle.std.specs.Prelude.{◌≡◌, [], ◌∷◌, false, codes};
@@ -19,22 +19,22 @@ use gltf_base::validation::{Checked, USize64};
 use gltf_schema::{Blank, Object, ReadRows, WriteRows};
 use std::alloc::Global;
 
-/// Elements that deviate from those of the view.
-// What takes longest to drop comes last (docs/DECISIONS.md).
+/// Elements that replace those of the buffer view.
+// What takes longest to drop comes last (docs/DECISIONS.md, "Order of fields").
 #[derive(Clone, Debug, Drop)]
 pub struct Sparse {
-    /// How many elements deviate.
+    /// The number of replaced elements.
     pub count: USize64,
     pub extensions: Option<extensions::accessor::sparse::Sparse>,
     pub extras: Extras,
-    /// What stands in their place.
+    /// The values that replace them.
     pub values: Values,
-    /// Which elements they are.
+    /// The indices of the replaced elements.
     pub indices: Indices,
 }
 
 impl Sparse {
-    /// So many elements that deviate: which ones, and what stands in their place.
+    /// Returns sparse storage of `count` elements.
     #[tactic(auto, unfolding(crate::specs::Accessor::sparse_rows, crate::specs::Accessor::sparse_members))]
     pub fn new(count: u64, indices: Indices, values: Values) -> Sparse
         ensures { sparse_members result ≡ made sparse_rows (
@@ -92,22 +92,22 @@ impl Object for Sparse {
     }
 }
 
-/// Where the numbers of the elements that deviate lie.
+/// Where the indices of the replaced elements are stored.
 #[derive(Clone, Debug, Drop)]
 pub struct Indices {
-    /// The view that they lie in.
+    /// The buffer view that stores them.
     pub buffer_view: Index<View>,
-    /// The offset into the view, in bytes.
+    /// The offset into the buffer view, in bytes.
     pub byte_offset: USize64,
-    /// The type of a number.
+    /// The data type of the indices.
     pub component_type: Checked<IndexComponentType>,
     pub extensions: Option<extensions::accessor::sparse::Indices>,
     pub extras: Extras,
 }
 
 impl Indices {
-    /// The numbers from the start of a view. Their type has to be `U8`, `U16` or `U32`: another is
-    /// written as it is, and read as an invalid one.
+    /// Returns indices at the start of a buffer view. Their type has to be `U8`, `U16` or `U32`:
+    /// any other is written as it is, and read back as invalid.
     #[tactic(auto, unfolding(crate::specs::Accessor::sparse_indices_rows, crate::specs::Accessor::sparse_indices_members))]
     pub fn new(buffer_view: Index<View>, component_type: ComponentType) -> Indices
         ensures { sparse_indices_members result ≡ made sparse_indices_rows (
@@ -176,19 +176,19 @@ impl Blank for Indices {
     }
 }
 
-/// Where the elements that stand in for others lie.
+/// Where the replacing elements are stored.
 #[derive(Clone, Debug, Drop)]
 pub struct Values {
-    /// The view that they lie in.
+    /// The buffer view that stores them.
     pub buffer_view: Index<View>,
-    /// The offset into the view, in bytes.
+    /// The offset into the buffer view, in bytes.
     pub byte_offset: USize64,
     pub extensions: Option<extensions::accessor::sparse::Values>,
     pub extras: Extras,
 }
 
 impl Values {
-    /// The elements from the start of a view.
+    /// Returns values at the start of a buffer view.
     #[tactic(auto, unfolding(crate::specs::Accessor::sparse_values_rows, crate::specs::Accessor::sparse_values_members))]
     pub fn new(buffer_view: Index<View>) -> Values
         ensures { sparse_values_members result ≡ made sparse_values_rows (

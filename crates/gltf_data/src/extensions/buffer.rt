@@ -5,5 +5,5 @@ use gltf_schema::KeptExtensions;
 /// The extensions of a buffer.
 pub type Buffer = KeptExtensions;
 
-/// The extensions of a view.
+/// The extensions of a buffer view.
 pub type View = KeptExtensions;

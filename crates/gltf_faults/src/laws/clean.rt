@@ -9,8 +9,8 @@ ghost use Rattle.gltf_root.specs.Written.{IsOutOfMemory, IsWithheld};
 ghost use Rattle.gltf_root.specs.declared.root.Root.{Root as Document};
 ghost use Rattle.gltf_schema.specs.Invalid.{holds_invalid};
 
-/// In a document without reports no item of a choice and no key of an attribute is invalid. So
-/// writing it never fails with `InvalidItem`, but for memory alone, or for the writer. It is so for
+/// In a document without reports no enum value and no attribute name is invalid. So writing it
+/// never fails with `InvalidItem`, but only if out of memory or if the writer fails. This holds for
 /// every document, read or built, and by any rules.
 pub fn clean_documents_are_written()
     ensures valid { (rules : Rules) (r : Document) → document_reports rules (root_tree r) ≡ []

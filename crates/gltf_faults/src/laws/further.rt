@@ -21,7 +21,7 @@ ghost use Rattle.gltf_faults.specs.Reports.{document_reports, reports};
 ghost use Rattle.gltf_faults.specs.Wider.{AllowsMore, IsSublist};
 
 /// The reports of a value from a base are its reports from no steps, with the base in front of
-/// each. It is so for every kind, against every document and by any rules.
+/// each. This holds for every kind, against every document and by any rules.
 pub fn reports_from_a_base_have_it_in_front()
     ensures { (kind : Kind) (t : Tree) (context : Context) (above : Tree) (base : List Step)
         → reports kind t context above base
@@ -39,9 +39,9 @@ pub fn rules_that_allow_more_leave_fewer_reports()
         → document_reports narrow root ≡ [] → document_reports wide root ≡ [] }
 {}
 
-/// The steps of a report of a document that was read lead to a value in its JSON, and those of a
-/// plain document to a value in the JSON that it is written as. If something is missing there, the
-/// last step is left out. If there is a key of attributes among the steps, those in front of it
+/// The steps of a report lead to a value in the JSON that the document was read from. In a plain
+/// document they lead to a value in the JSON that it is written as. If something is missing there,
+/// the last step is left out. If there is a key of attributes among the steps, those in front of it
 /// lead to an object with a member whose name means the key.
 pub fn reports_lead_to_places_in_the_json()
     ensures read { (d : Data) (t : Tree) (context : Context) → read root_kind d ≡ Some t
@@ -51,8 +51,8 @@ pub fn reports_lead_to_places_in_the_json()
         → All (λ r. Lead (steps_there r) d) (reports root_kind t context absent []) }
 {}
 
-/// Steps that lead to an object with a key lead on to the attribute itself if each name there that
-/// means the key is spelled as the key's text.
+/// If each name that means a key is spelled as the key's text, steps to the object lead on to the
+/// attribute itself.
 pub fn attributes_spelled_as_their_keys_are_found()
     ensures { (steps : List Step) (d : Data) (text : List ℕ) (lead : Lead steps d)
         → first_key steps ≡ Some text
@@ -62,7 +62,7 @@ pub fn attributes_spelled_as_their_keys_are_found()
 {}
 
 /// The JSON pointer of some steps finds what the steps lead to, as `Value::pointer` of `serde_json`
-/// reads it, if the numbers of items have 64 bits.
+/// reads it. The numbers of items must have 64 bits.
 pub fn pointers_find_what_their_steps_lead_to()
     ensures { (steps : List Step) (d e : Data) → All HasSmallNumber steps
         → found steps d ≡ Some e → pointer (pointer_text steps) d ≡ Some e }

@@ -112,7 +112,7 @@ pub fn worked_documents()
         (text (codes "x")) no_members)) ≡ Some [] }
 {}
 
-/// What is wrong in documents by rules of the caller's.
+/// What is wrong in documents by the caller's rules.
 #[tactic(auto, unfolding(gltf_root::specs::Root::root_rows, gltf_root::specs::Asset::asset_rows, gltf_textures::specs::Texture::texture_rows))]
 pub fn worked_rules()
     ensures no_image { reports_ruled true enabled_with_empty_textures

@@ -18,9 +18,9 @@ pub type Mesh = KeptExtensions;
 /// The extensions of a primitive.
 #[derive(Clone, Debug, Drop)]
 pub struct Primitive {
-    /// `KHR_materials_variants`: which material each variant gives the primitive.
+    /// `KHR_materials_variants`: the material of the primitive for each variant.
     pub khr_materials_variants: Option<KhrMaterialsVariants>,
-    /// The extensions that are not known.
+    /// Unknown extensions, kept as they are.
     pub others: Map<String, Value>,
 }
 
@@ -55,7 +55,7 @@ impl Object for Primitive {
 }
 
 impl Primitive {
-    /// No extension.
+    /// Returns an empty extension object.
     #[tactic(auto, unfolding(crate::specs::Mesh::primitive_extension_rows, crate::specs::Mesh::primitive_extension_members))]
     pub fn new(alloc: Global) -> Primitive
         ensures known { primitive_extension_members result ≡ defaults primitive_extension_rows }
@@ -68,7 +68,7 @@ impl Primitive {
     }
 }
 
-/// Which material each variant gives a primitive (`KHR_materials_variants`).
+/// The material of a primitive for each variant (`KHR_materials_variants`).
 #[derive(Clone, Debug, Drop)]
 pub struct KhrMaterialsVariants {
     pub mappings: Vec<Mapping>,
@@ -100,7 +100,7 @@ impl Object for KhrMaterialsVariants {
 }
 
 impl KhrMaterialsVariants {
-    /// No mapping.
+    /// Returns an object without mappings.
     #[tactic(auto, unfolding(crate::specs::Mesh::variant_mappings_members))]
     pub fn new(alloc: Global) -> KhrMaterialsVariants
         ensures { variant_mappings_members result ≡ with_tree (list end) end }
@@ -111,12 +111,12 @@ impl KhrMaterialsVariants {
     }
 }
 
-/// The material that a primitive has under some variants.
+/// The material of a primitive for some variants.
 #[derive(Clone, Debug, Drop)]
 pub struct Mapping {
-    /// The number of the material.
+    /// The index of the material, as a plain number.
     pub material: u32,
-    /// The numbers of the variants.
+    /// The indices of the variants, as plain numbers.
     pub variants: Vec<u32>,
 }
 
@@ -148,7 +148,7 @@ impl Object for Mapping {
 }
 
 impl Mapping {
-    /// The first material, under no variant.
+    /// Returns a mapping to material 0, for no variant.
     #[tactic(auto, unfolding(crate::specs::Mesh::variant_mapping_members))]
     pub fn new(alloc: Global) -> Mapping
         ensures { variant_mapping_members result ≡ with_tree (whole 0) (with_tree (list end) end) }

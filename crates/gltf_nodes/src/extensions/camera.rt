@@ -5,8 +5,8 @@ use gltf_schema::KeptExtensions;
 /// The extensions of a camera.
 pub type Camera = KeptExtensions;
 
-/// The extensions of a projection without perspective.
+/// The extensions of an orthographic projection.
 pub type Orthographic = KeptExtensions;
 
-/// The extensions of a projection with perspective.
+/// The extensions of a perspective projection.
 pub type Perspective = KeptExtensions;

@@ -19,7 +19,7 @@ pub mod khr_materials_variants;
 pub struct Node {
     /// `KHR_lights_punctual`: the light at the node.
     pub khr_lights_punctual: Option<khr_lights_punctual::KhrLightsPunctual>,
-    /// The extensions that are not known.
+    /// Unknown extensions, kept as they are.
     pub others: Map<String, Value>,
 }
 
@@ -54,7 +54,7 @@ impl Object for Node {
 }
 
 impl Node {
-    /// No extension.
+    /// Returns an empty extension object.
     #[tactic(auto, unfolding(crate::specs::Scene::node_extension_rows, crate::specs::Scene::node_extension_members))]
     pub fn new(alloc: Global) -> Node
         ensures known { node_extension_members result ≡ defaults node_extension_rows }

@@ -1,6 +1,6 @@
-//! The extension object of a document's own description, of which no extension is kept.
+//! The extension object of an asset, which keeps no extension.
 
 use gltf_schema::DroppedExtensions;
 
-/// The extensions of a document's own description.
+/// The extensions of an asset.
 pub type Asset = DroppedExtensions;

@@ -21,7 +21,7 @@ pub struct Root {
     pub khr_lights_punctual: Option<KhrLightsPunctual>,
     /// `KHR_materials_variants`: the variants that primitives name.
     pub khr_materials_variants: Option<KhrMaterialsVariants>,
-    /// The extensions that are not known.
+    /// Unknown extensions, kept as they are.
     pub others: Map<String, Value>,
 }
 
@@ -59,7 +59,7 @@ impl Object for Root {
 }
 
 impl Root {
-    /// No extension.
+    /// Returns an empty extension object.
     #[tactic(auto, unfolding(crate::specs::RootExtension::root_extension_rows, crate::specs::RootExtension::root_extension_members))]
     pub fn new(alloc: Global) -> Root
         ensures known { root_extension_members result ≡ defaults root_extension_rows }
@@ -105,7 +105,7 @@ impl Object for KhrLightsPunctual {
 }
 
 impl KhrLightsPunctual {
-    /// No light.
+    /// Returns an object without lights.
     #[tactic(auto, unfolding(crate::specs::RootExtension::lights_members))]
     pub fn new(alloc: Global) -> KhrLightsPunctual
         ensures { lights_members result ≡ with_tree (list end) end }
@@ -148,7 +148,7 @@ impl Object for KhrMaterialsVariants {
 }
 
 impl KhrMaterialsVariants {
-    /// No variant.
+    /// Returns an object without variants.
     #[tactic(auto, unfolding(crate::specs::RootExtension::variants_members))]
     pub fn new(alloc: Global) -> KhrMaterialsVariants
         ensures { variants_members result ≡ with_tree (list end) end }

@@ -5,8 +5,8 @@ ghost use Rattle.gltf_root.specs.Root.{root_tree};
 
 use crate::root::{Get, Root, RootItem};
 
-/// What [`Get`] says of a root is said of the document that it is: for each type that a document
-/// lists, in code that is generic over it.
+/// What [`Get`] says of a root holds of its document, for each type that a document lists, in code
+/// that is generic over it.
 pub fn lists_are_those_of_the_document<T: RootItem>()
     ensures document { ⟦<Root as Get<T>>⟧.document ≡ root_tree }
     ensures listed { ⟦<Root as Get<T>>⟧.listed ≡ T.items }

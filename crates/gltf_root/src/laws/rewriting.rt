@@ -8,8 +8,8 @@ ghost use Rattle.gltf_root.specs.Root.{root_kind, root_tree};
 ghost use Rattle.gltf_root.specs.Written.{IsCompactOf, IsPrettyOf};
 ghost use Rattle.gltf_root.specs.declared.root.Root.{Root as Document};
 
-/// A document without floats has one text in one line, and one in lines. For a float nothing is
-/// promised of the digits but that they read back: `1.5` and `1.50` would both do.
+/// A document without floats has one compact text, and one pretty-printed text. The digits of a
+/// float are only promised to read back: `1.5` and `1.50` would both do.
 pub fn documents_have_one_text()
     ensures compact { (r : Document) (first second : List ℕ) → HoldsNoFloat (root_tree r)
         → IsCompactOf (root_tree r) first → IsCompactOf (root_tree r) second → second ≡ first }
@@ -17,8 +17,8 @@ pub fn documents_have_one_text()
         → IsPrettyOf (root_tree r) first → IsPrettyOf (root_tree r) second → second ≡ first }
 {}
 
-/// What either text of a plain document is read as is that document, if it isn't nested deeper
-/// than 127 levels.
+/// Either text of a plain document reads back as that document, if it isn't nested deeper than 127
+/// levels.
 pub fn plain_documents_are_read_back()
     ensures compact { (r s : Document) (bytes : List ℕ) → is_plain root_kind (root_tree r) ≡ true
         → IsShallow (root_tree r) → IsCompactOf (root_tree r) bytes

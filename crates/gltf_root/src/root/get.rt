@@ -20,7 +20,7 @@ use super::Root;
 use super::mark::Mark;
 use gltf_base::{Index, Listed, PushError};
 
-/// A document has a list of `T`.
+/// A document with a list of `T`.
 pub trait Get<T> {
     ghost use Rattle.std.specs.declared.vec.Vec.{Vec};
     ghost use Rattle.std.specs.declared.alloc.Global.{Global};
@@ -36,24 +36,26 @@ pub trait Get<T> {
 
     ghost item_tree: { T → Tree };
 
-    /// The item that an index names; `None` exactly past the end of the list.
+    /// Returns the item that an index names, or `None` if and only if the list is too short.
     fn get(&self, index: Index<T>) -> Option<&T>
         ensures { option_copied result ≡ slice_get (listed self.now) (index_number index) };
 
-    /// The list; empty if its extension object is missing.
+    /// Returns the list, which is empty if its extension object is missing.
     fn list(&self) -> &[T]
         ensures { result.now ≡ listed self.now };
 
-    /// The list for writing; `None` exactly if its extension object is missing. Nothing is made.
+    /// Returns the list for writing, or `None` if and only if its extension object is missing.
+    /// Nothing is made.
     fn list_mut(&mut self) -> Option<&mut Vec<T>>
         ensures* writes_back { sem 𝓛 (lends_list Self.row T.row put self.entry result) }
         ensures lent { IfSome result (λ list. list.now.items ≡ listed self.old) }
         ensures missing { (result ≡ None) ↔ (is_there named (document self.old) ≡ false) };
 
-    /// Appends an item to the list, and returns its index. Extension objects that are missing are
-    /// made, empty but for the list, once the list has grown. `Full` comes for a list of 4294967295
-    /// items or more, before any memory is taken; `Memory` if the list could not grow. Memory is
-    /// taken by the allocator of the list, or of the list of nodes if the list has to be made.
+    /// Appends an item to the list, and returns its index. Missing extension objects are made,
+    /// empty but for the list, once the list has grown. Fails with `Full` if the list has
+    /// 4294967295 items or more, before any memory is taken, and with `Memory` if the list can't
+    /// grow. Memory is taken by the allocator of the list, or of the list of nodes if the list has
+    /// to be made.
     fn push(&mut self, item: T) -> Result<Index<T>, PushError<T>>
         ensures pushed { IfOk result (λ index. (index_number index ≡ length (listed self.old))
             × (document self.new ≡ pushed named (item_tree item) (document self.old))) }
@@ -64,13 +66,13 @@ pub trait Get<T> {
         ensures unchanged { OnErr result (document self.new ≡ document self.old) }
         ensures kept { OnErr result (listed self.new ≡ listed self.old) };
 
-    /// Which of the extension objects around the list the document has. Taken before a push, it
-    /// says to `undo_push` what the push made.
+    /// Returns which of the extension objects around the list the document has. Taken before a
+    /// push, it shows `undo_push` what the push made.
     fn mark(&self) -> Mark
         ensures { result ≡ mark_in named (document self.now) };
 
-    /// Takes the last item out of the list, and returns it; `None` if the list is empty, and
-    /// then nothing changes. What the mark says was missing before the push is missing again. With
+    /// Removes the last item of the list and returns it. If the list is empty, it returns `None`
+    /// and changes nothing. What the mark says was missing before the push is missing again. With
     /// the mark of the document before a push, it is that document again.
     fn undo_push(&mut self, mark: Mark) -> Option<T>
         ensures none { (result ≡ None) ↔ (listed self.old ≡ []) }
@@ -82,7 +84,7 @@ pub trait Get<T> {
             → IfSome result (λ item. listed self.old ≡ listed self.new ++ item ∷ []) };
 }
 
-/// What a document lists: where its list is in a root.
+/// A type that a document lists, and where its list is in a root.
 pub trait RootItem: Listed + Drop {
     ghost use Rattle.std.specs.declared.vec.Vec.{Vec};
     ghost use Rattle.std.specs.declared.alloc.Global.{Global};
@@ -97,11 +99,12 @@ pub trait RootItem: Listed + Drop {
     // The same root with another list, if it has one.
     ghost put: { Vec Self Global → Root → Root };
 
-    /// The list of a root.
+    /// Returns the list of a root.
     fn list_of(root: &Root) -> &[Self]
         ensures { result.now ≡ items root.now };
 
-    /// The list of a root for writing; `None` exactly if its extension object is missing.
+    /// Returns the list of a root for writing, or `None` if and only if its extension object is
+    /// missing.
     fn list_of_mut(root: &mut Root) -> Option<&mut Vec<Self>>
         ensures* writes_back { sem 𝓛 (lends_list the_row Self.row put root.entry result) }
         ensures lent { IfSome result (λ list. list.now.items ≡ items root.old) }
@@ -119,11 +122,11 @@ pub trait RootItem: Listed + Drop {
         ensures unchanged { OnErr result (root_tree root.new ≡ root_tree root.old) }
         ensures kept { OnErr result (items root.new ≡ items root.old) };
 
-    /// Which of the extension objects around the list a root has.
+    /// Returns which of the extension objects around the list a root has.
     fn mark_of(root: &Root) -> Mark
         ensures { result ≡ mark_in Self.list (root_tree root.now) };
 
-    /// Takes the last item out of the list of a root, and with it what was missing by the mark.
+    /// Removes the last item of the list of a root, and with it what was missing by the mark.
     fn undo_push_from(root: &mut Root, mark: Mark) -> Option<Self>
         ensures none { (result ≡ None) ↔ (items root.old ≡ []) }
         ensures unchanged { IfNone result (root_tree root.new ≡ root_tree root.old) }
@@ -184,7 +187,7 @@ impl<T: RootItem> Get<T> for Root {
 }
 
 impl Root {
-    /// The item that an index names; `None` exactly past the end of its list.
+    /// Returns the item that an index names, or `None` if and only if its list is too short.
     pub fn get<T>(&self, index: Index<T>) -> Option<&T>
     where
         Root: Get<T>,

@@ -38,7 +38,7 @@ type Samplers = (Slot<Sampler>, (Slot<Scene>, (Slot<Skin>, Slot<Texture>)));
 
 /// Returns what the table reads of the document that a text of JSON is. What was read of an item of
 /// a list is dropped before the next item is read. Returns `None` if the text is no object of JSON,
-/// or a growth was refused.
+/// or it is out of memory.
 pub(crate) fn streamed(alloc: Global, text: &str) -> Option<Result<Root, Error>>
     ensures { IfSome result (λ read_root. (d : Data) × (read_json text.now ≡ Some d)
         × Reads root_tree read_root (read root_kind d)) }

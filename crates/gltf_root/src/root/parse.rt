@@ -24,9 +24,8 @@ const MOST_BYTES: u64 = 1073741824;
 const MOST_CALLS: u64 = 2147483648;
 
 impl Root {
-    /// Returns the document that a JSON value is, as the table reads it. Fails with `Schema` if and
-    /// only if the table does not read it; `Memory` may come in place of either if a growth was
-    /// refused.
+    /// Decodes a document from a JSON value. Fails with `Schema` if and only if the value is no
+    /// glTF document. Out of memory, it may fail with `Memory` instead.
     pub fn from_value(alloc: Global, value: Value) -> Result<Root, Error>
         ensures by_table { Reads root_tree result (read root_kind (view value)) }
         // What is no object needs no memory to be refused.
@@ -36,8 +35,8 @@ impl Root {
         Root::decode(alloc, value)
     }
 
-    /// Returns the document that bytes of JSON are. Fails with `Json` if they are no JSON, else as
-    /// [`Root::from_value`]; `Memory` may come in place of any result if a growth was refused.
+    /// Reads a document from bytes of JSON. Fails with `Json` if they are no JSON, and otherwise as
+    /// [`Root::from_value`] does. Out of memory, it may fail with `Memory` instead.
     #[tactic(auto, using(crate::proofs::AnswerLemmas::answers))]
     pub fn from_slice(alloc: Global, bytes: &[u8]) -> Result<Root, Error>
         ensures by_bytes { IsAnswer (answer bytes.now) result }
@@ -49,7 +48,7 @@ impl Root {
         }
     }
 
-    /// The document that a text of JSON is, as [`Root::from_slice`] of its bytes.
+    /// Reads a document from a JSON text, as [`Root::from_slice`] does from its bytes.
     pub fn from_str(alloc: Global, text: &str) -> Result<Root, Error>
         ensures by_text { IsAnswer (answer text.now) result }
         ensures plain { IfOk result (λ root. is_plain root_kind (root_tree root) ≡ true) }
@@ -57,9 +56,9 @@ impl Root {
         Root::from_slice(alloc, text.as_bytes())
     }
 
-    /// The document that a reader gives up to its end, as [`Root::from_slice`]. `Read` comes where
-    /// the reader fails; `TooLong` where it gives more than 1073741824 bytes, or hasn't given its
-    /// end in 2147483648 calls. It reads 65536 bytes a call.
+    /// Reads a document from a reader up to its end, as [`Root::from_slice`] does. Fails with
+    /// `Read` if the reader fails. Fails with `TooLong` if it gives more than 1073741824 bytes, or
+    /// hasn't ended within 2147483648 calls. It reads 65536 bytes a call.
     pub fn from_reader<R: ByteIn>(alloc: Global, reader: &mut R) -> Result<Root, Error>
         ensures told { IfSome (R.left reader.old) (λ bytes. IsReadAnswer (answer bytes) result) }
         ensures fresh { IsFresh (R.seen reader.old)
@@ -71,10 +70,10 @@ impl Root {
         Root::from_reader_within(alloc, reader, MOST_BYTES, MOST_CALLS)
     }
 
-    /// The document that a reader gives up to its end, as [`Root::from_reader`] with other limits:
-    /// `TooLong` comes where it gives more than `most_bytes` bytes, or hasn't given its end in
-    /// `most_calls` calls, the call at the end among them. It reads 65536 bytes a call, so a reader
-    /// may be asked for some bytes past the limit.
+    /// Reads a document from a reader within other limits, as [`Root::from_reader`] does. Fails
+    /// with `TooLong` if it gives more than `most_bytes` bytes, or hasn't ended within `most_calls`
+    /// calls, the call at the end among them. It reads 65536 bytes a call, so a reader may be asked
+    /// for some bytes past the limit.
     #[tactic(auto, using(crate::proofs::AnswerLemmas::readings))]
     pub fn from_reader_within<R: ByteIn>(
         alloc: Global,

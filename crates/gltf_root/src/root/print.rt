@@ -23,9 +23,9 @@ use std::alloc::Global;
 const FIRST_ROOM: usize = 128;
 
 impl Root {
-    /// Returns the JSON value that the document is written as. Fails with `InvalidItem` if and only
-    /// if an item of a choice or the key of an attribute is invalid; `Memory` may come in place of
-    /// either if a growth was refused. Indexes are written whether or not they name anything.
+    /// Encodes the document as a JSON value. Fails with `InvalidItem` if and only if it holds an
+    /// invalid enum value or attribute name. Out of memory, it may fail with `Memory` instead.
+    /// Indexes are written whether or not they name anything.
     pub fn to_value(&self, alloc: Global) -> Result<Value, Error>
         ensures by_table { Writes view result (write root_kind (root_tree self.now))
             (holds_invalid (root_tree self.now)) }
@@ -49,9 +49,8 @@ impl Root {
         printing.finish()
     }
 
-    /// Returns the document as JSON in one line, without blanks between its tokens; errors are
-    /// those of [`Root::to_value`]. A plain one reads back if it isn't nested deeper than 127
-    /// levels.
+    /// Returns the document as compact JSON. Fails as [`Root::to_value`] does. A plain document
+    /// reads back if it isn't nested deeper than 127 levels.
     pub fn to_vec(&self, alloc: Global) -> Result<Vec<u8>, Error>
         ensures printed { IfOk result (λ b. IsCompactOf (root_tree self.now) b.items) }
         ensures withheld { IfErr result (IsWithheld (root_tree self.now)) }
@@ -61,8 +60,8 @@ impl Root {
         Ok(self.printed(alloc, out)?.into_inner())
     }
 
-    /// Returns the document as JSON in lines, two blanks deeper at each level, without a newline at
-    /// the end; errors are those of [`Root::to_value`].
+    /// Returns the document as pretty-printed JSON: indented by two spaces a level, without a
+    /// newline at the end. Fails as [`Root::to_value`] does.
     pub fn to_vec_pretty(&self, alloc: Global) -> Result<Vec<u8>, Error>
         ensures printed { IfOk result (λ b. IsPrettyOf (root_tree self.now) b.items) }
         ensures withheld { IfErr result (IsWithheld (root_tree self.now)) }
@@ -71,7 +70,7 @@ impl Root {
         Ok(self.printed(alloc, Pretty::new(alloc))?.into_inner())
     }
 
-    /// The text of [`Root::to_vec`].
+    /// Returns the text of [`Root::to_vec`].
     pub fn to_string(&self, alloc: Global) -> Result<String, Error>
         ensures printed { IfOk result (λ s. IsCompactOf (root_tree self.now) (string_bytes s)) }
         ensures withheld { IfErr result (IsWithheld (root_tree self.now)) }
@@ -80,7 +79,7 @@ impl Root {
         Ok(text_of(self.to_vec(alloc)?))
     }
 
-    /// The text of [`Root::to_vec_pretty`].
+    /// Returns the text of [`Root::to_vec_pretty`].
     pub fn to_string_pretty(&self, alloc: Global) -> Result<String, Error>
         ensures printed { IfOk result (λ s. IsPrettyOf (root_tree self.now) (string_bytes s)) }
         ensures withheld { IfErr result (IsWithheld (root_tree self.now)) }
@@ -110,7 +109,7 @@ impl Root {
         write_out(writer, &bytes)
     }
 
-    /// Writes the bytes of [`Root::to_vec_pretty`], as [`Root::to_writer`].
+    /// Writes the bytes of [`Root::to_vec_pretty`], as [`Root::to_writer`] does.
     pub fn to_writer_pretty<W: ByteOut>(&self, alloc: Global, writer: &mut W) -> Result<(), Error>
         ensures whole { IfOk result (λ _. (bytes : List ℕ)
             × IsPrettyOf (root_tree self.now) bytes × IsReadBack (root_tree self.now) bytes

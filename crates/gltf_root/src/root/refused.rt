@@ -11,13 +11,12 @@ use simdutf8::compat::from_utf8;
 use std::alloc::Global;
 
 impl Root {
-    /// Returns the innermost place in a document's bytes that the table refuses, or `None` if the
-    /// bytes are a document. Of an object it is in the first row, in the table's order, that
-    /// refuses its member, or is the member if that is missing. Of attributes it is the first
-    /// member that is no index, of a list it is in the first item that is refused. It is an object
-    /// or an array itself only if the value is none; an array of numbers also if they are too many
-    /// or too few. Fails with `Json` if the bytes are no JSON; `Memory` may come in place of any
-    /// result if a growth was refused.
+    /// Returns the innermost place at which the bytes aren't a glTF document, or `None` if they are
+    /// one. In an object that is in the first row that refuses its member, in the table's order, or
+    /// the member if it is missing. In attributes it is the first member that is no index, in a
+    /// list it is in the first item that is refused. It is an object or an array itself only if the
+    /// value is none; an array of numbers also if they are too many or too few. Fails with `Json`
+    /// if the bytes are no JSON. Out of memory, it may fail with `Memory` instead.
     ///
     /// It reads bytes again that [`Root::from_slice`] refused with `Schema`.
     pub fn refused_at(alloc: Global, bytes: &[u8]) -> Result<Option<Place>, Error>

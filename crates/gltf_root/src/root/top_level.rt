@@ -33,11 +33,11 @@ pub trait TopLevel: Listed + Object {
     // The same root with another list.
     ghost put: { Vec Self Global → Root → Root };
 
-    /// The list of a root.
+    /// Returns the list of a root.
     fn list_in(root: &Root) -> &Vec<Self>
         ensures { result.now ≡ held root.now };
 
-    /// The list of a root for writing.
+    /// Returns the list of a root for writing.
     fn list_in_mut(root: &mut Root) -> &mut Vec<Self>
         ensures* writes_back { sem 𝓛 (lends the_row Self.row put root.entry result) }
         ensures lent { result.now ≡ held root.old };

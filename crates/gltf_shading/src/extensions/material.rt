@@ -25,23 +25,23 @@ pub struct Material {
     /// `KHR_materials_pbrSpecularGlossiness`: the specular-glossiness model in place of the
     /// metallic-roughness one.
     pub pbr_specular_glossiness: Option<PbrSpecularGlossiness>,
-    /// `KHR_materials_unlit`: the surface shows its base color, whatever the light.
+    /// `KHR_materials_unlit`: the material isn't affected by light.
     pub unlit: Option<Unlit>,
-    /// `KHR_materials_transmission`: light passes through the surface.
+    /// `KHR_materials_transmission`: light is transmitted through the surface.
     pub transmission: Option<Transmission>,
-    /// `KHR_materials_volume`: the surface bounds a body that light passes through.
+    /// `KHR_materials_volume`: the surface is the boundary of a volume.
     pub volume: Option<Volume>,
-    /// `KHR_materials_specular`: how strong the specular reflection is, and its color.
+    /// `KHR_materials_specular`: the strength and the color of the specular reflection.
     pub specular: Option<Specular>,
     /// `KHR_materials_ior`: the index of refraction.
     pub ior: Option<Ior>,
-    /// `KHR_materials_emissive_strength`: how strong the emitted light is.
+    /// `KHR_materials_emissive_strength`: the strength of the emission.
     pub emissive_strength: Option<EmissiveStrength>,
-    /// The extensions that are not known.
+    /// Unknown extensions, kept as they are.
     pub others: Map<String, Value>,
 }
 
-// One call drops it, wherever it is held (docs/DECISIONS.md).
+// One call drops it, wherever it is held (docs/DECISIONS.md, "Large values").
 impl Drop for Material {
     fn drop(self) {
         let Material {
@@ -109,7 +109,7 @@ impl Object for Material {
 }
 
 impl Material {
-    /// No extension.
+    /// Returns an empty extension object.
     #[tactic(auto, unfolding(crate::specs::MaterialExtension::material_extension_rows, crate::specs::MaterialExtension::material_extension_members))]
     pub fn new(alloc: Global) -> Material
         ensures known { material_extension_members result ≡ defaults material_extension_rows }
@@ -131,31 +131,31 @@ impl Material {
 /// The extensions of the parameters of the metallic-roughness model.
 pub type PbrMetallicRoughness = KeptExtensions;
 
-/// The extensions of a reference to a texture of normals.
+/// The extensions of a reference to a normal texture.
 pub type NormalTexture = KeptExtensions;
 
-/// The extensions of a reference to a texture of occlusion.
+/// The extensions of a reference to an occlusion texture.
 pub type OcclusionTexture = KeptExtensions;
 
 /// The parameters of the specular-glossiness model (`KHR_materials_pbrSpecularGlossiness`).
 #[derive(Clone, Debug)]
 pub struct PbrSpecularGlossiness {
-    /// The factors of the diffuse color.
+    /// The diffuse factor.
     pub diffuse_factor: PbrDiffuseFactor,
-    /// The diffuse color.
+    /// The diffuse texture.
     pub diffuse_texture: Option<Info>,
-    /// The factors of the specular color.
+    /// The specular factor.
     pub specular_factor: PbrSpecularFactor,
-    /// The factor of how glossy the surface is.
+    /// The glossiness factor.
     pub glossiness_factor: StrengthFactor,
-    /// The specular color, and in the alpha channel how glossy the surface is.
+    /// The texture with the specular color, and the glossiness in its alpha channel.
     pub specular_glossiness_texture: Option<Info>,
-    /// The members that are not known.
+    /// Unknown members, kept as they are.
     pub others: Map<String, Value>,
     pub extras: Extras,
 }
 
-// One call drops it, wherever it is held (docs/DECISIONS.md).
+// One call drops it, wherever it is held (docs/DECISIONS.md, "Large values").
 impl Drop for PbrSpecularGlossiness {
     fn drop(self) {
         let PbrSpecularGlossiness {
@@ -219,7 +219,7 @@ impl Object for PbrSpecularGlossiness {
 }
 
 impl PbrSpecularGlossiness {
-    /// Parameters with every member at its default.
+    /// Returns parameters with every member at its default.
     #[tactic(auto, unfolding(crate::specs::MaterialExtension::pbr_specular_glossiness_rows, crate::specs::MaterialExtension::pbr_specular_glossiness_members))]
     pub fn new(alloc: Global) -> PbrSpecularGlossiness
         ensures known { pbr_specular_glossiness_members result
@@ -238,7 +238,7 @@ impl PbrSpecularGlossiness {
     }
 }
 
-/// The factors of a diffuse color: red, green, blue, alpha; `None` means ones.
+/// A diffuse factor: red, green, blue, alpha; `None` means ones.
 #[derive(Clone, Debug, Default, Drop)]
 pub struct PbrDiffuseFactor(pub Option<[Real; 4]>);
 
@@ -263,7 +263,7 @@ impl Tabled for PbrDiffuseFactor {
     ghost tree = { λ factor. tree_or_absent reals_tree factor.0 };
 }
 
-/// The factors of a specular color: red, green, blue; `None` means ones.
+/// A specular factor: red, green, blue; `None` means ones.
 #[derive(Clone, Debug, Default, Drop)]
 pub struct PbrSpecularFactor(pub Option<[Real; 3]>);
 
@@ -288,7 +288,7 @@ impl Tabled for PbrSpecularFactor {
     ghost tree = { λ factor. tree_or_absent reals_tree factor.0 };
 }
 
-/// A surface that shows its base color, whatever the light (`KHR_materials_unlit`).
+/// A material that isn't affected by light (`KHR_materials_unlit`).
 #[derive(Clone, Debug, Drop)]
 pub struct Unlit {}
 
@@ -315,23 +315,23 @@ impl Object for Unlit {
 }
 
 impl Unlit {
-    /// It has no members.
+    /// Returns an object, which has no members.
     pub fn new() -> Unlit {
         Unlit {}
     }
 }
 
-/// How light passes through a surface (`KHR_materials_transmission`).
+/// The light that is transmitted through a surface (`KHR_materials_transmission`).
 #[derive(Clone, Debug)]
 pub struct Transmission {
-    /// The part of the light that passes.
+    /// The fraction of light that is transmitted.
     pub transmission_factor: TransmissionFactor,
-    /// The part of the light that passes, in the red channel.
+    /// The texture with this fraction in its red channel.
     pub transmission_texture: Option<Info>,
     pub extras: Extras,
 }
 
-// One call drops it, wherever it is held (docs/DECISIONS.md).
+// One call drops it, wherever it is held (docs/DECISIONS.md, "Large values").
 impl Drop for Transmission {
     fn drop(self) {
         let Transmission {
@@ -376,7 +376,7 @@ impl Object for Transmission {
 }
 
 impl Transmission {
-    /// A surface through which no light passes.
+    /// Returns an object by which no light is transmitted.
     #[tactic(auto, unfolding(crate::specs::MaterialExtension::transmission_rows, crate::specs::MaterialExtension::transmission_members))]
     pub fn new() -> Transmission
         ensures { transmission_members result ≡ defaults transmission_rows }
@@ -389,7 +389,7 @@ impl Transmission {
     }
 }
 
-/// The part of the light that passes, from 0 to 1; `None` means 0.
+/// The fraction of light that is transmitted, from 0 to 1; `None` means 0.
 #[derive(Clone, Debug, Default, Drop)]
 pub struct TransmissionFactor(pub Option<Real>);
 
@@ -414,21 +414,21 @@ impl Tabled for TransmissionFactor {
     ghost tree = { λ factor. tree_or_absent real_tree factor.0 };
 }
 
-/// The body that a surface bounds (`KHR_materials_volume`).
+/// The volume that a surface bounds (`KHR_materials_volume`).
 #[derive(Clone, Debug)]
 pub struct Volume {
-    /// How thick the body is.
+    /// The thickness of the volume.
     pub thickness_factor: ThicknessFactor,
-    /// How thick the body is, in the green channel.
+    /// The texture with the thickness in its green channel.
     pub thickness_texture: Option<Info>,
-    /// How far light goes in the body before it is absorbed, on average.
+    /// The average distance that light travels in the volume before it is absorbed.
     pub attenuation_distance: AttenuationDistance,
-    /// The color that white light has at that distance.
+    /// The color that white light turns into at that distance.
     pub attenuation_color: AttenuationColor,
     pub extras: Extras,
 }
 
-// One call drops it, wherever it is held (docs/DECISIONS.md).
+// One call drops it, wherever it is held (docs/DECISIONS.md, "Large values").
 impl Drop for Volume {
     fn drop(self) {
         let Volume {
@@ -481,7 +481,7 @@ impl Object for Volume {
 }
 
 impl Volume {
-    /// A surface without a body.
+    /// Returns an object for a thin-walled surface.
     #[tactic(auto, unfolding(crate::specs::MaterialExtension::volume_rows, crate::specs::MaterialExtension::volume_members))]
     pub fn new() -> Volume
         ensures { volume_members result ≡ defaults volume_rows }
@@ -496,7 +496,8 @@ impl Volume {
     }
 }
 
-/// A thickness, in the units of the mesh; `None` means 0, a surface without a body.
+/// The thickness of a volume, in the mesh's coordinate space; `None` means 0, a thin-walled
+/// surface.
 #[derive(Clone, Debug, Default, Drop)]
 pub struct ThicknessFactor(pub Option<Real>);
 
@@ -521,7 +522,7 @@ impl Tabled for ThicknessFactor {
     ghost tree = { λ factor. tree_or_absent real_tree factor.0 };
 }
 
-/// A distance, in the units of the scene; `None` means one without end.
+/// The attenuation distance in world space; `None` means infinite.
 #[derive(Clone, Debug, Default, Drop)]
 pub struct AttenuationDistance(pub Option<Real>);
 
@@ -543,7 +544,8 @@ impl Tabled for AttenuationDistance {
     ghost tree = { λ factor. tree_or_absent real_tree factor.0 };
 }
 
-/// A color: red, green, blue; `None` means ones.
+/// The color that white light turns into at the attenuation distance: red, green, blue; `None`
+/// means ones.
 #[derive(Clone, Debug, Default, Drop)]
 pub struct AttenuationColor(pub Option<[Real; 3]>);
 
@@ -568,21 +570,21 @@ impl Tabled for AttenuationColor {
     ghost tree = { λ factor. tree_or_absent reals_tree factor.0 };
 }
 
-/// How strong the specular reflection is, and its color (`KHR_materials_specular`).
+/// The strength and the color of the specular reflection (`KHR_materials_specular`).
 #[derive(Clone, Debug)]
 pub struct Specular {
-    /// How strong the reflection is.
+    /// The strength of the specular reflection.
     pub specular_factor: SpecularFactor,
-    /// How strong the reflection is, in the alpha channel.
+    /// The texture with the strength in its alpha channel.
     pub specular_texture: Option<Info>,
-    /// The factors of the color of the reflection.
+    /// The specular color factor.
     pub specular_color_factor: SpecularColorFactor,
-    /// The color of the reflection.
+    /// The specular color texture.
     pub specular_color_texture: Option<Info>,
     pub extras: Extras,
 }
 
-// One call drops it, wherever it is held (docs/DECISIONS.md).
+// One call drops it, wherever it is held (docs/DECISIONS.md, "Large values").
 impl Drop for Specular {
     fn drop(self) {
         let Specular {
@@ -635,7 +637,7 @@ impl Object for Specular {
 }
 
 impl Specular {
-    /// A reflection with every member at its default.
+    /// Returns an object with every member at its default.
     #[tactic(auto, unfolding(crate::specs::MaterialExtension::specular_rows, crate::specs::MaterialExtension::specular_members))]
     pub fn new() -> Specular
         ensures { specular_members result ≡ defaults specular_rows }
@@ -650,7 +652,7 @@ impl Specular {
     }
 }
 
-/// How strong a reflection is, from 0 to 1; `None` means 1.
+/// The strength of a specular reflection, from 0 to 1; `None` means 1.
 #[derive(Clone, Debug, Default, Drop)]
 pub struct SpecularFactor(pub Option<Real>);
 
@@ -675,7 +677,7 @@ impl Tabled for SpecularFactor {
     ghost tree = { λ factor. tree_or_absent real_tree factor.0 };
 }
 
-/// The factors of the color of a reflection: red, green, blue; `None` means ones.
+/// A specular color factor: red, green, blue; `None` means ones.
 #[derive(Clone, Debug, Default, Drop)]
 pub struct SpecularColorFactor(pub Option<[Real; 3]>);
 
@@ -700,7 +702,7 @@ impl Tabled for SpecularColorFactor {
     ghost tree = { λ factor. tree_or_absent reals_tree factor.0 };
 }
 
-/// How light is bent at a surface (`KHR_materials_ior`).
+/// The index of refraction of a material (`KHR_materials_ior`).
 #[derive(Clone, Debug, Drop)]
 pub struct Ior {
     /// The index of refraction.
@@ -739,7 +741,7 @@ impl Object for Ior {
 }
 
 impl Ior {
-    /// The default index of refraction.
+    /// Returns the default index of refraction.
     #[tactic(auto, unfolding(crate::specs::MaterialExtension::ior_rows, crate::specs::MaterialExtension::ior_members))]
     pub fn new() -> Ior
         ensures { ior_members result ≡ defaults ior_rows }
@@ -776,10 +778,10 @@ impl Tabled for IndexOfRefraction {
     ghost tree = { λ factor. tree_or_absent real_tree factor.0 };
 }
 
-/// How strong the light is that a surface emits (`KHR_materials_emissive_strength`).
+/// The strength of a surface's emission (`KHR_materials_emissive_strength`).
 #[derive(Clone, Debug, Drop)]
 pub struct EmissiveStrength {
-    /// The factor of that light.
+    /// The strength of the emission.
     pub emissive_strength: EmissiveStrengthFactor,
 }
 
@@ -811,7 +813,7 @@ impl Object for EmissiveStrength {
 }
 
 impl EmissiveStrength {
-    /// The default strength.
+    /// Returns the default strength.
     #[tactic(auto, unfolding(crate::specs::MaterialExtension::emissive_strength_rows, crate::specs::MaterialExtension::emissive_strength_members))]
     pub fn new() -> EmissiveStrength
         ensures { emissive_strength_members result ≡ defaults emissive_strength_rows }
@@ -822,7 +824,7 @@ impl EmissiveStrength {
     }
 }
 
-/// The factor of an emitted light; `None` means 1.
+/// The strength of an emission; `None` means 1.
 #[derive(Clone, Debug, Default, Drop)]
 pub struct EmissiveStrengthFactor(pub Option<Real>);
 

@@ -26,9 +26,9 @@ pub type Texture = KeptExtensions;
 /// The extensions of a reference to a texture.
 #[derive(Clone, Debug, Drop)]
 pub struct Info {
-    /// `KHR_texture_transform`: how texture coordinates are changed before they are used.
+    /// `KHR_texture_transform`: a transform of texture coordinates.
     pub texture_transform: Option<TextureTransform>,
-    /// The extensions that are not known.
+    /// Unknown extensions, kept as they are.
     pub others: Map<String, Value>,
 }
 
@@ -63,7 +63,7 @@ impl Object for Info {
 }
 
 impl Info {
-    /// No extension.
+    /// Returns an empty extension object.
     #[tactic(auto, unfolding(crate::specs::Texture::info_extension_rows, crate::specs::Texture::info_extension_members))]
     pub fn new(alloc: Global) -> Info
         ensures known { info_extension_members result ≡ defaults info_extension_rows }
@@ -76,11 +76,11 @@ impl Info {
     }
 }
 
-/// How texture coordinates are changed before they are used: scaled, then turned, then moved.
-// What takes longest to drop comes last (docs/DECISIONS.md).
+/// A transform of texture coordinates: scale, then rotation, then offset.
+// What takes longest to drop comes last (docs/DECISIONS.md, "Order of fields").
 #[derive(Clone, Debug, Drop)]
 pub struct TextureTransform {
-    /// Which set of texture coordinates is used in place of the one that the reference names.
+    /// The set of texture coordinates that replaces the one of the reference.
     pub tex_coord: Option<u32>,
     pub rotation: TextureTransformRotation,
     pub offset: TextureTransformOffset,
@@ -128,7 +128,7 @@ impl Object for TextureTransform {
 }
 
 impl TextureTransform {
-    /// The transform that changes nothing.
+    /// Returns the identity transform.
     #[tactic(auto, unfolding(crate::specs::Texture::texture_transform_rows, crate::specs::Texture::texture_transform_members))]
     pub fn new() -> TextureTransform
         ensures { texture_transform_members result ≡ defaults texture_transform_rows }
@@ -143,7 +143,7 @@ impl TextureTransform {
     }
 }
 
-/// How far the origin is moved, in widths and heights of the texture; `None` means zeros.
+/// The offset of the origin, in texture widths and heights; `None` means zeros.
 #[derive(Clone, Debug, Default, Drop)]
 pub struct TextureTransformOffset(pub Option<[Real; 2]>);
 
@@ -168,8 +168,7 @@ impl Tabled for TextureTransformOffset {
     ghost tree = { λ factor. tree_or_absent reals_tree factor.0 };
 }
 
-/// The angle by which the coordinates are turned round the origin, in radians, counter-clockwise;
-/// `None` means 0.
+/// The rotation about the origin, counter-clockwise in radians; `None` means 0.
 #[derive(Clone, Debug, Default, Drop)]
 pub struct TextureTransformRotation(pub Option<Real>);
 
@@ -194,7 +193,7 @@ impl Tabled for TextureTransformRotation {
     ghost tree = { λ factor. tree_or_absent real_tree factor.0 };
 }
 
-/// The factors by which the coordinates are scaled; `None` means ones.
+/// The scale of the coordinates; `None` means ones.
 #[derive(Clone, Debug, Default, Drop)]
 pub struct TextureTransformScale(pub Option<[Real; 2]>);
 

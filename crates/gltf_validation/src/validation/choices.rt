@@ -12,7 +12,7 @@ use gltf_sinks::{Sink, Stop, tell};
 impl<T> Validate for Checked<T> {
     ghost own = { checked_reports };
 
-    /// Reports `Invalid` if the item is none of the choice's.
+    /// Reports `Invalid` if the item is invalid.
     fn validate_with<'a, S: Sink>(
         &'a self,
         _rules: &Rules<'_>,

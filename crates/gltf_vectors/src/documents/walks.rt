@@ -42,7 +42,7 @@ pub(super) fn gives_lines(alloc: Global, rules: Rules<'_>, root: &Root, lines: &
     }
 }
 
-/// Whether a walk answers this next, with a path exactly where it is a report.
+/// Whether a walk answers this next, with a path if and only if it is a report.
 fn answers(walk: &mut Walk<'_>, due: Option<Error>) -> bool {
     let next = walk.next_report();
     next == due && walk.steps().is_empty() == due.is_none()

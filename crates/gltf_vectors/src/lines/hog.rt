@@ -1,15 +1,15 @@
-//! Want of memory.
+//! Calls that run out of memory.
 
 use std::alloc::{AllocError, Global};
 use std::test::Fail;
 
-/// Bytes that are given back at a time.
+/// The size of a spare block, in bytes.
 const PEBBLE_LEN: usize = 64;
 
 /// How often something is tried at most.
 const TRIES: usize = 4096;
 
-/// Holds all memory that the process can have, so that growths are refused.
+/// Holds all memory that the process can have. Every growth is then refused.
 #[derive(Drop)]
 pub struct Hog {
     pebbles: Vec<Vec<u8>>,
@@ -17,7 +17,7 @@ pub struct Hog {
 }
 
 impl Hog {
-    /// Takes all memory; so many pebbles of it can be given back.
+    /// Takes all memory, of which so many spare blocks can be freed.
     pub fn take_all(alloc: Global, pebble_count: usize) -> Result<Hog, AllocError> {
         let mut pebbles = Vec::with_capacity(alloc, pebble_count)?;
         for _ in 0..pebble_count {
@@ -38,7 +38,7 @@ impl Hog {
         })
     }
 
-    /// Gives one pebble back, and says whether there was one.
+    /// Frees one spare block, and returns whether there was one.
     pub fn give_back(&mut self) -> bool {
         self.pebbles.pop().is_some()
     }
@@ -47,22 +47,22 @@ impl Hog {
 /// How a try ends.
 #[derive(Clone, Copy)]
 pub(crate) enum End {
-    /// As it does where there is memory.
+    /// As it does with enough memory.
     Whole,
-    /// A growth was refused, and it ends as it should then.
+    /// Out of memory, as it should.
     Refused,
     /// As it never should.
     Wrong,
 }
 
-/// What is tried where memory is refused.
+/// A call that is tried without memory.
 pub(crate) trait Tried {
     /// Tries it, and judges how it ended. That takes no memory.
     fn attempt(&mut self, alloc: Global) -> End;
 }
 
-/// How often something is refused that is tried without memory, and each time with a pebble more,
-/// until it is whole.
+/// Returns how often a call is refused that is tried without memory, and each time with one more
+/// free block, until it succeeds.
 pub(crate) fn refusal_count<T: Tried>(alloc: Global, tried: &mut T) -> Result<usize, Fail> {
     let mut hog = Hog::take_all(alloc, TRIES)?;
     for refusals in 0..TRIES {

@@ -19,7 +19,7 @@ fn failed_is_printed(rt: HostRuntime) -> Result<(), Fail> {
     Ok(())
 }
 
-/// Whether a run over a reader that fails at a call says so, and tells nothing of the document.
+/// Whether a run over a reader that fails at a call reports that, and nothing of the document.
 fn is_refused_at(alloc: Global, fails_at: usize) -> bool {
     let mut reader = Watched::new(Giver::new(NEW, Some(fails_at)));
     let mut writer = Watched::new(Vec::new(alloc));

@@ -1,4 +1,4 @@
--- What an item is read as is spelled so.
+-- What a spelling is read as has that spelling.
 use Rattle.gltf_checked.proofs.ItemLemmas.{item_spelled-Valid}
 use Rattle.gltf_checked.proofs.choice.spellings_are_read_back.Goals as goal
 

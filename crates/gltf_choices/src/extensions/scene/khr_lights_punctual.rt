@@ -9,17 +9,17 @@ use gltf_checked::choice::{Choice, Form, Spelling, item_of};
 use gltf_checked::validation::Checked;
 use std::fmt::{self, Display, Formatter, Write};
 
-/// The names of the types.
+/// The names of the light types.
 pub const VALID_TYPES: &[&str] = &["directional", "point", "spot"];
 
-/// How a light shines (the extension KHR_lights_punctual).
+/// The type of a punctual light (`KHR_lights_punctual`).
 #[derive(Clone, Copy, Debug, PartialEq, Eq, Hash)]
 pub enum LightType {
-    /// From far away, in one direction.
+    /// A directional light, infinitely far away.
     Directional = 1,
-    /// From a point, in all directions.
+    /// A point light, which emits in all directions.
     Point,
-    /// From a point, into a cone.
+    /// A spot light, which emits in a cone.
     Spot,
 }
 
@@ -60,14 +60,14 @@ impl Display for LightType {
 }
 
 impl LightType {
-    /// The type that a name spells; `Invalid` where it spells none.
+    /// Returns the type with this name, or `Invalid` if there is none.
     pub fn from_name(name: &str) -> Checked<LightType>
         ensures { result ≡ item_spelled light_type_spelling light_types (by_name name.now) }
     {
         item_of::<LightType>(Spelling::Name(name))
     }
 
-    /// The name by which a document spells the type.
+    /// Returns the name that stands for the type in a document.
     pub fn name(self) -> &'static str
         ensures { by_name result.now ≡ light_type_spelling self }
     {

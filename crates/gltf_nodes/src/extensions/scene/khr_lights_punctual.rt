@@ -21,15 +21,15 @@ use gltf_schema::{Object, ReadRows, WriteRows};
 use serde_json::Value;
 use std::f64::consts::FRAC_PI_4;
 
-/// The light that a node carries. It is at the node's origin; a directional or a spot light
-/// shines along the node's local -z axis.
+/// The light of a node. It is at the node's origin; a directional or a spot light shines along the
+/// node's local -z axis.
 #[derive(Clone, Debug, Drop)]
 pub struct KhrLightsPunctual {
     pub light: Index<Light>,
 }
 
 impl KhrLightsPunctual {
-    /// A light of the document.
+    /// Returns a reference to a light of the document.
     #[tactic(auto, unfolding(crate::specs::Light::light_of_node_rows, crate::specs::Light::light_of_node_members))]
     pub fn new(light: Index<Light>) -> KhrLightsPunctual
         ensures { light_of_node_members result ≡ made light_of_node_rows (
@@ -65,27 +65,27 @@ impl Object for KhrLightsPunctual {
     }
 }
 
-/// A light.
-// What takes longest to drop comes last (docs/DECISIONS.md).
+/// A punctual light.
+// What takes longest to drop comes last (docs/DECISIONS.md, "Order of fields").
 #[derive(Clone, Debug)]
 pub struct Light {
-    /// How it shines: from afar, from a point, or into a cone.
+    /// Whether it is a directional light, a point light or a spot light.
     pub type_: Checked<LightType>,
     pub name: Option<String>,
-    /// How bright it is, in candela or, if it is directional, in lux; `None` means 1.
+    /// The intensity, in candela, or in lux if it is directional; `None` means 1.
     pub intensity: Option<Real>,
-    /// How far it reaches, in meters; without it there is no end.
+    /// The distance at which the intensity reaches zero, in meters; if absent, it is infinite.
     pub range: Option<Real>,
-    /// Its color: red, green, blue; `None` means ones.
+    /// The color: red, green, blue; `None` means ones.
     pub color: Option<[Real; 3]>,
-    /// The extensions, as they are.
+    /// The extensions, as a JSON value.
     pub extensions: Option<Value>,
     pub extras: Extras,
-    /// The cone of a light of type `Spot`.
+    /// The cone of a spot light.
     pub spot: Option<Spot>,
 }
 
-// One call drops it, wherever it is held (docs/DECISIONS.md).
+// One call drops it, wherever it is held (docs/DECISIONS.md, "Large values").
 impl Drop for Light {
     fn drop(self) {
         let Light {
@@ -102,7 +102,7 @@ impl Drop for Light {
 }
 
 impl Light {
-    /// A white light. One of type `Spot` needs its `spot` too.
+    /// Returns a white light. A spot light also needs its `spot`.
     #[tactic(auto, unfolding(crate::specs::Light::light_rows, crate::specs::Light::light_members))]
     pub fn new(type_: LightType) -> Light
         ensures { light_members result ≡ made light_rows (
@@ -202,14 +202,12 @@ impl Object for Light {
     }
 }
 
-/// The cone in which a light shines.
+/// The cone of a spot light.
 #[derive(Clone, Debug, Drop)]
 pub struct Spot {
-    /// The angle from the axis to where the light begins to fall off, in radians; `None` means
-    /// 0.
+    /// The angle from the axis at which the falloff begins, in radians; `None` means 0.
     pub inner_cone_angle: Option<Real>,
-    /// The angle from the axis to where the light ends, in radians; `None` means a quarter of
-    /// pi.
+    /// The angle from the axis at which the falloff ends, in radians; `None` means a quarter of pi.
     pub outer_cone_angle: Option<Real>,
 }
 
@@ -244,7 +242,7 @@ impl Object for Spot {
 }
 
 impl Spot {
-    /// A cone with every member at its default.
+    /// Returns a cone with every member at its default.
     #[tactic(auto, unfolding(crate::specs::Light::spot_rows, crate::specs::Light::spot_members))]
     pub fn new() -> Spot
         ensures { spot_members result ≡ defaults spot_rows }

@@ -11,13 +11,13 @@ ghost use Rattle.gltf_nodes.specs.Light.{variant_rows, variant_sound, variant_he
 use gltf_base::Listed;
 use gltf_schema::{Object, ReadRows, WriteRows};
 
-/// A variant: a choice of materials for the whole document.
+/// A material variant of a document.
 #[derive(Clone, Debug)]
 pub struct Variant {
     pub name: String,
 }
 
-// One call drops it, wherever it is held (docs/DECISIONS.md).
+// One call drops it, wherever it is held (docs/DECISIONS.md, "Large values").
 impl Drop for Variant {
     fn drop(self) {
         let Variant { name: _ } = self;
@@ -25,7 +25,7 @@ impl Drop for Variant {
 }
 
 impl Variant {
-    /// A variant of this name.
+    /// Returns a variant with this name.
     #[tactic(auto, unfolding(crate::specs::Light::variant_rows, crate::specs::Light::variant_members))]
     pub fn new(name: String) -> Variant
         ensures { variant_members result ≡ made variant_rows (

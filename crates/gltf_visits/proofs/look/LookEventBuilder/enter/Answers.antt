@@ -1,4 +1,4 @@
--- The value is quiet if the caller says so.
+-- The value is quiet if the caller's argument is true.
 use Rattle.gltf_visits.proofs.look.LookEventBuilder.enter.Goals as goal
 
 pub returns : goal.returns

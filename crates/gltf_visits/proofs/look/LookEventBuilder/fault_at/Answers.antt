@@ -1,4 +1,4 @@
--- The leaf is quiet if it has no error.
+-- The leaf is quiet if it has no fault.
 use Rattle.std.proofs.Common.{◌≡◌, ◌∙◌, rules}
 use Rattle.std.specs.Option.{is_none}
 use Rattle.gltf_visits.proofs.QuietOutlines.{quiet_leaf}

@@ -1,4 +1,4 @@
--- The value is quiet if the look says so.
+-- The value is quiet if the look returns true.
 use Rattle.gltf_visits.proofs.look.LookEventBuilder.item.Goals as goal
 
 pub returns : goal.returns

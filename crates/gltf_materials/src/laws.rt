@@ -12,8 +12,8 @@ pub fn factors_are_absent_by_default()
     ensures base_color { (x : _) → ⟦<PbrBaseColorFactor as Default>⟧.is_default x → x.0 ≡ None }
 {}
 
-/// Each number that stands for an absent one is that of glTF 2.0 (sections 5.19, 5.20 and 5.22). The
-/// float that is nearest to `n / d` is `round binary64 false n d`.
+/// Each number that stands for an absent one is that of glTF 2.0 (sections 5.19, 5.20 and 5.22).
+/// The float that is nearest to `n / d` is `round binary64 false n d`.
 pub fn defaults_are_listed()
     ensures alpha_cutoff { AlphaCutoff.DEFAULT ≡ round binary64 false 1 2 }
     ensures emissive { EmissiveFactor.DEFAULT ≡ replicate 3 float_zero }

@@ -11,7 +11,8 @@ use std::fmt::Write;
 
 impl Path {
     /// Returns the JSON pointer (RFC 6901) to the place at the end of the steps, such as
-    /// `/accessors/0/bufferView`. In a name or a key `~` becomes `~0`, and `/` becomes `~1`. A step
+    /// `/accessors/0/bufferView`. The document need not have that place: the pointer may name a
+    /// member that is missing. In a name or a key `~` becomes `~0`, and `/` becomes `~1`. A step
     /// to a value adds nothing, since the pointer is that of the place which holds it. Fails only
     /// if out of memory.
     pub fn pointer_of(alloc: Global, steps: &Steps<'_>) -> Result<String, AllocError>

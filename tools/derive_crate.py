@@ -1,12 +1,86 @@
-"""What an object's own crate has of it: `Drop`, `Object`, the answers of `read_members` and of
-`write_members`, and in `specs/` that its kind is sound and how high it is."""
+"""What an object's own crate has of it: `Drop` beside the struct, and in files of their own
+`Object`, the answers of `read_members` and of `write_members`, the values of factors, and in
+`specs/` that its kind is sound and how high it is."""
 from derive_exceptions import FACTS, Fact
-from derive_layout import block, call, ends_definition, ghosts, indented, struct
-from derive_names import use_definitions
-from derive_objects import CRATES, line_of
+from derive_factors import Factor, object_values
+from derive_layout import block, call, ghosts, header, indented, struct
+from derive_names import RUST_NAMES, SCHEMA, antt_uses, rust_uses
 from derive_rows import text_of
+from derive_sources import CRATES
 
-DROPPED = "// One call drops it, wherever it is held (docs/DECISIONS.md, \"Large values\")."
+# The name of the module with the derived text of a module.
+DERIVED = "derived"
+
+
+class Modules:
+    """The derived modules of the crates of objects: of each file with structs a child module, and
+    of each file with rows a file beside it."""
+
+    def __init__(self, table, files):
+        self.table, self.files = table, files
+        # The blocks of each file in `src/` and in `specs/`, and the files that they follow from.
+        self.blocks, self.lemmas, self.sources = {}, {}, {}
+        self.modules = {}
+        self.ghosts = table.ghost_names()
+
+    def add(self, made, crate, module, lines):
+        """Adds a block to the derived module of a module."""
+        source = (CRATES / crate / "src").joinpath(*module).with_suffix(".rt")
+        self.modules[source] = (crate, *module)
+        self.blocks.setdefault(source, []).append(lines)
+        self.sources.setdefault(source, {source: None})[made.spec_path()] = None
+        self.files.count(made, lines)
+
+    def add_lemma(self, made, lines):
+        path = made.spec_path()
+        self.lemmas.setdefault(path, []).append(lines)
+        self.sources.setdefault(path, {path: None})[made.source()] = None
+        self.files.count(made, lines)
+
+    def write(self):
+        for made in self.table.objects.values():
+            CrateTexts(self.table, made).write(self)
+        for path, (holds, base) in self.table.factors.items():
+            Factor(path, holds).write(self, self.table.objects[base])
+        for source, blocks in self.blocks.items():
+            self.write_module(source, blocks)
+        for path, lemmas in self.lemmas.items():
+            self.write_lemmas(path, lemmas)
+
+    def write_module(self, source, blocks):
+        lines = [line for lines in blocks for line in ["", *lines]][1:]
+        uses = rust_uses(lines, self.ghosts, self.rust_names(self.modules[source]))
+        self.files.whole(source.with_suffix("") / f"{DERIVED}.rt",
+                         [*header(list(self.sources[source]), "//!"), "", *uses, *lines])
+        self.files.declare(source, f"mod {DERIVED};", [
+            r"(pub )?mod \w+;", r"(pub )?use .*;|};", r"//!|#!"])
+
+    def rust_names(self, path):
+        """The paths of the names that a module declares or uses, from its child module."""
+        module, names = self.table.sources.module(path), dict(RUST_NAMES)
+        for name, used in module.uses.items():
+            used = list(used)
+            if used[0] == "super" or used[0] in module.modules:
+                used = ["super", *used]
+            elif used[0] == "self":
+                used = ["super", *used[1:]]
+            if used[-1] == name and len(used) > 1 and name[0].isupper():
+                names[name] = "::".join(used[:-1])
+        return {**names, **{name: "super" for name in module.items}}
+
+    def write_lemmas(self, path, lemmas):
+        ranked = sorted(lemmas, key=lambda lines: "_height :" in lines[0])
+        lines = [line for lines in ranked for line in ["", *lines]][1:]
+        self.files.whole(path.with_stem(f"{path.stem}Derived"), [
+            *header(list(self.sources[path]), "--"),
+            *antt_uses("\n".join(lines), self.own_names(path)), "", *lines])
+        self.files.declare(path.parent / "Lib.antt", f"pub mod {path.stem}Derived", ["pub mod "])
+
+    def own_names(self, path):
+        """What derived text uses, but for the lemmas of the file itself."""
+        own = {f"{made.base}_{word}" for made in self.table.objects.values()
+               if made.spec_path() == path for word in ("sound", "height")}
+        return {name: module for name, module in self.ghosts.items() if name not in own}
 
 
 class CrateTexts:
@@ -16,23 +90,23 @@ class CrateTexts:
         self.table, self.made = table, made
         self.is_plain = not made.keeps
 
-    def write(self, files):
-        made = self.made
+    def write(self, modules):
+        made, files = self.made, modules.files
         source = made.source()
-        struct_head, drop_head = f"pub struct {made.name}", f"impl Drop for {made.name}"
-        if not made.drops and not files.put(made, source, drop_head, self.drop()):
-            files.insert(made, source, files.find(source, struct_head)[1], [DROPPED, *self.drop()])
-        if not files.put(made, source, f"impl Object for {made.name}", self.object()):
-            place = files.find(source, drop_head) or files.find(source, struct_head)
-            files.insert(made, source, place[1], self.object())
-        folder = (CRATES / made.crate / "proofs").joinpath(*made.module) / f"{made.name}Object"
+        if not made.drops:
+            files.marked(source, f"impl Drop for {made.name}", files.end_of(
+                source, f"pub struct {made.name} {{"), self.drop())
+            files.count(made, self.drop())
+        modules.add(made, made.crate, made.module, self.object())
+        if values := object_values(made):
+            modules.add(made, made.crate, made.module, values)
+        folder = (CRATES / made.crate / "proofs").joinpath(*made.module, DERIVED)
         for function, lines in (("read_members", self.read_answers()),
                                 ("write_members", self.write_answers())):
-            files.whole(made, folder / function / "Answers.antt", lines)
-        names = [f"{made.base}_{word}" for word in ("rows", "sound", "height", "members")]
-        use_definitions(files, source, made.definitions(), names)
-        self.put_lemma(files, "sound", self.sound())
-        self.put_lemma(files, "height", self.height())
+            files.whole(folder / f"{made.name}Object" / function / "Answers.antt", lines)
+            files.count(made, lines)
+        modules.add_lemma(made, self.sound())
+        modules.add_lemma(made, self.height())
 
     def drop(self):
         made = self.made
@@ -121,9 +195,10 @@ class CrateTexts:
         used = sorted(["all_read" if self.is_plain else "all_kept", "read_none", "read_row",
                        *extra.names])
         end = "" if self.is_plain else " c.others-others.ensures"
-        return ["-- Each row is read in the table's order.",
+        return [*self.header(),
+                "-- Each row is read in the table's order.",
                 *extra.uses,
-                f"use Rattle.gltf_schema.proofs.RowByRow.{{{', '.join(used)}}}",
+                f"use Rattle.{SCHEMA}.proofs.RowByRow.{{{', '.join(used)}}}",
                 *self.answers("read_members", used[0], "read", facts, end)]
 
     def write_answers(self):
@@ -142,9 +217,10 @@ class CrateTexts:
         first = "all_written" if self.is_plain else "written_with_others"
         begin = first if self.is_plain else f"{first} c.others.ensures"
         used = [first, "write_none", "write_row", *extra.names]
-        return ["-- Each row is written in the order of the names.",
+        return [*self.header(),
+                "-- Each row is written in the order of the names.",
                 *extra.uses,
-                f"use Rattle.gltf_schema.proofs.RowsWritten.{{{', '.join(used)}}}",
+                f"use Rattle.{SCHEMA}.proofs.RowsWritten.{{{', '.join(used)}}}",
                 *self.answers("write_members", begin, "write", facts, "")]
 
     def around(self, row, verb):
@@ -160,7 +236,7 @@ class CrateTexts:
     def answers(self, function, begin, verb, facts, end):
         made = self.made
         names = f"{made.base}_rows {made.base}_members"
-        module = ".".join([*made.module, f"{made.name}Object"])
+        module = ".".join([*made.module, DERIVED, f"{made.name}Object"])
         lines = [f"({verb}_row {fact}" for fact in facts]
         lines[-1] += f" {verb}_none" + ")" * len(facts) + end
         return [
@@ -173,12 +249,15 @@ class CrateTexts:
             *indented([begin, *lines]),
         ]
 
+    def header(self):
+        return header([self.made.source(), self.made.spec_path()], "--")
+
     def inner_objects(self, made):
         """The objects with rows that the rows are of, each once, in the rows' order."""
         found = []
         for row in made.rows:
             inner = self.table.object_of(made, row.kind)
-            if inner and "gltf_schema" != inner.crate and inner not in found:
+            if inner and inner.crate != SCHEMA and inner not in found:
                 found.append(inner)
         return found
 
@@ -212,23 +291,6 @@ class CrateTexts:
         return [f"pub {made.base}_height : {high} {made.kind}",
                 f"unfolding {made.base}_rows",
                 f"{made.base}_height = {rewritten(names, '(refl, refl)')}"]
-
-    def put_lemma(self, files, word, wanted):
-        made = self.made
-        path = made.spec_path()
-        if files.put(made, path, f"pub {made.base}_{word} :", wanted, ends_definition, free=True):
-            return
-        # Behind that of the object in front of it, or in front of the first one.
-        bases = [one.base for one in self.table.objects.values() if one.spec_path() == path]
-        earlier = bases[:bases.index(made.base)]
-        places = [files.find(path, f"pub {base}_{word} :", ends_definition) for base in bases]
-        after = [place[1] for base, place in zip(bases, places) if place and base in earlier]
-        before = [place[0] - 2 for place in places if place]
-        if after or before:
-            files.insert(made, path, after[-1] if after else min(before), wanted)
-        else:
-            files.miss(path, line_of(path, f"unfoldable pub {made.base}_members"),
-                       f"write 'pub {made.base}_{word} : x' below the members, and run again")
 
 
 def rewritten(names, end):

@@ -1,6 +1,8 @@
 """What of an object doesn't follow from its struct and its rows, with the reason."""
 from dataclasses import dataclass
 
+from derive_names import SCHEMA
+
 # The fields that aren't named for their rows: attributes have the names of the Rust crate.
 FIELDS = {
     "POSITION": "positions",
@@ -19,8 +21,8 @@ class Fact:
 
 
 AP = "use Rattle.std.proofs.Common.{ap}"
-KIND = "use Rattle.gltf_schema.specs.Kind"
-INDEX = "use Rattle.gltf_schema.specs.Tree.{index}"
+KIND = f"use Rattle.{SCHEMA}.specs.Kind"
+INDEX = f"use Rattle.{SCHEMA}.specs.Tree.{{index}}"
 
 # By the base of the object, the row, and what is done with it.
 FACTS = {
@@ -41,7 +43,7 @@ FACTS = {
     # The default is an object that a call makes.
     ("material", "pbrMetallicRoughness", "read"): Fact(
         "(marked (ap (λ ts. always (closed_object ts)) c.new.ensures) {})", ["marked"],
-        (AP, f"{KIND}.{{always}}", "use Rattle.gltf_schema.specs.Fields.{closed_object}")),
+        (AP, f"{KIND}.{{always}}", f"use Rattle.{SCHEMA}.specs.Fields.{{closed_object}}")),
 }
 
 # The blocks that are written by hand, with the reason.
@@ -52,16 +54,91 @@ BY_HAND = {
         "what is wrong in a material is found at once, before a walk enters it",
     ("animation_channel", "Visitable"):
         "a channel is visited by its animation, whose samplers it names",
+    ("animation_channel", "ListItem"):
+        "the channels are visited with their animation",
     ("animation_channel", "TableObject"):
         "a channel is validated by its animation alone",
     ("AttenuationDistance", "value"):
         "a distance that is absent has no end, and is no number",
 }
 
-# The arms of `event` that are written by hand in the place of a row, with the reason.
+# The arms of `event` that are no members, by the object and the row in whose place they stand.
 ARMS_IN_ROWS = {
-    ("animation", "channels"): "the channels are visited with their animation",
-    ("texture", "source"): "the image may be none",
+    # The channels are visited with their animation.
+    ("animation", "channels"): [
+        "E::enter(",
+        '    Step::Field("channels"),',
+        "    ValueRef::Channels(self),",
+        "    are_channels_quiet(self, context),",
+        "    context,",
+        "),",
+    ],
+    # The image may be none.
+    ("texture", "source"): ['E::fault_at("source", source_fault(self, &context.context())),'],
+}
+
+# The arms of `event` that say what a rule names, by the rule.
+ARMS_OF_RULES = {
+    "needs_data": ['E::fault_at("bufferView", data_fault(self)),'],
+    "needs_projection": ["E::fault_here(projection_fault(self)),"],
+    "needs_cone": ['E::fault_at("spot", spot_fault(self)),'],
+    "needs_positions": [
+        "{",
+        "    let faults = position_faults(self, context.context().root);",
+        "    E::enter(",
+        '        Step::Field("attributes"),',
+        "        ValueRef::AtPositions(faults),",
+        "        are_positions_quiet(faults),",
+        "        context,",
+        "    )",
+        "}",
+    ],
+    "requires_enabled": [
+        "E::enter(",
+        '    Step::Field("extensionsRequired"),',
+        "    ValueRef::RequiredExtensions(&self.extensions_required),",
+        "    are_names_quiet(&self.extensions_required, context),",
+        "    context,",
+        "),",
+    ],
+}
+
+# The answers of `event` that no tactic finds: the row or the rule whose arm they prove, and their
+# text, in which the number of the arm is `§`.
+EVENT_ANSWERS = {
+    "accessor": ("needs_data", """
+-- The accessor's rule speaks of its view.
+pub returns-in-§-clause-comes : goal.returns-in-§-clause-comes
+unfolding accessor_rows sparse_rows sparse_indices_rows accessor_members
+returns-in-§-clause-comes g c =
+    let at = field (codes "bufferView") in
+    let context = g.C.HasContext.context c.args.context.now in
+    rw c.in-§.is (c.fault_at.ensures context _ (ap (down at)
+    (found_leaf (accessor_rule (accessor_members c.args.self.now)) _ at c.data_fault.ensures)))
+"""),
+    "light": ("needs_cone", """
+-- The light's rule speaks of its cone.
+pub returns-in-§-clause-comes : goal.returns-in-§-clause-comes
+unfolding light_rows spot_rows light_members
+returns-in-§-clause-comes g c =
+    let at = field (codes "spot") in
+    let context = g.C.HasContext.context c.args.context.now in
+    rw c.in-§.is (c.fault_at.ensures context _ (ap (down at)
+    (found_leaf (light_rule (light_members c.args.self.now)) _ at c.spot_fault.ensures)))
+"""),
+    "animation": ("samplers", """
+-- The samplers name nothing of the animation that holds them.
+pub returns-in-§-clause-comes : goal.returns-in-§-clause-comes
+unfolding animation_rows animation_sampler_rows animation_members animation_sampler_members
+returns-in-§-clause-comes g c =
+    let context = g.C.HasContext.context c.args.context.now in
+    let above = closed_object (animation_members c.args.self.now) in
+    rw c.in-§.is (c.member.ensures _ (ap (λ ps. down (field (codes "samplers")) (place ps []))
+    (items_same (λ t. outline animation_sampler_kind t context absent)
+    (λ t. outline animation_sampler_kind t context above)
+    (λ x. closed_object (animation_sampler_members x))
+    (λ x. refl) c.args.self.now.samplers.items 0)))
+"""),
 }
 
 # The call that makes a `ValueRef` of two references to textures, in place of `TwoTextures`: the
@@ -72,9 +149,108 @@ TWO_TEXTURES = {"pbr_metallic_roughness": "parameters_ref"}
 # of a material share one with the material, because the compiler limits what references reach.
 VALUE_REFS = {"material_extension": "Material(None, self)"}
 
-# The variants of `ValueRef` that hold a reference to an object and mean something else: the
-# channels of an animation.
-VARIANTS_BY_HAND = {"Channels"}
+# What the variant of an object is called, if not as its rows are.
+VARIANT_NAMES = {
+    "node_extension": "NodeExtensions",
+    "light_of_node": "NodeLight",
+    "root_extension": "RootExtensions",
+    "lights": "RootLights",
+}
+
+
+@dataclass
+class Variant:
+    """A variant of `ValueRef` that is no object of the table and no list of one: what it holds, its
+    shapes in `specs/` with the outline of each, what its parts are called in a match, and its
+    event."""
+    name: str
+    holds: str
+    outlines: list
+    bound: str
+    event: str
+    doc: tuple = ()
+    is_found: bool = False
+    is_looked_at: bool = False
+    is_numbered: bool = True
+
+
+VARIANTS = [
+    Variant("Leaf", "Option<Error>", [("Leaf e", "leaf e")], "fault", "leaf_at(fault, number)",
+            ("A place with nothing below, and the error there.",), is_found=True),
+    Variant("RequiredExtensions", "&'a Vec<String>",
+            [("RequiredExtensions xs", "place (item_outlines (name_outline context.rules.enabled) "
+              "0 (items_in (list_tree text_tree xs.now.items))) []")],
+            "names", "E::from_event(extension_at(names, number))",
+            ("The names of the extensions that a document requires, and one of them.",)),
+    Variant("RequiredExtension", "&'a String",
+            [("RequiredExtension x", "name_outline context.rules.enabled (text_tree x.now)")],
+            "name", "E::from_event(in_extension(name, number, context))", is_looked_at=True),
+    Variant("Channels", "&'a {animation}",
+            [("Channels a", "outline (ListOf {animation_channel_kind}) (list_tree "
+              "({animation_channel_tree}) a.now.channels.items) context "
+              "(closed_object (animation_members a.now))")],
+            "animation", "E::from_event(channel_at(animation, number))",
+            ("The channels of an animation, and one of them with the animation whose samplers it "
+             "names.",)),
+    Variant("Channel", "&'a {animation_channel}, &'a {animation}",
+            [("Channel x a", "outline {animation_channel_kind} (closed_object "
+              "(animation_channel_members x.now)) context "
+              "(closed_object (animation_members a.now))")],
+            "channel, animation", "in_channel(channel, animation, number, context)",
+            is_looked_at=True),
+    Variant("Material", "Option<MaterialFaults>, &'a {material_extension}",
+            [("Material (Some m) e", "material_outline context m (material_extensions e.now)"),
+             ("Material None e", "extensions_outline context (material_extensions e.now)")],
+            "faults, extensions", "at_material(faults, extensions, number, context)",
+            ("What is wrong in the members of a material, with its extensions; or extensions "
+             "alone. One",
+             "variant for both: the compiler limits what references reach (docs/DECISIONS.md)."),
+            is_looked_at=True),
+    Variant("PlainMaterial", "MaterialFaults",
+            [("PlainMaterial m", "material_outline context m absent")],
+            "faults", "in_material(faults, None, number, context)",
+            ("What is wrong in the members of a material without extensions.",),
+            is_looked_at=True),
+    Variant("TextureReference", "ReferenceState",
+            [("TextureReference s", "reference_outline s")],
+            "state", "in_reference(state, number)", is_found=True),
+    Variant("OneTexture", "ReferenceState, MemberName", [("OneTexture s n", "one_texture s n")],
+            "state, name", "E::from_event(in_one_texture(state, name, number))",
+            ("An object in which only references to textures can be wrong: one or two, with their "
+             "names.",), is_found=True),
+    Variant("TwoTextures", "ReferenceState, ReferenceState, MemberName, MemberName",
+            [("TwoTextures s r n m", "two_textures s r n m")],
+            "first, second, first_name, second_name",
+            "E::from_event(in_two_textures(first, second, first_name, second_name, number))",
+            is_found=True),
+    Variant("Attributes", "&'a BTreeMap<Checked<Semantic>, Index<{accessor}>>",
+            [("Attributes m", "outline (Attributes ListName.accessors) (attributes_tree m.now) "
+              "context absent")], "_", "unreachable!()", is_numbered=False),
+    Variant("Attribute", "Option<Error>, Option<Error>", [("Attribute k i", "entry_outline k i")],
+            "key, index", "in_attribute(key, index, number)",
+            ("The errors of an attribute's key and of its index.",), is_found=True),
+    Variant("AtPositions", "PositionFaults",
+            [("AtPositions f", "at_positions (faults_outline f)")],
+            "faults", "E::from_event(at_attributes(faults, number))",
+            ("The attributes as their primitive's rule looks at them, and the positions in them.",),
+            is_found=True),
+    Variant("Positions", "PositionFaults", [("Positions f", "faults_outline f")],
+            "faults", "in_positions(faults, number)", is_found=True),
+    Variant("NodeIndexes", "&'a Vec<Index<{node}>>",
+            [("NodeIndexes xs", "outline (ListOf (IndexInto ListName.nodes)) "
+              "(list_tree index_tree xs.now.items) context absent")],
+            "indexes", "item_at(indexes, number, context)"),
+]
+
+# The arms of `is_quiet` of the variants above: a pattern, a function and its arguments.
+QUIET_BY_HAND = [
+    ("ValueRef::Material(Some(faults), extensions)", "is_material_quiet",
+     ["faults", "Some(*extensions)", "context"]),
+    ("ValueRef::PlainMaterial(faults)", "is_material_quiet", ["faults", "None", "context"]),
+    ("ValueRef::Channel(channel, animation)", "is_channel_quiet",
+     ["channel", "animation", "context"]),
+    ("ValueRef::RequiredExtension(name)", "is_name_quiet", ["name", "context"]),
+]
 
 # What the numbers of a member are called in its function, if they are no colors.
 NUMBER_NAMES = {("node", "translation"): "xyz", ("node", "scale"): "xyz"}

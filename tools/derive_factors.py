@@ -1,12 +1,9 @@
 """What follows from a factor, a struct of one public field that is an option of numbers: its value
-as floats, its kind and its tree, and its lines in gltf_visits and gltf_validation. Its `DEFAULT` is
-written by hand, with its law."""
+as floats, its kind and its tree. Its `DEFAULT` is written by hand, with its law."""
 import re
 
 from derive_exceptions import BY_HAND, NUMBER_NAMES
-from derive_layout import block, ghosts, indented
-from derive_names import add_head
-from derive_objects import CRATES
+from derive_layout import block, ghosts
 
 # What the numbers are called, by how many there are.
 NAMES = {2: "xy", 3: "rgb", 4: "rgba"}
@@ -41,31 +38,29 @@ def value_of(owner, count, names, member, prefix="", constant="DEFAULT"):
     ]
 
 
-def write_values(files, made):
+def object_values(made):
     """The values of an object's optional numbers for which it has a default."""
+    parts = []
     for row in made.rows:
-        if not re.fullmatch(r"Option<(Real|\[Real; \d+\])>", row.type):
-            continue
-        count, constant = count_of(row.type), f"DEFAULT_{row.field.upper()}"
-        names = NUMBER_NAMES.get((made.base, row.field), NAMES.get(count, ""))
-        wanted = value_of(made.name, count, names, row.field, f"{row.field}_", constant)
-        files.put_behind(made, made.source(), f"impl {made.name}", f"    pub const {constant}: ",
-                         wanted)
+        constant = f"DEFAULT_{row.field.upper()}"
+        if re.fullmatch(r"Option<(Real|\[Real; \d+\])>", row.type) and constant in made.constants:
+            count = count_of(row.type)
+            names = NUMBER_NAMES.get((made.base, row.field), NAMES.get(count, ""))
+            parts += ["", *value_of(made.name, count, names, row.field, f"{row.field}_", constant)]
+    return block(f"impl {made.name}", parts[1:]) if parts else []
 
 
 class Factor:
     """A factor: the path of its struct, and how many numbers it holds, or None for a number alone.
-    It counts as a part of the object that has a field of it."""
+    It counts as a part of the first object that has a field of it."""
 
-    def __init__(self, path, holds, base):
-        self.path, self.name, self.base = path, path[-1], base
+    def __init__(self, path, holds):
+        self.path, self.name = path, path[-1]
         self.count = count_of(holds)
 
-    def source(self):
-        return (CRATES / self.path[0] / "src").joinpath(*self.path[1:-1]).with_suffix(".rt")
-
     def value(self):
-        return value_of(self.name, self.count, NAMES.get(self.count, ""), "0")
+        return block(f"impl {self.name}", value_of(
+            self.name, self.count, NAMES.get(self.count, ""), "0"))
 
     def tabled(self):
         kind = "Number" if self.count is None else f"Numbers {self.count}"
@@ -73,30 +68,8 @@ class Factor:
         return block(f"impl Tabled for {self.name}", ghosts([
             ("kind", kind), ("tree", f"λ factor. tree_or_absent {tree} factor.0")]))
 
-    def line(self, files):
-        """The line of the struct in its file."""
-        lines = files.lines(self.source())
-        return next(k for k, line in enumerate(lines, 1)
-                    if line.startswith(f"pub struct {self.name}("))
-
-    def write(self, files, visits, validation, near):
-        source = self.source()
-        if (self.name, "value") not in BY_HAND and not files.put_behind(
-                self, source, f"impl {self.name}", "    pub const DEFAULT: ", self.value()):
-            files.miss(source, self.line(files), f"{self.name} has no 'impl' with its 'DEFAULT' on "
-                       "one line: write it, and run again")
-        if not files.put(self, source, f"impl Tabled for {self.name}", self.tabled()):
-            end = files.find(source, f"impl {self.name}")
-            if end:
-                files.insert(self, source, end[1], self.tabled())
-        for impls, trait, parts in (
-            (visits, "AlwaysValid", [("silent", "λ _ _. refl")]),
-            (validation, "InTable", [("shallow", "(lit≤ tt, lit≤ tt)")]),
-        ):
-            found = impls.get(trait, self.path) or add_head(
-                files, impls, trait, self.path, near, False)
-            if found:
-                files.put(self, found[0], found[1], block(found[1], ghosts(parts)))
-                continue
-            files.miss(source, self.line(files), f"{impls.crate} has no 'impl {trait} for "
-                       f"{self.name}': write it with '{{}}' where it belongs, and run again")
+    def write(self, modules, made):
+        crate, *module, _ = self.path
+        if (self.name, "value") not in BY_HAND:
+            modules.add(made, crate, module, self.value())
+        modules.add(made, crate, module, self.tabled())

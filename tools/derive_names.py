@@ -1,80 +1,141 @@
-"""The heads of impls that a new object needs in the crates above its own, and the names that derived
-text uses in the `use` lines of a file. Nothing that is there is taken away."""
+"""The crates that derived text names, the modules of what it uses, and the `use` lines that follow
+from the words of a text. No other file of the derive scripts names a crate."""
 import re
 import textwrap
 
-from derive_layout import LINE
-from sources import ROOT
+LINE = 100
 
-# The heads that aren't `impl TRAIT`.
-HEADS = {"Events": "impl<'a, E: EventBuilder<'a>> Events<'a, E>"}
-USE = re.compile(r"(use [\w:]+?::)(?:\{([^{}]*)\}|(\w+));\n")
+# The crates, by what they have.
+SCHEMA, FAULTS, ROOT_CRATE = "gltf_schema", "gltf_faults", "gltf_root"
+VISITS, EVENTS, VALIDATION = "gltf_visits", "gltf_events", "gltf_validation"
+BASE, PATHS = "gltf_base", "gltf_paths"
+
+# Definitions of std, the kit and the crates without objects, by their modules.
+MODULES = {
+    "Rattle.std.specs.Prelude":
+        "◌≡◌ ◌+◌ ◌<◌ ◌^◌ ◌&&◌ Bool true false codes refl [] ◌∷◌ ⊤ Some None List ℕ",
+    "Rattle.std.proofs.Common": "lit≤ ap",
+    "Rattle.serde_json.specs.Data": "no_members",
+    "Rattle.serde_json.specs.View": "members_view",
+    f"Rattle.{PATHS}.specs.Lists": "ListName",
+    f"Rattle.{PATHS}.specs.Steps": "field",
+    f"Rattle.{FAULTS}.specs.Rules": "accessor_rule light_rule",
+    f"Rattle.{VISITS}.proofs.Leaves": "found_leaf",
+    f"Rattle.{VISITS}.proofs.Items": "items_same",
+    f"Rattle.{SCHEMA}.specs.Tree": "absent items_in tree_or_absent",
+    f"Rattle.{SCHEMA}.specs.Kind":
+        "Number Numbers ListOf IndexInto Attributes",
+    f"Rattle.{SCHEMA}.specs.Sound": "is_sound",
+    f"Rattle.{SCHEMA}.specs.Height": "IsHigh IsFlat",
+    f"Rattle.{SCHEMA}.specs.Floats": "float_or floats_or",
+    f"Rattle.{SCHEMA}.specs.Fields":
+        "closed_object list_tree real_tree reals_tree index_tree text_tree attributes_tree",
+    f"Rattle.{FAULTS}.specs.Context": "Context context_of",
+    f"Rattle.{VISITS}.specs.Outline": "Outline place leaf quiet move_at down",
+    f"Rattle.{VISITS}.specs.OutlineOf":
+        "outline entry_outline at_positions item_outlines name_outline faults_outline",
+    f"Rattle.{VISITS}.specs.References":
+        "reference_outline one_texture two_textures material_outline extensions_outline",
+    f"Rattle.{VISITS}.specs.MemberNames": "member_text",
+    f"Rattle.{VISITS}.specs.ValueRefs": "outline_of is_looked_at IsNumbered",
+    f"Rattle.{VISITS}.specs.Moves": "IsGiven IsMore",
+}
+
+# Types, traits and functions that derived code uses, by their paths.
+RUST = {
+    f"{SCHEMA}": "Object ReadRows WriteRows Tabled",
+    f"{BASE}": "Step",
+    f"{FAULTS}": "Context HasContext data_fault position_faults projection_fault source_fault "
+                 "spot_fault",
+    "crate::always_valid": "AlwaysValid",
+    "crate::event": "EventBuilder",
+    "crate::events": "Events",
+    "crate::lists": "are_channels_quiet are_names_quiet are_positions_quiet",
+    "crate::material": "parameters_ref",
+    "crate::member_name": "MemberName",
+    "crate::list_item": "ListItem",
+    "crate::quiet": "Quiet is_object_quiet",
+    "crate::references":
+        "ReferenceState TextureReference index_state is_reference_quiet member_state",
+    "crate::value_ref": "ValueRef",
+    "crate::visitable": "Visitable",
+}
+# The types that variants of `ValueRef` hold.
+VALUE_TYPES = {
+    "Error": f"{BASE}::validation", "Checked": f"{BASE}::validation", "Index": BASE,
+    "Semantic": f"{BASE}::mesh", "BTreeMap": "std::collections", "PositionFaults": FAULTS,
+    "MaterialFaults": "crate::material", "ReferenceState": "crate::references",
+    "MemberName": "crate::member_name",
+}
+WORD = re.compile(r"[^\s(){}\[\],;]+")
+OPERATORS = {"≡": "◌≡◌", "∷": "◌∷◌", "&&": "◌&&◌", "+": "◌+◌", "<": "◌<◌", "^": "◌^◌"}
+# A ghost member or a clause, with its text.
+GHOST = re.compile(r"(?:ghost \w+ =|ensures(?: \w+)?|requires) \{((?:[^{}]|\{[^{}]*\})*)\};?")
+# The first word of a path in Rust.
+FIRST = re.compile(r"(?<![\w.:'])(?<!\bfn )(?<!\blet )[A-Za-z_]\w*")
 
 
-def head_of(trait, name, listed):
-    """The head of an impl."""
-    return f"{HEADS.get(trait, 'impl ' + trait)} for {f'Vec<{name}>' if listed else name}"
+def table_of(modules):
+    """The module of each name."""
+    return {name: module for module, names in modules.items() for name in names.split()}
 
 
-def use_definitions(files, path, module, names):
-    """Names definitions of a module in the `use` lines of a file in `specs/`, or in the `ghost use`
-    lines of a file in `src/`."""
-    lines = files.lines(path)
-    word, end = ("use", "}") if path.suffix == ".antt" else ("ghost use", "};")
-    front = f"{word} Rattle.{module}.{{"
-    places = [k for k, line in enumerate(lines) if line.startswith(front)]
-    there = {name.strip() for k in places
-             for name in lines[k].removeprefix(front).removesuffix(end).split(",")}
-    new = [name for name in names if name not in there]
-    if not new:
-        return
-    if places:
-        at = places[-1]
-        lines[at] = f"{lines[at].removesuffix(end)}, {', '.join(new)}{end}"
-    else:
-        at = max(k for k, line in enumerate(lines) if line.startswith(f"{word} ")) + 1
-        lines.insert(at, f"{front}{', '.join(new)}{end}")
-    files.differing.append(f"{path.relative_to(ROOT)}:{at + 1}: use of {', '.join(new)}")
+GHOST_NAMES, RUST_NAMES = table_of(MODULES), table_of(RUST)
 
 
-def use_beside(files, path, old, new):
-    """Names a type in the `use` line of a file that names another type of the same module."""
-    text = "\n".join(files.lines(path))
-    for found in USE.finditer(text):
-        names = [name.strip() for name in (found.group(2) or found.group(3)).split(",")]
-        names = [name for name in names if name]
-        if old in names and new not in names:
-            made = use_line(found.group(1), sorted([*names, new]))
-            files.after[path] = (text[:found.start()] + made + text[found.end():]).split("\n")
-            number = text[:found.start()].count("\n") + 1
-            files.differing.append(f"{path.relative_to(ROOT)}:{number}: use of {new}")
-            return
+def ghost_words(text):
+    """The first words of the names in a text of Antt."""
+    text = re.sub(r'"[^"]*"', "", text)
+    words = {OPERATORS.get(word, word.partition(".")[0]) for word in WORD.findall(text)}
+    return words | ({"[]"} if "[]" in text else set())
 
 
-def use_line(front, names):
+def rust_words(text):
+    """The first words of the paths in a text of Rust, without comments, texts and attributes."""
+    return set(FIRST.findall(re.sub(r'//[^\n]*|"[^"]*"|#\[[^\]]*\]', "", text)))
+
+
+def used(words, modules):
+    """The words that are names, by their modules, both sorted."""
+    found = {}
+    for name in sorted(words & modules.keys()):
+        found.setdefault(modules[name], []).append(name)
+    return sorted(found.items())
+
+
+def antt_uses(text, modules):
+    """The `use` lines of a file in `specs/` or `proofs/`."""
+    return [f"use {module}.{{{', '.join(names)}}}"
+            for module, names in used(ghost_words(text), modules)]
+
+
+def tactic_names(module, name):
+    """The path of a definition in an attribute."""
+    return f"{module.replace('.', '::')}::{name}"
+
+
+def rust_uses(lines, ghosts, paths, more=()):
+    """The `ghost use` lines and the `use` lines of a file in `src/`. `more` are traits whose
+    methods it calls."""
+    text = "\n".join(lines)
+    ghost_text = " ".join(GHOST.findall(text))
+    ghost_lines = [f"ghost use {module}.{{{', '.join(names)}}};"
+                   for module, names in used(ghost_words(ghost_text), ghosts)]
+    words = rust_words(GHOST.sub("", text)) | set(more)
+    use_lines = sorted((use_line(module, names) for module, names in used(words, paths)),
+                       key=lambda line: (not re.match(r"use super\b", line),
+                                         not re.match(r"use crate\b", line), line))
+    parts = [ghost_lines, "\n".join(use_lines).split("\n") if use_lines else []]
+    return [line for part in parts if part for line in [*part, ""]]
+
+
+def use_line(module, names):
     """A `use` line, in several lines if it is long."""
-    line = f"{front}{{{', '.join(names)}}};"
-    if len(line) > LINE:
-        inner = textwrap.fill(f"{', '.join(names)},", LINE, initial_indent="    ",
-                              subsequent_indent="    ")
-        line = f"{front}{{\n{inner}\n}};"
-    return f"{line}\n"
-
-
-def add_head(files, impls, trait, of, near, listed):
-    """Writes the head of an impl behind the impls of a near type: the first of `near` that has some
-    in the crate. Returns the impl as `impls` has it, or None if no near type has any."""
-    for other in near:
-        places = [found for (_, path, _), found in impls.found.items() if path == other]
-        if not places:
-            continue
-        path, _, name = places[0]
-        last = max(files.find(path, head)[1] for file, head, _ in places if file == path)
-        prefix, separator, old = name.rpartition("::")
-        head = head_of(trait, f"{prefix}{separator}{of[-1]}", listed)
-        files.lines(path)[last + 1:last + 1] = ["", f"{head} {{}}"]
-        if not prefix and old != of[-1]:
-            use_beside(files, path, old, of[-1])
-        impls.found[trait, of, listed] = (path, head, f"{prefix}{separator}{of[-1]}")
-        return impls.found[trait, of, listed]
-    return None
+    if len(names) == 1:
+        return f"use {module}::{names[0]};"
+    line = f"use {module}::{{{', '.join(names)}}};"
+    if len(line) <= LINE:
+        return line
+    inner = textwrap.fill(f"{', '.join(names)},", LINE, initial_indent="    ",
+                          subsequent_indent="    ")
+    return f"use {module}::{{\n{inner}\n}};"

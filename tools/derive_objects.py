@@ -4,11 +4,12 @@ import re
 from dataclasses import dataclass, field
 
 from derive_exceptions import FIELDS
+from derive_names import GHOST_NAMES, SCHEMA
 from derive_rows import Terms, Wrong, inner_kind, read_members, renamed, text_of
-from sources import ROOT, Reader
+from derive_sources import CRATES, Sources
+from sources import ROOT
 from specs import OWN, Definitions
 
-CRATES = ROOT / "crates"
 # A pattern that no type has.
 NO_TYPE = "(?!)"
 
@@ -29,6 +30,7 @@ class Object:
     fields: dict = field(default_factory=dict)
     drops: bool = False
     tree: str = ""
+    constants: set = field(default_factory=set)
 
     def spec_path(self):
         return CRATES / self.crate / "specs" / f"{self.spec}.antt"
@@ -36,6 +38,12 @@ class Object:
     def definitions(self):
         """The module of its definitions."""
         return f"{self.crate}.specs.{self.spec}"
+
+    def names(self):
+        """The modules of the definitions that it has, and of what is derived of them."""
+        own, derived = f"Rattle.{self.definitions()}", f"Rattle.{self.definitions()}Derived"
+        return {f"{self.base}_rows": own, f"{self.base}_members": own, self.kind: own,
+                f"{self.base}_sound": derived, f"{self.base}_height": derived}
 
     def source(self):
         return (CRATES / self.crate / "src").joinpath(*self.module).with_suffix(".rt")
@@ -55,57 +63,6 @@ class Object:
         return self.tree or f"λ {bound}. closed_object ({self.base}_members {bound})"
 
 
-class Sources:
-    """The modules of the crates, read once each."""
-
-    def __init__(self):
-        self.crates = {}
-
-    def module(self, path):
-        """The module at a path, or None."""
-        if path[0] not in self.crates:
-            if not (CRATES / path[0] / "src").exists():
-                return None
-            self.crates[path[0]] = Reader(path[0]).crate_module()
-        module = self.crates[path[0]]
-        for name in path[1:]:
-            module = module.modules.get(name)
-            if module is None:
-                return None
-        return module
-
-    def resolved(self, path, here):
-        """The full path of a name that is used in the module `here`."""
-        path = tuple(path)
-        module = self.module(here)
-        if path[0] == "crate":
-            path = (here[0], *path[1:])
-        elif path[0] == "self":
-            path = (*here, *path[1:])
-        elif path[0] == "super":
-            path = (*here[:-1], *path[1:])
-        elif path[0] in module.items or path[0] in module.modules:
-            path = (*here, *path)
-        elif path[0] in module.uses:
-            used = tuple(module.uses[path[0]])
-            if used[0] in ("crate", "super", "self"):
-                used = self.resolved(used, here)
-            path = (*used, *path[1:])
-        if len(path) == 1:
-            return path
-        holder = self.module(path[:-1])
-        if holder and path[-1] not in holder.items and path[-1] in holder.uses:
-            return self.resolved((path[-1],), path[:-1])
-        item = holder and holder.items.get(path[-1])
-        if item and item.kind == "type":
-            return self.resolved(item.signature.partition("= ")[2].split("::"), path[:-1])
-        return path
-
-    def item(self, path):
-        holder = self.module(path[:-1]) if len(path) > 1 else None
-        return holder.items.get(path[-1]) if holder else None
-
-
 def line_of(path, pattern):
     """The number of the first line that begins with a pattern."""
     for number, line in enumerate(path.read_text().split("\n"), 1):
@@ -122,10 +79,10 @@ class Table:
         self.problems, self.objects, self.trees = [], {}, {}
         # The modules of named trees, and the factors that fields have.
         self.tree_modules, self.factors = {}, {}
-        text = (CRATES / "gltf_schema/specs/Silence.antt").read_text()
+        text = (CRATES / SCHEMA / "specs/Silence.antt").read_text()
         self.silent = set(re.findall(r"(?m)^  is_silent \(?(\w+)(?: n\))? = true", text))
         self.silent_rules = set(re.findall(r"is_silent_rule (\w+) = true", text))
-        text = (CRATES / "gltf_schema/specs/Height.antt").read_text()
+        text = (CRATES / SCHEMA / "specs/Height.antt").read_text()
         self.rule_heights = {rule: int(n) for rule, n in
                              re.findall(r"rule_height (\w+) = (\d+)", text)}
         self.read_kinds()
@@ -135,6 +92,20 @@ class Table:
                               for problem in refused(fit, made)]
             if self.problems:
                 break
+
+    def ghost_names(self):
+        """The modules of what the objects, their rules and their trees are called."""
+        names = {**GHOST_NAMES, **{rule: f"Rattle.{SCHEMA}.specs.Kind"
+                                   for rule in self.rule_heights}}
+        for made in self.objects.values():
+            names.update(made.names())
+        names.update({name: f"Rattle.{module}" for name, module in self.tree_modules.items()})
+        # The heights of kinds without rows are by hand.
+        for form, made in self.kinds.values():
+            if form == "Object" and made.base == "no":
+                height = f"{made.kind.removesuffix('_kind')}_height"
+                names.update(dict.fromkeys([made.kind, height], f"Rattle.{made.definitions()}"))
+        return names
 
     def key_of(self, name, crate, spec):
         """The definition that a name of a file stands for."""
@@ -211,6 +182,9 @@ class Table:
                         f"{made.source().relative_to(ROOT)}")
         made.fields = {one.name: one.signature.partition(": ")[2] for one in item.members}
         made.drops = "Drop" in item.derives
+        made.constants = {one.name for block in self.sources.module(rust[:-1]).impls
+                          if block.signature == f"impl {made.name}" for one in block.members
+                          if one.kind == "const"}
         self.fit_members(made)
         self.fit_fields(made)
 
@@ -360,7 +334,7 @@ class Table:
             raise Wrong(made.spec_path(), line_of(made.spec_path(), f".*{head}"),
                         f"nothing is known of the kind '{head}'")
         path = self.path_of(made, type_text)
-        if key.startswith("gltf_schema.Extensions."):
+        if key.startswith(f"{SCHEMA}.Extensions."):
             name, tree = {"kept_extensions": ("KeptExtensions", "kept_tree")}.get(
                 head, ("DroppedExtensions", "dropped_tree"))
             fits = path[-1:] == (name,)
@@ -380,13 +354,6 @@ class Table:
     def named_tree(self, made, type_text):
         """The name of the tree of a type that is not an object of the table."""
         return self.trees.get(self.path_of(made, type_text), "")
-
-    def near(self, made):
-        """The paths of the objects of the same module, those in front first."""
-        paths = [one.path() for one in self.objects.values()
-                 if one.path()[:-1] == made.path()[:-1]]
-        at = paths.index(made.path())
-        return [*paths[:at][::-1], *paths[at + 1:]]
 
     def object_of(self, made, kind):
         """The object that a kind is of, alone or as the item of a list; else None."""
@@ -409,6 +376,28 @@ class Table:
         if inner.base != "no" and inner not in seen:
             seen.append(inner)
         return all(self.is_silent(inner, row.kind, seen) for row in inner.rows)
+
+    def loud_rows(self, made):
+        """The rows in which something can be wrong."""
+        return [row for row in made.rows if not self.is_silent(made, row.kind)]
+
+    def form_of(self, made):
+        """How a walk visits an object: nothing can be wrong in it ("flat"), only in one or two
+        references to textures ("textures"), it is such a reference ("reference"), or else by its
+        events."""
+        loud = self.loud_rows(made)
+        if made.rule in self.silent_rules:
+            if not loud:
+                return "flat"
+            if len(loud) <= 2 and all(self.is_texture(made, row) for row in loud):
+                return "textures"
+            if [row.kind for row in loud] == [("IndexInto", "textures")]:
+                return "reference"
+        return "events"
+
+    def is_texture(self, made, row):
+        inner = self.object_of(made, row.kind)
+        return row.mark == ("optional",) and inner is not None and inner.base == "info"
 
     def is_flat(self, made):
         """Whether nothing can be wrong in an object."""

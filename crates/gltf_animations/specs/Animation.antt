@@ -1,5 +1,5 @@
 -- The rows of animations (glTF 2.0, sections 5.5 to 5.8).
-use Rattle.std.specs.Prelude.{◌≡◌, true, false, codes, refl, [], ◌∷◌}
+use Rattle.std.specs.Prelude.{false, codes, [], ◌∷◌}
 use Rattle.gltf_paths.specs.Lists.{accessors, nodes}
 use Rattle.gltf_choices.specs.SceneChoices.{interpolation_spelling, interpolations, property_spelling, properties}
 use Rattle.gltf_checked.specs.declared.choice.Form.TheVariants as form
@@ -8,8 +8,6 @@ use Rattle.gltf_schema.specs.Tree.{Tree, chosen, list, end, Trees, trees, tree_o
 use Rattle.gltf_schema.specs.Kind.{required, optional, always, unless, Kind, IndexInto, ChannelSampler, Text, ListOf, Object, Rows, ◌◂◌, no_rule, holds_samplers}
 use Rattle.gltf_schema.specs.Leaves.{choice_of, checked_tree}
 use Rattle.gltf_schema.specs.Extensions.{kept_extensions, dropped_extensions, extensions_and_extras}
-use Rattle.gltf_schema.specs.Sound.{is_sound}
-use Rattle.gltf_schema.specs.Height.{IsHigh}
 use Rattle.gltf_schema.specs.Fields.{index_tree, text_tree, any_tree, list_tree, closed_object, dropped_tree, kept_tree}
 use Rattle.gltf_animations.specs.declared.animation.Animation.{Animation}
 use Rattle.gltf_animations.specs.declared.animation.Channel.{Channel}
@@ -103,39 +101,3 @@ animation_members v = trees (
     ∷ tree_or_absent kept_tree v.extensions
     ∷ tree_or_absent any_tree v.extras
     ∷ [])
-
--- ---- each kind is sound
-
-pub animation_sampler_sound : is_sound animation_sampler_kind ≡ true
-unfolding animation_sampler_rows
-animation_sampler_sound = refl
-
-pub animation_target_sound : is_sound animation_target_kind ≡ true
-unfolding animation_target_rows
-animation_target_sound = refl
-
-pub animation_channel_sound : is_sound animation_channel_kind ≡ true
-unfolding animation_channel_rows
-animation_channel_sound = rw animation_target_sound refl
-
-pub animation_sound : is_sound animation_kind ≡ true
-unfolding animation_rows
-animation_sound = rw (animation_sampler_sound, animation_channel_sound) refl
-
--- ---- how far down something can be wrong
-
-pub animation_sampler_height : IsHigh 1 animation_sampler_kind
-unfolding animation_sampler_rows
-animation_sampler_height = (refl, refl)
-
-pub animation_target_height : IsHigh 1 animation_target_kind
-unfolding animation_target_rows
-animation_target_height = (refl, refl)
-
-pub animation_channel_height : IsHigh 2 animation_channel_kind
-unfolding animation_channel_rows
-animation_channel_height = rw (animation_target_height.0, animation_target_height.1) (refl, refl)
-
-pub animation_height : IsHigh 4 animation_kind
-unfolding animation_rows
-animation_height = rw (animation_sampler_height.0, animation_sampler_height.1, animation_channel_height.0, animation_channel_height.1) (refl, refl)

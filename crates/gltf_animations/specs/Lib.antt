@@ -1,1 +1,2 @@
 pub mod Animation
+pub mod AnimationDerived

@@ -1,15 +1,12 @@
 //! Animations (glTF 2.0, sections 5.5 to 5.8).
 
-ghost use Rattle.std.specs.Prelude.{◌≡◌, [], ◌∷◌, false, codes};
-ghost use Rattle.std.proofs.Common.{lit≤};
-ghost use Rattle.serde_json.specs.Data.{no_members};
+ghost use Rattle.std.specs.Prelude.{◌≡◌, [], ◌∷◌, codes};
 ghost use Rattle.gltf_paths.specs.Lists.{animations};
-ghost use Rattle.gltf_schema.specs.Kind.{holds_samplers};
 ghost use Rattle.gltf_choices.specs.SceneChoices.{property_spelling};
 ghost use Rattle.gltf_schema.specs.Tree.{chosen};
 ghost use Rattle.gltf_schema.specs.Given.{made};
 ghost use Rattle.gltf_schema.specs.Fields.{index_tree, list_tree, closed_object};
-ghost use Rattle.gltf_animations.specs.Animation.{animation_rows, animation_sound, animation_height, animation_channel_rows, animation_channel_sound, animation_channel_height, animation_target_rows, animation_target_sound, animation_target_height, animation_sampler_rows, animation_sampler_sound, animation_sampler_height, animation_members, animation_channel_members, animation_target_members, animation_sampler_members};
+ghost use Rattle.gltf_animations.specs.Animation.{animation_rows, animation_channel_rows, animation_target_rows, animation_sampler_rows, animation_members, animation_channel_members, animation_target_members, animation_sampler_members};
 
 use crate::extensions;
 use gltf_base::animation::{Interpolation, Property};
@@ -18,8 +15,10 @@ use gltf_base::{Index, Listed};
 use gltf_data::accessor::Accessor;
 use gltf_data::extras::Extras;
 use gltf_nodes::scene::Node;
-use gltf_schema::{Blank, Object, ReadRows, WriteRows};
+use gltf_schema::Blank;
 use std::alloc::Global;
+
+mod derived;
 
 /// A keyframe animation of nodes (glTF 2.0, section 5.5).
 #[derive(Clone, Debug)]
@@ -33,7 +32,7 @@ pub struct Animation {
     pub extras: Extras,
 }
 
-// One call drops it, wherever it is held (docs/DECISIONS.md, "Large values").
+// Written by tools/derive.py: begin
 impl Drop for Animation {
     fn drop(self) {
         let Animation {
@@ -45,6 +44,7 @@ impl Drop for Animation {
         } = self;
     }
 }
+// Written by tools/derive.py: end
 
 impl Animation {
     /// Returns an animation of these channels, which refer to the samplers by index.
@@ -72,47 +72,6 @@ impl Animation {
 
 impl Listed for Animation {
     ghost list = { animations };
-}
-
-impl Object for Animation {
-    ghost rule = { holds_samplers };
-
-    ghost rows = { animation_rows };
-
-    ghost keeps = { false };
-
-    ghost members = { animation_members };
-
-    ghost unknown = { λ _. no_members };
-
-    ghost sound = { animation_sound };
-
-    ghost height = { 4 };
-
-    ghost low = { (animation_height.1, lit≤ tt) };
-
-    fn read_members<R: ReadRows>(from: &mut R) -> Animation {
-        let samplers = from.list("samplers");
-        let channels = from.list("channels");
-        let name = from.optional("name");
-        let extensions = from.optional("extensions");
-        let extras = from.optional("extras");
-        Animation {
-            samplers,
-            channels,
-            name,
-            extensions,
-            extras,
-        }
-    }
-
-    fn write_members<W: WriteRows>(&self, to: &mut W) {
-        to.list("channels", &self.channels);
-        to.optional("extensions", &self.extensions);
-        to.optional("extras", &self.extras);
-        to.optional("name", &self.name);
-        to.list("samplers", &self.samplers);
-    }
 }
 
 /// A property of a node, and the sampler that animates it (glTF 2.0, section 5.6).
@@ -144,42 +103,6 @@ impl Channel {
     }
 }
 
-impl Object for Channel {
-    ghost rows = { animation_channel_rows };
-
-    ghost keeps = { false };
-
-    ghost members = { animation_channel_members };
-
-    ghost unknown = { λ _. no_members };
-
-    ghost sound = { animation_channel_sound };
-
-    ghost height = { 2 };
-
-    ghost low = { (animation_channel_height.1, lit≤ tt) };
-
-    fn read_members<R: ReadRows>(from: &mut R) -> Channel {
-        let sampler: u32 = from.required("sampler");
-        let target = from.required("target");
-        let extensions = from.optional("extensions");
-        let extras = from.optional("extras");
-        Channel {
-            sampler: Index::new(sampler),
-            target,
-            extensions,
-            extras,
-        }
-    }
-
-    fn write_members<W: WriteRows>(&self, to: &mut W) {
-        to.optional("extensions", &self.extensions);
-        to.optional("extras", &self.extras);
-        to.always("sampler", &self.sampler.number());
-        to.always("target", &self.target);
-    }
-}
-
 /// The node and its property that a channel animates (glTF 2.0, section 5.7).
 #[derive(Clone, Debug, Drop)]
 pub struct Target {
@@ -205,42 +128,6 @@ impl Target {
             extensions: None,
             extras: None,
         }
-    }
-}
-
-impl Object for Target {
-    ghost rows = { animation_target_rows };
-
-    ghost keeps = { false };
-
-    ghost members = { animation_target_members };
-
-    ghost unknown = { λ _. no_members };
-
-    ghost sound = { animation_target_sound };
-
-    ghost height = { 1 };
-
-    ghost low = { (animation_target_height.1, lit≤ tt) };
-
-    fn read_members<R: ReadRows>(from: &mut R) -> Target {
-        let node = from.required("node");
-        let path = from.required("path");
-        let extensions = from.optional("extensions");
-        let extras = from.optional("extras");
-        Target {
-            node,
-            path,
-            extensions,
-            extras,
-        }
-    }
-
-    fn write_members<W: WriteRows>(&self, to: &mut W) {
-        to.optional("extensions", &self.extensions);
-        to.optional("extras", &self.extras);
-        to.always("node", &self.node);
-        to.always("path", &self.path);
     }
 }
 
@@ -284,44 +171,5 @@ impl Sampler {
             extensions: None,
             extras: None,
         }
-    }
-}
-
-impl Object for Sampler {
-    ghost rows = { animation_sampler_rows };
-
-    ghost keeps = { false };
-
-    ghost members = { animation_sampler_members };
-
-    ghost unknown = { λ _. no_members };
-
-    ghost sound = { animation_sampler_sound };
-
-    ghost height = { 1 };
-
-    ghost low = { (animation_sampler_height.1, lit≤ tt) };
-
-    fn read_members<R: ReadRows>(from: &mut R) -> Sampler {
-        let input = from.required("input");
-        let interpolation = from.or_default("interpolation", Checked::Valid(Interpolation::Linear));
-        let output = from.required("output");
-        let extensions = from.optional("extensions");
-        let extras = from.optional("extras");
-        Sampler {
-            input,
-            interpolation,
-            output,
-            extensions,
-            extras,
-        }
-    }
-
-    fn write_members<W: WriteRows>(&self, to: &mut W) {
-        to.optional("extensions", &self.extensions);
-        to.optional("extras", &self.extras);
-        to.always("input", &self.input);
-        to.always("interpolation", &self.interpolation);
-        to.always("output", &self.output);
     }
 }

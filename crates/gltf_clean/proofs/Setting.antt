@@ -12,10 +12,12 @@ use Rattle.gltf_paths.specs.declared.index.IndexTo.{IndexTo}
 use Rattle.gltf_schema.specs.Fields.{any_tree, closed_object, index_tree, list_tree, text_tree}
 use Rattle.gltf_schema.specs.Kind.{Kind, Any, IndexInto, ListOf, Rows, Text, no_rows, row}
 use Rattle.gltf_schema.specs.Tree.{Tree, Trees, absent, end, tree_or_absent, with_tree}
-use Rattle.gltf_root.specs.Asset.{asset_height, asset_kind, asset_members, asset_of_version, asset_rows}
+use Rattle.gltf_root.specs.Asset.{asset_kind, asset_members, asset_of_version, asset_rows}
+use Rattle.gltf_root.specs.AssetDerived.{asset_height}
 use Rattle.gltf_root.specs.Lists.{count_in, list_in}
 use Rattle.gltf_root.specs.Named.{put_at, row_named}
-use Rattle.gltf_root.specs.Root.{root_kind, root_members, root_of_asset, root_rows, root_sound, root_tree}
+use Rattle.gltf_root.specs.Root.{root_kind, root_members, root_of_asset, root_rows, root_tree}
+use Rattle.gltf_root.specs.RootDerived.{root_sound}
 use Rattle.gltf_root.specs.declared.asset.Asset.{Asset}
 use Rattle.gltf_root.specs.declared.root.Root.{Root}
 use Rattle.gltf_faults.specs.Context.{Context, Rules, under}

@@ -1,5 +1,5 @@
 -- The rows of accessors (glTF 2.0, sections 5.1 to 5.4).
-use Rattle.std.specs.Prelude.{◌≡◌, true, false, codes, refl, [], ◌∷◌}
+use Rattle.std.specs.Prelude.{false, codes, [], ◌∷◌}
 use Rattle.gltf_paths.specs.Lists.{buffer_views}
 use Rattle.gltf_choices.specs.Choices.{generic_component_type_spelling, generic_component_types, index_component_type_spelling, index_component_types, accessor_type_spelling, accessor_types}
 use Rattle.gltf_checked.specs.declared.choice.Form.TheVariants as form
@@ -7,8 +7,6 @@ use Rattle.gltf_schema.specs.Tree.{whole, truth, Trees, trees, tree_or_absent}
 use Rattle.gltf_schema.specs.Kind.{required, optional, always, unless, Kind, IndexInto, U64, Text, Truth, Any, Object, Rows, ◌◂◌, no_rule, needs_data}
 use Rattle.gltf_schema.specs.Leaves.{choice_of, checked_tree}
 use Rattle.gltf_schema.specs.Extensions.{kept_extensions, dropped_extensions, extensions_and_extras}
-use Rattle.gltf_schema.specs.Sound.{is_sound}
-use Rattle.gltf_schema.specs.Height.{IsHigh}
 use Rattle.gltf_schema.specs.Fields.{index_tree, size_tree, text_tree, any_tree, closed_object, dropped_tree, kept_tree}
 use Rattle.gltf_data.specs.declared.accessor.Accessor.{Accessor}
 use Rattle.gltf_data.specs.declared.accessor.sparse.Sparse.{Sparse}
@@ -113,39 +111,3 @@ accessor_members v = trees (
     ∷ tree_or_absent kept_tree v.extensions
     ∷ tree_or_absent any_tree v.extras
     ∷ [])
-
--- ---- each kind is sound
-
-pub sparse_indices_sound : is_sound sparse_indices_kind ≡ true
-unfolding sparse_indices_rows
-sparse_indices_sound = refl
-
-pub sparse_values_sound : is_sound sparse_values_kind ≡ true
-unfolding sparse_values_rows
-sparse_values_sound = refl
-
-pub sparse_sound : is_sound sparse_kind ≡ true
-unfolding sparse_rows
-sparse_sound = rw (sparse_indices_sound, sparse_values_sound) refl
-
-pub accessor_sound : is_sound accessor_kind ≡ true
-unfolding accessor_rows
-accessor_sound = rw sparse_sound refl
-
--- ---- how far down something can be wrong
-
-pub sparse_indices_height : IsHigh 1 sparse_indices_kind
-unfolding sparse_indices_rows
-sparse_indices_height = (refl, refl)
-
-pub sparse_values_height : IsHigh 1 sparse_values_kind
-unfolding sparse_values_rows
-sparse_values_height = (refl, refl)
-
-pub sparse_height : IsHigh 2 sparse_kind
-unfolding sparse_rows
-sparse_height = rw (sparse_indices_height.0, sparse_indices_height.1, sparse_values_height.0, sparse_values_height.1) (refl, refl)
-
-pub accessor_height : IsHigh 3 accessor_kind
-unfolding accessor_rows
-accessor_height = rw (sparse_height.0, sparse_height.1) (refl, refl)

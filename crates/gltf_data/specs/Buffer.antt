@@ -1,5 +1,5 @@
 -- The rows of buffers and their views (glTF 2.0, sections 5.10 and 5.11).
-use Rattle.std.specs.Prelude.{◌≡◌, true, false, codes, refl, [], ◌∷◌}
+use Rattle.std.specs.Prelude.{false, codes, [], ◌∷◌}
 use Rattle.gltf_paths.specs.Lists.{buffers}
 use Rattle.gltf_choices.specs.Choices.{target_spelling, targets}
 use Rattle.gltf_checked.specs.declared.choice.Form.TheVariants as form
@@ -7,8 +7,6 @@ use Rattle.gltf_schema.specs.Tree.{whole, Tree, Trees, trees, tree_or_absent}
 use Rattle.gltf_schema.specs.Kind.{required, optional, always, Kind, IndexInto, U64, Stride, Text, Object, Rows, ◌◂◌, no_rule}
 use Rattle.gltf_schema.specs.Leaves.{choice_of, checked_tree}
 use Rattle.gltf_schema.specs.Extensions.{kept_extensions, extensions_and_extras}
-use Rattle.gltf_schema.specs.Sound.{is_sound}
-use Rattle.gltf_schema.specs.Height.{IsFlat, IsHigh}
 use Rattle.gltf_schema.specs.Fields.{index_tree, size_tree, text_tree, any_tree, kept_tree}
 use Rattle.gltf_data.specs.declared.buffer.Stride.{Stride as ByteStride}
 use Rattle.gltf_data.specs.declared.buffer.Buffer.{Buffer}
@@ -66,23 +64,3 @@ view_members v = trees (
     ∷ tree_or_absent kept_tree v.extensions
     ∷ tree_or_absent any_tree v.extras
     ∷ [])
-
--- ---- each kind is sound
-
-pub buffer_sound : is_sound buffer_kind ≡ true
-unfolding buffer_rows
-buffer_sound = refl
-
-pub view_sound : is_sound view_kind ≡ true
-unfolding view_rows
-view_sound = refl
-
--- ---- how far down something can be wrong
-
-pub buffer_height : IsFlat buffer_kind
-unfolding buffer_rows
-buffer_height = (refl, refl)
-
-pub view_height : IsHigh 1 view_kind
-unfolding view_rows
-view_height = (refl, refl)

@@ -1,10 +1,8 @@
 -- The rows of images (glTF 2.0, section 5.18).
-use Rattle.std.specs.Prelude.{◌≡◌, true, false, codes, refl, [], ◌∷◌}
+use Rattle.std.specs.Prelude.{false, codes, [], ◌∷◌}
 use Rattle.gltf_paths.specs.Lists.{buffer_views}
 use Rattle.gltf_schema.specs.Kind.{optional, Kind, IndexInto, Text, Object, Rows, ◌◂◌, no_rule}
 use Rattle.gltf_schema.specs.Extensions.{kept_extensions, extensions_and_extras}
-use Rattle.gltf_schema.specs.Sound.{is_sound}
-use Rattle.gltf_schema.specs.Height.{IsHigh}
 use Rattle.gltf_schema.specs.Tree.{Tree, Trees, trees, tree_or_absent}
 use Rattle.gltf_schema.specs.Fields.{index_tree, text_tree, any_tree, kept_tree}
 use Rattle.gltf_data.specs.declared.image.MimeType.{MimeType}
@@ -35,15 +33,3 @@ image_members v = trees (
     ∷ tree_or_absent kept_tree v.extensions
     ∷ tree_or_absent any_tree v.extras
     ∷ [])
-
--- ---- each kind is sound
-
-pub image_sound : is_sound image_kind ≡ true
-unfolding image_rows
-image_sound = refl
-
--- ---- how far down something can be wrong
-
-pub image_height : IsHigh 1 image_kind
-unfolding image_rows
-image_height = (refl, refl)

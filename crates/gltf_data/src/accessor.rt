@@ -1,14 +1,11 @@
 //! Accessors: typed views into buffer views (glTF 2.0, section 5.1).
 
 ghost use Rattle.std.specs.Prelude.{◌≡◌, [], ◌∷◌, false, codes};
-ghost use Rattle.std.proofs.Common.{lit≤};
-ghost use Rattle.serde_json.specs.Data.{no_members};
 ghost use Rattle.gltf_paths.specs.Lists.{accessors};
 ghost use Rattle.gltf_choices.specs.Choices.{component_type_spelling, accessor_type_spelling};
-ghost use Rattle.gltf_schema.specs.Kind.{needs_data};
 ghost use Rattle.gltf_schema.specs.Tree.{whole, chosen};
 ghost use Rattle.gltf_schema.specs.Given.{made};
-ghost use Rattle.gltf_data.specs.Accessor.{accessor_rows, accessor_sound, accessor_height, accessor_members};
+ghost use Rattle.gltf_data.specs.Accessor.{accessor_rows, accessor_members};
 
 use crate::buffer::View;
 use crate::extensions;
@@ -16,9 +13,9 @@ use crate::extras::Extras;
 use gltf_base::accessor::{AccessorType, ComponentType, GenericComponentType};
 use gltf_base::validation::{Checked, USize64};
 use gltf_base::{Index, Listed};
-use gltf_schema::{Object, ReadRows, WriteRows};
 use serde_json::Value;
 
+mod derived;
 pub mod sparse;
 
 /// A typed view into a buffer view (glTF 2.0, section 5.1).
@@ -48,7 +45,7 @@ pub struct Accessor {
     pub sparse: Option<sparse::Sparse>,
 }
 
-// One call drops it, wherever it is held (docs/DECISIONS.md, "Large values").
+// Written by tools/derive.py: begin
 impl Drop for Accessor {
     fn drop(self) {
         let Accessor {
@@ -67,6 +64,7 @@ impl Drop for Accessor {
         } = self;
     }
 }
+// Written by tools/derive.py: end
 
 impl Accessor {
     /// Returns an accessor of `count` elements of the given type, without data. It is reported
@@ -98,66 +96,4 @@ impl Accessor {
 
 impl Listed for Accessor {
     ghost list = { accessors };
-}
-
-impl Object for Accessor {
-    ghost rule = { needs_data };
-
-    ghost rows = { accessor_rows };
-
-    ghost keeps = { false };
-
-    ghost members = { accessor_members };
-
-    ghost unknown = { λ _. no_members };
-
-    ghost sound = { accessor_sound };
-
-    ghost height = { 3 };
-
-    ghost low = { (accessor_height.1, lit≤ tt) };
-
-    fn read_members<R: ReadRows>(from: &mut R) -> Accessor {
-        let buffer_view = from.optional("bufferView");
-        let byte_offset = from.optional("byteOffset");
-        let count = from.required("count");
-        let component_type = from.required("componentType");
-        let type_ = from.required("type");
-        let min = from.optional("min");
-        let max = from.optional("max");
-        let name = from.optional("name");
-        let normalized = from.or_default("normalized", false);
-        let sparse = from.optional("sparse");
-        let extensions = from.optional("extensions");
-        let extras = from.optional("extras");
-        Accessor {
-            buffer_view,
-            byte_offset,
-            count,
-            component_type,
-            type_,
-            min,
-            max,
-            name,
-            normalized,
-            sparse,
-            extensions,
-            extras,
-        }
-    }
-
-    fn write_members<W: WriteRows>(&self, to: &mut W) {
-        to.optional("bufferView", &self.buffer_view);
-        to.optional("byteOffset", &self.byte_offset);
-        to.always("componentType", &self.component_type);
-        to.always("count", &self.count);
-        to.optional("extensions", &self.extensions);
-        to.optional("extras", &self.extras);
-        to.optional("max", &self.max);
-        to.optional("min", &self.min);
-        to.optional("name", &self.name);
-        to.unless("normalized", &self.normalized, false);
-        to.optional("sparse", &self.sparse);
-        to.always("type", &self.type_);
-    }
 }

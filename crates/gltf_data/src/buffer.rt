@@ -1,25 +1,23 @@
 //! Buffers and buffer views (glTF 2.0, sections 5.10 and 5.11).
 
-ghost use Rattle.std.specs.Prelude.{◌≡◌, [], ◌∷◌, false, refl, codes};
-ghost use Rattle.std.proofs.Common.{lit≤};
-ghost use Rattle.serde_json.specs.Data.{no_members};
+ghost use Rattle.std.specs.Prelude.{◌≡◌, [], ◌∷◌, refl, codes};
 ghost use Rattle.gltf_paths.specs.Lists.{buffers, buffer_views};
 ghost use Rattle.gltf_schema.specs.Kind.{Stride as stride_kind};
 ghost use Rattle.gltf_schema.specs.Tree.{whole};
 ghost use Rattle.gltf_schema.specs.Given.{made};
 ghost use Rattle.gltf_schema.specs.Fields.{index_tree};
-ghost use Rattle.gltf_data.specs.Buffer.{buffer_rows, buffer_sound, buffer_height, view_rows, view_sound, view_height, buffer_members, view_members, stride_tree};
+ghost use Rattle.gltf_data.specs.Buffer.{buffer_rows, view_rows, buffer_members, view_members, stride_tree};
 
 use crate::extensions;
 use crate::extras::Extras;
 use gltf_base::buffer::Target;
 use gltf_base::validation::{Checked, USize64};
 use gltf_base::{Index, Listed};
-use gltf_schema::{
-    Error, Object, ReadRows, Refusal, Schema, Source, Tabled, WriteRows, whole_or_refused,
-};
+use gltf_schema::{Error, Refusal, Schema, Source, Tabled, whole_or_refused};
 use serde_json::Value;
 use std::alloc::Global;
+
+mod derived;
 
 /// The stride between elements of a buffer view, in bytes.
 #[derive(Clone, Copy, Debug, Default, PartialEq, Eq, Hash)]
@@ -59,7 +57,7 @@ pub struct Buffer {
     pub extras: Extras,
 }
 
-// One call drops it, wherever it is held (docs/DECISIONS.md, "Large values").
+// Written by tools/derive.py: begin
 impl Drop for Buffer {
     fn drop(self) {
         let Buffer {
@@ -71,6 +69,7 @@ impl Drop for Buffer {
         } = self;
     }
 }
+// Written by tools/derive.py: end
 
 impl Buffer {
     /// Returns a buffer of `byte_length` bytes, every other member at its default.
@@ -93,45 +92,6 @@ impl Listed for Buffer {
     ghost list = { buffers };
 }
 
-impl Object for Buffer {
-    ghost rows = { buffer_rows };
-
-    ghost keeps = { false };
-
-    ghost members = { buffer_members };
-
-    ghost unknown = { λ _. no_members };
-
-    ghost sound = { buffer_sound };
-
-    ghost height = { 0 };
-
-    ghost low = { (buffer_height.1, lit≤ tt) };
-
-    fn read_members<R: ReadRows>(from: &mut R) -> Buffer {
-        let byte_length = from.or_default("byteLength", USize64(0));
-        let name = from.optional("name");
-        let uri = from.optional("uri");
-        let extensions = from.optional("extensions");
-        let extras = from.optional("extras");
-        Buffer {
-            byte_length,
-            name,
-            uri,
-            extensions,
-            extras,
-        }
-    }
-
-    fn write_members<W: WriteRows>(&self, to: &mut W) {
-        to.always("byteLength", &self.byte_length);
-        to.optional("extensions", &self.extensions);
-        to.optional("extras", &self.extras);
-        to.optional("name", &self.name);
-        to.optional("uri", &self.uri);
-    }
-}
-
 /// A view into a buffer (glTF 2.0, section 5.11).
 // What takes longest to drop comes last (docs/DECISIONS.md, "Order of fields").
 #[derive(Clone, Debug)]
@@ -152,7 +112,7 @@ pub struct View {
     pub extras: Extras,
 }
 
-// One call drops it, wherever it is held (docs/DECISIONS.md, "Large values").
+// Written by tools/derive.py: begin
 impl Drop for View {
     fn drop(self) {
         let View {
@@ -167,6 +127,7 @@ impl Drop for View {
         } = self;
     }
 }
+// Written by tools/derive.py: end
 
 impl View {
     /// Returns a buffer view of `byte_length` bytes at the start of a buffer, every other member at
@@ -193,52 +154,4 @@ impl View {
 
 impl Listed for View {
     ghost list = { buffer_views };
-}
-
-impl Object for View {
-    ghost rows = { view_rows };
-
-    ghost keeps = { false };
-
-    ghost members = { view_members };
-
-    ghost unknown = { λ _. no_members };
-
-    ghost sound = { view_sound };
-
-    ghost height = { 1 };
-
-    ghost low = { (view_height.1, lit≤ tt) };
-
-    fn read_members<R: ReadRows>(from: &mut R) -> View {
-        let buffer = from.required("buffer");
-        let byte_length = from.required("byteLength");
-        let byte_offset = from.optional("byteOffset");
-        let byte_stride = from.optional("byteStride");
-        let name = from.optional("name");
-        let target = from.optional("target");
-        let extensions = from.optional("extensions");
-        let extras = from.optional("extras");
-        View {
-            buffer,
-            byte_length,
-            byte_offset,
-            byte_stride,
-            name,
-            target,
-            extensions,
-            extras,
-        }
-    }
-
-    fn write_members<W: WriteRows>(&self, to: &mut W) {
-        to.always("buffer", &self.buffer);
-        to.always("byteLength", &self.byte_length);
-        to.optional("byteOffset", &self.byte_offset);
-        to.optional("byteStride", &self.byte_stride);
-        to.optional("extensions", &self.extensions);
-        to.optional("extras", &self.extras);
-        to.optional("name", &self.name);
-        to.optional("target", &self.target);
-    }
 }

@@ -1,22 +1,22 @@
 //! Images (glTF 2.0, section 5.18).
 
-ghost use Rattle.std.specs.Prelude.{◌≡◌, [], ◌∷◌, false, refl, codes};
-ghost use Rattle.std.proofs.Common.{lit≤};
-ghost use Rattle.serde_json.specs.Data.{no_members};
+ghost use Rattle.std.specs.Prelude.{◌≡◌, [], ◌∷◌, refl, codes};
 ghost use Rattle.gltf_paths.specs.Lists.{images};
 ghost use Rattle.gltf_schema.specs.Kind.{Text};
 ghost use Rattle.gltf_schema.specs.Defaults.{defaults};
 ghost use Rattle.gltf_schema.specs.Given.{made};
 ghost use Rattle.gltf_schema.specs.Fields.{index_tree, text_tree};
-ghost use Rattle.gltf_data.specs.Image.{image_rows, image_sound, image_height, image_members, mime_type_tree};
+ghost use Rattle.gltf_data.specs.Image.{image_rows, image_members, mime_type_tree};
 
 use crate::buffer::View;
 use crate::extensions;
 use crate::extras::Extras;
 use gltf_base::{Index, Listed};
-use gltf_schema::{Error, Object, ReadRows, Refusal, Schema, Source, Tabled, WriteRows};
+use gltf_schema::{Error, Refusal, Schema, Source, Tabled};
 use serde_json::Value;
 use std::alloc::Global;
+
+mod derived;
 
 /// The media type of an image's data, also one that `VALID_MIME_TYPES` doesn't list.
 #[derive(Clone, Debug, Drop)]
@@ -58,7 +58,7 @@ pub struct Image {
     pub extras: Extras,
 }
 
-// One call drops it, wherever it is held (docs/DECISIONS.md, "Large values").
+// Written by tools/derive.py: begin
 impl Drop for Image {
     fn drop(self) {
         let Image {
@@ -71,6 +71,7 @@ impl Drop for Image {
         } = self;
     }
 }
+// Written by tools/derive.py: end
 
 impl Image {
     /// Returns an image without data, every member at its default.
@@ -126,46 +127,4 @@ impl Image {
 
 impl Listed for Image {
     ghost list = { images };
-}
-
-impl Object for Image {
-    ghost rows = { image_rows };
-
-    ghost keeps = { false };
-
-    ghost members = { image_members };
-
-    ghost unknown = { λ _. no_members };
-
-    ghost sound = { image_sound };
-
-    ghost height = { 1 };
-
-    ghost low = { (image_height.1, lit≤ tt) };
-
-    fn read_members<R: ReadRows>(from: &mut R) -> Image {
-        let buffer_view = from.optional("bufferView");
-        let mime_type = from.optional("mimeType");
-        let name = from.optional("name");
-        let uri = from.optional("uri");
-        let extensions = from.optional("extensions");
-        let extras = from.optional("extras");
-        Image {
-            buffer_view,
-            mime_type,
-            name,
-            uri,
-            extensions,
-            extras,
-        }
-    }
-
-    fn write_members<W: WriteRows>(&self, to: &mut W) {
-        to.optional("bufferView", &self.buffer_view);
-        to.optional("extensions", &self.extensions);
-        to.optional("extras", &self.extras);
-        to.optional("mimeType", &self.mime_type);
-        to.optional("name", &self.name);
-        to.optional("uri", &self.uri);
-    }
 }

@@ -13,7 +13,8 @@ use Rattle.gltf_root.specs.Lists.{lights_name, variants_name, lights_way, varian
 use Rattle.gltf_root.specs.Named.{row_named, member_named, put_at}
 use Rattle.gltf_root.specs.Pushed.{with_last, pushed, list_steps, item_place, item_kind}
 use Rattle.gltf_root.specs.RootExtension.{lights_rows, lights_kind, variants_rows, variants_kind, root_extension_rows, root_extensions_kind, root_extensions, root_extension_members, lights_members, variants_members}
-use Rattle.gltf_root.specs.Root.{root_rows, root_kind, root_sound, root_members, root_tree}
+use Rattle.gltf_root.specs.Root.{root_rows, root_kind, root_members, root_tree}
+use Rattle.gltf_root.specs.RootDerived.{root_sound}
 use Rattle.gltf_root.specs.declared.root.Root.{Root}
 use Rattle.gltf_root.specs.declared.extensions.root.Root.{Root as RootExtensions}
 use Rattle.gltf_root.specs.declared.extensions.root.KhrLightsPunctual.{KhrLightsPunctual}

@@ -1,12 +1,12 @@
 -- What is invalid in materials is reported.
 use Rattle.gltf_shading.specs.MaterialExtension.{pbr_specular_glossiness_rows, transmission_rows, volume_rows, specular_rows, ior_rows, emissive_strength_rows, material_extension_rows, pbr_specular_glossiness_members, transmission_members, volume_members, specular_members, ior_members, emissive_strength_members, material_extension_members}
 use Rattle.gltf_materials.specs.Material.{pbr_metallic_roughness_rows, normal_texture_rows, occlusion_texture_rows, material_rows, pbr_metallic_roughness_members, normal_texture_members, occlusion_texture_members, material_members}
-use Rattle.gltf_shading.specs.declared.extensions.material.PbrSpecularGlossiness.{PbrSpecularGlossiness}
-use Rattle.gltf_shading.specs.declared.extensions.material.Transmission.{Transmission}
-use Rattle.gltf_shading.specs.declared.extensions.material.Volume.{Volume}
-use Rattle.gltf_shading.specs.declared.extensions.material.Specular.{Specular}
-use Rattle.gltf_shading.specs.declared.extensions.material.Ior.{Ior}
-use Rattle.gltf_shading.specs.declared.extensions.material.EmissiveStrength.{EmissiveStrength}
+use Rattle.gltf_shading.specs.declared.extensions.material.pbr_specular_glossiness.PbrSpecularGlossiness.{PbrSpecularGlossiness}
+use Rattle.gltf_shading.specs.declared.extensions.material.transmission.Transmission.{Transmission}
+use Rattle.gltf_shading.specs.declared.extensions.material.volume.Volume.{Volume}
+use Rattle.gltf_shading.specs.declared.extensions.material.specular.Specular.{Specular}
+use Rattle.gltf_shading.specs.declared.extensions.material.ior.Ior.{Ior}
+use Rattle.gltf_shading.specs.declared.extensions.material.emissive_strength.EmissiveStrength.{EmissiveStrength}
 use Rattle.gltf_shading.specs.declared.extensions.material.Material.{Material as MaterialExtensions}
 use Rattle.gltf_materials.specs.declared.material.PbrMetallicRoughness.{PbrMetallicRoughness}
 use Rattle.gltf_materials.specs.declared.material.NormalTexture.{NormalTexture}

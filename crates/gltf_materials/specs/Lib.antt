@@ -1,1 +1,2 @@
 pub mod Material
+pub mod MaterialDerived

@@ -1,5 +1,5 @@
 -- The rows of materials and of their references to textures (glTF 2.0, sections 5.19 to 5.22).
-use Rattle.std.specs.Prelude.{◌≡◌, true, false, codes, refl, [], ◌∷◌}
+use Rattle.std.specs.Prelude.{false, codes, [], ◌∷◌}
 use Rattle.gltf_paths.specs.Lists.{textures}
 use Rattle.gltf_choices.specs.SceneChoices.{alpha_mode_spelling, alpha_modes}
 use Rattle.gltf_checked.specs.declared.choice.Form.TheVariants as form
@@ -10,10 +10,8 @@ use Rattle.gltf_schema.specs.Leaves.{choice_of, checked_tree}
 use Rattle.gltf_schema.specs.Fields.{closed_object, index_tree, text_tree, real_tree, reals_tree, any_tree, kept_tree}
 use Rattle.gltf_schema.specs.Defaults.{defaults}
 use Rattle.gltf_schema.specs.Extensions.{kept_extensions, extensions_and_extras}
-use Rattle.gltf_textures.specs.Texture.{info_kind, info_sound, info_height, info_members}
-use Rattle.gltf_shading.specs.MaterialExtension.{material_extensions_kind, material_extension_sound, material_extension_height, material_extension_members}
-use Rattle.gltf_schema.specs.Sound.{is_sound}
-use Rattle.gltf_schema.specs.Height.{IsHigh}
+use Rattle.gltf_textures.specs.Texture.{info_kind, info_members}
+use Rattle.gltf_shading.specs.MaterialExtension.{material_extensions_kind, material_extension_members}
 use Rattle.serde_json.specs.View.{members_view}
 use Rattle.gltf_materials.specs.declared.material.AlphaCutoff.{AlphaCutoff}
 use Rattle.gltf_materials.specs.declared.material.Material.{Material}
@@ -128,39 +126,3 @@ material_members v = trees (
     ∷ tree_or_absent material_extensions v.extensions
     ∷ tree_or_absent any_tree v.extras
     ∷ [])
-
--- ---- each kind is sound
-
-pub pbr_metallic_roughness_sound : is_sound pbr_metallic_roughness_kind ≡ true
-unfolding pbr_metallic_roughness_rows
-pbr_metallic_roughness_sound = rw info_sound refl
-
-pub normal_texture_sound : is_sound normal_texture_kind ≡ true
-unfolding normal_texture_rows
-normal_texture_sound = refl
-
-pub occlusion_texture_sound : is_sound occlusion_texture_kind ≡ true
-unfolding occlusion_texture_rows
-occlusion_texture_sound = refl
-
-pub material_sound : is_sound material_kind ≡ true
-unfolding material_rows pbr_metallic_roughness_rows
-material_sound = rw (info_sound, normal_texture_sound, occlusion_texture_sound, material_extension_sound) refl
-
--- ---- how far down something can be wrong
-
-pub pbr_metallic_roughness_height : IsHigh 2 pbr_metallic_roughness_kind
-unfolding pbr_metallic_roughness_rows
-pbr_metallic_roughness_height = rw (info_height.0, info_height.1) (refl, refl)
-
-pub normal_texture_height : IsHigh 1 normal_texture_kind
-unfolding normal_texture_rows
-normal_texture_height = (refl, refl)
-
-pub occlusion_texture_height : IsHigh 1 occlusion_texture_kind
-unfolding occlusion_texture_rows
-occlusion_texture_height = (refl, refl)
-
-pub material_height : IsHigh 4 material_kind
-unfolding material_rows
-material_height = rw (pbr_metallic_roughness_height.0, pbr_metallic_roughness_height.1, normal_texture_height.0, normal_texture_height.1, occlusion_texture_height.0, occlusion_texture_height.1, info_height.0, info_height.1, material_extension_height.0, material_extension_height.1) (refl, refl)

@@ -1,6 +1,6 @@
 -- The rows of meshes, their primitives and morph targets (glTF 2.0, sections 5.23 and 5.24), and of
 -- the extension KHR_materials_variants there.
-use Rattle.std.specs.Prelude.{◌≡◌, true, false, codes, refl, [], ◌∷◌}
+use Rattle.std.specs.Prelude.{true, false, codes, [], ◌∷◌}
 use Rattle.gltf_paths.specs.Lists.{accessors, materials}
 use Rattle.gltf_choices.specs.Choices.{mode_spelling, modes}
 use Rattle.gltf_checked.specs.declared.choice.Form.TheVariants as form
@@ -9,8 +9,6 @@ use Rattle.gltf_schema.specs.Tree.{Tree, chosen, Trees, trees, tree_or_absent, w
 use Rattle.gltf_schema.specs.Kind.{required, optional, unless, Kind, IndexInto, U32, Number, Text, Any, Attributes, ListOf, Object, Rows, no_rows, ◌◂◌, no_rule, needs_positions}
 use Rattle.gltf_schema.specs.Leaves.{choice_of, checked_tree}
 use Rattle.gltf_schema.specs.Extensions.{kept_extensions}
-use Rattle.gltf_schema.specs.Sound.{is_sound}
-use Rattle.gltf_schema.specs.Height.{IsFlat, IsHigh}
 use Rattle.serde_json.specs.View.{members_view}
 use Rattle.gltf_schema.specs.Fields.{index_tree, text_tree, real_tree, any_tree, list_tree, attributes_tree, closed_object, kept_tree}
 use Rattle.gltf_meshes.specs.declared.mesh.Mesh.{Mesh}
@@ -138,55 +136,3 @@ mesh_members v = trees (
     ∷ list_tree (λ p. closed_object (primitive_members p)) v.primitives.items
     ∷ tree_or_absent (λ ws. list_tree real_tree ws.items) v.weights
     ∷ [])
-
--- ---- each kind is sound
-
-pub variant_mapping_sound : is_sound variant_mapping_kind ≡ true
-unfolding variant_mapping_rows
-variant_mapping_sound = refl
-
-pub variant_mappings_sound : is_sound variant_mappings_kind ≡ true
-unfolding variant_mappings_rows
-variant_mappings_sound = rw variant_mapping_sound refl
-
-pub primitive_extension_sound : is_sound primitive_extensions_kind ≡ true
-unfolding primitive_extension_rows
-primitive_extension_sound = rw variant_mappings_sound refl
-
-pub morph_target_sound : is_sound morph_target_kind ≡ true
-unfolding morph_target_rows
-morph_target_sound = refl
-
-pub primitive_sound : is_sound primitive_kind ≡ true
-unfolding primitive_rows
-primitive_sound = rw (primitive_extension_sound, morph_target_sound) refl
-
-pub mesh_sound : is_sound mesh_kind ≡ true
-unfolding mesh_rows
-mesh_sound = rw primitive_sound refl
-
--- ---- how far down something can be wrong
-
-pub variant_mapping_height : IsFlat variant_mapping_kind
-unfolding variant_mapping_rows
-variant_mapping_height = (refl, refl)
-
-pub variant_mappings_height : IsFlat variant_mappings_kind
-unfolding variant_mappings_rows
-variant_mappings_height = rw variant_mapping_height.0 (refl, refl)
-
-pub primitive_extension_height : IsFlat primitive_extensions_kind
-unfolding primitive_extension_rows
-primitive_extension_height = rw variant_mappings_height.0 (refl, refl)
-
-pub morph_target_height : IsHigh 1 morph_target_kind
-unfolding morph_target_rows
-morph_target_height = (refl, refl)
-
-pub primitive_height : IsHigh 3 primitive_kind
-unfolding primitive_rows
-primitive_height = rw (primitive_extension_height.0, morph_target_height.0, morph_target_height.1) (refl, refl)
-
-pub mesh_height : IsHigh 5 mesh_kind
-unfolding mesh_rows
-mesh_height = rw (primitive_height.0, primitive_height.1) (refl, refl)

@@ -1,14 +1,11 @@
 //! Meshes, their primitives and morph targets (glTF 2.0, sections 5.23 and 5.24).
 
-ghost use Rattle.std.specs.Prelude.{◌≡◌, [], ◌∷◌, false, codes};
-ghost use Rattle.std.proofs.Common.{lit≤};
-ghost use Rattle.serde_json.specs.Data.{no_members};
+ghost use Rattle.std.specs.Prelude.{◌≡◌, [], ◌∷◌, codes};
 ghost use Rattle.gltf_paths.specs.Lists.{meshes};
-ghost use Rattle.gltf_schema.specs.Kind.{needs_positions};
 ghost use Rattle.gltf_schema.specs.Defaults.{defaults};
 ghost use Rattle.gltf_schema.specs.Given.{made};
 ghost use Rattle.gltf_schema.specs.Fields.{list_tree, attributes_tree, closed_object};
-ghost use Rattle.gltf_meshes.specs.Mesh.{mesh_rows, mesh_sound, mesh_height, primitive_rows, primitive_sound, primitive_height, morph_target_rows, morph_target_sound, morph_target_height, mesh_members, primitive_members, morph_target_members};
+ghost use Rattle.gltf_meshes.specs.Mesh.{mesh_rows, primitive_rows, morph_target_rows, mesh_members, primitive_members, morph_target_members};
 
 use crate::extensions;
 use gltf_base::mesh::{Mode, Semantic};
@@ -17,8 +14,9 @@ use gltf_base::{Index, Listed, Real};
 use gltf_data::accessor::Accessor;
 use gltf_data::extras::Extras;
 use gltf_materials::material::Material;
-use gltf_schema::{Object, ReadRows, WriteRows};
 use std::collections::BTreeMap;
+
+mod derived;
 
 /// A set of primitives to render (glTF 2.0, section 5.23).
 // What takes longest to drop comes last (docs/DECISIONS.md, "Order of fields").
@@ -33,7 +31,7 @@ pub struct Mesh {
     pub extras: Extras,
 }
 
-// One call drops it, wherever it is held (docs/DECISIONS.md, "Large values").
+// Written by tools/derive.py: begin
 impl Drop for Mesh {
     fn drop(self) {
         let Mesh {
@@ -45,6 +43,7 @@ impl Drop for Mesh {
         } = self;
     }
 }
+// Written by tools/derive.py: end
 
 impl Mesh {
     /// Returns a mesh of these primitives.
@@ -68,45 +67,6 @@ impl Mesh {
 
 impl Listed for Mesh {
     ghost list = { meshes };
-}
-
-impl Object for Mesh {
-    ghost rows = { mesh_rows };
-
-    ghost keeps = { false };
-
-    ghost members = { mesh_members };
-
-    ghost unknown = { λ _. no_members };
-
-    ghost sound = { mesh_sound };
-
-    ghost height = { 5 };
-
-    ghost low = { (mesh_height.1, lit≤ tt) };
-
-    fn read_members<R: ReadRows>(from: &mut R) -> Mesh {
-        let extensions = from.optional("extensions");
-        let extras = from.optional("extras");
-        let name = from.optional("name");
-        let primitives = from.required("primitives");
-        let weights = from.optional("weights");
-        Mesh {
-            extensions,
-            extras,
-            name,
-            primitives,
-            weights,
-        }
-    }
-
-    fn write_members<W: WriteRows>(&self, to: &mut W) {
-        to.optional("extensions", &self.extensions);
-        to.optional("extras", &self.extras);
-        to.optional("name", &self.name);
-        to.always("primitives", &self.primitives);
-        to.optional("weights", &self.weights);
-    }
 }
 
 /// Geometry to render with one material (glTF 2.0, section 5.24).
@@ -146,53 +106,6 @@ impl Primitive {
     }
 }
 
-impl Object for Primitive {
-    ghost rule = { needs_positions };
-
-    ghost rows = { primitive_rows };
-
-    ghost keeps = { false };
-
-    ghost members = { primitive_members };
-
-    ghost unknown = { λ _. no_members };
-
-    ghost sound = { primitive_sound };
-
-    ghost height = { 3 };
-
-    ghost low = { (primitive_height.1, lit≤ tt) };
-
-    fn read_members<R: ReadRows>(from: &mut R) -> Primitive {
-        let attributes = from.required("attributes");
-        let extensions = from.optional("extensions");
-        let extras = from.optional("extras");
-        let indices = from.optional("indices");
-        let material = from.optional("material");
-        let mode = from.or_default("mode", Checked::Valid(Mode::Triangles));
-        let targets = from.optional("targets");
-        Primitive {
-            attributes,
-            extensions,
-            extras,
-            indices,
-            material,
-            mode,
-            targets,
-        }
-    }
-
-    fn write_members<W: WriteRows>(&self, to: &mut W) {
-        to.always("attributes", &self.attributes);
-        to.optional("extensions", &self.extensions);
-        to.optional("extras", &self.extras);
-        to.optional("indices", &self.indices);
-        to.optional("material", &self.material);
-        to.unless("mode", &self.mode, Checked::Valid(Mode::Triangles));
-        to.optional("targets", &self.targets);
-    }
-}
-
 /// A morph target: displacements of vertex attributes.
 #[derive(Clone, Debug, Drop)]
 pub struct MorphTarget {
@@ -215,38 +128,5 @@ impl MorphTarget {
             normals: None,
             tangents: None,
         }
-    }
-}
-
-impl Object for MorphTarget {
-    ghost rows = { morph_target_rows };
-
-    ghost keeps = { false };
-
-    ghost members = { morph_target_members };
-
-    ghost unknown = { λ _. no_members };
-
-    ghost sound = { morph_target_sound };
-
-    ghost height = { 1 };
-
-    ghost low = { (morph_target_height.1, lit≤ tt) };
-
-    fn read_members<R: ReadRows>(from: &mut R) -> MorphTarget {
-        let positions = from.optional("POSITION");
-        let normals = from.optional("NORMAL");
-        let tangents = from.optional("TANGENT");
-        MorphTarget {
-            positions,
-            normals,
-            tangents,
-        }
-    }
-
-    fn write_members<W: WriteRows>(&self, to: &mut W) {
-        to.optional("NORMAL", &self.normals);
-        to.optional("POSITION", &self.positions);
-        to.optional("TANGENT", &self.tangents);
     }
 }

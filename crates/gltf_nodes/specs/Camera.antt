@@ -1,12 +1,10 @@
 -- The rows of cameras and their projections (glTF 2.0, sections 5.12 to 5.14).
-use Rattle.std.specs.Prelude.{◌≡◌, true, false, codes, refl, [], ◌∷◌}
+use Rattle.std.specs.Prelude.{false, codes, [], ◌∷◌}
 use Rattle.gltf_choices.specs.SceneChoices.{camera_type_spelling, camera_types}
 use Rattle.gltf_checked.specs.declared.choice.Form.TheVariants as form
 use Rattle.gltf_schema.specs.Kind.{required, optional, Kind, Number, Text, Object, Rows, ◌◂◌, no_rule, needs_projection}
 use Rattle.gltf_schema.specs.Leaves.{choice_of, checked_tree}
 use Rattle.gltf_schema.specs.Extensions.{kept_extensions, extensions_and_extras}
-use Rattle.gltf_schema.specs.Sound.{is_sound}
-use Rattle.gltf_schema.specs.Height.{IsFlat, IsHigh}
 use Rattle.gltf_schema.specs.Tree.{Trees, trees, tree_or_absent}
 use Rattle.gltf_schema.specs.Fields.{text_tree, real_tree, any_tree, closed_object, kept_tree}
 use Rattle.gltf_nodes.specs.declared.camera.Camera.{Camera}
@@ -80,31 +78,3 @@ camera_members v = trees (
     ∷ tree_or_absent kept_tree v.extensions
     ∷ tree_or_absent any_tree v.extras
     ∷ [])
-
--- ---- each kind is sound
-
-pub orthographic_sound : is_sound orthographic_kind ≡ true
-unfolding orthographic_rows
-orthographic_sound = refl
-
-pub perspective_sound : is_sound perspective_kind ≡ true
-unfolding perspective_rows
-perspective_sound = refl
-
-pub camera_sound : is_sound camera_kind ≡ true
-unfolding camera_rows
-camera_sound = rw (orthographic_sound, perspective_sound) refl
-
--- ---- how far down something can be wrong
-
-pub orthographic_height : IsFlat orthographic_kind
-unfolding orthographic_rows
-orthographic_height = (refl, refl)
-
-pub perspective_height : IsFlat perspective_kind
-unfolding perspective_rows
-perspective_height = (refl, refl)
-
-pub camera_height : IsHigh 1 camera_kind
-unfolding camera_rows
-camera_height = rw (orthographic_height.0, perspective_height.0) (refl, refl)

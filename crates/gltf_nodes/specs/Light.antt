@@ -1,5 +1,5 @@
 -- The rows of lights, by KHR_lights_punctual, and of variants, by KHR_materials_variants.
-use Rattle.std.specs.Prelude.{◌≡◌, ◌*◌, ◌^◌, true, false, codes, refl, [], ◌∷◌}
+use Rattle.std.specs.Prelude.{◌*◌, ◌^◌, false, codes, [], ◌∷◌}
 use Rattle.std.specs.Float.{Float, binary64}
 use Rattle.std.specs.Float.Ieee.{round}
 use Rattle.gltf_paths.specs.Lists.{lights}
@@ -7,8 +7,6 @@ use Rattle.gltf_choices.specs.SceneChoices.{light_type_spelling, light_types}
 use Rattle.gltf_checked.specs.declared.choice.Form.TheVariants as form
 use Rattle.gltf_schema.specs.Kind.{required, optional, sometimes, Kind, IndexInto, Number, Numbers, Text, Any, Object, Rows, no_rows, ◌◂◌, no_rule, needs_cone}
 use Rattle.gltf_schema.specs.Leaves.{choice_of, checked_tree}
-use Rattle.gltf_schema.specs.Sound.{is_sound}
-use Rattle.gltf_schema.specs.Height.{IsFlat, IsHigh}
 use Rattle.gltf_schema.specs.Tree.{Trees, trees, tree_or_absent}
 use Rattle.gltf_schema.specs.Fields.{index_tree, text_tree, real_tree, reals_tree, any_tree, closed_object}
 use Rattle.gltf_nodes.specs.declared.extensions.scene.khr_lights_punctual.KhrLightsPunctual.{KhrLightsPunctual}
@@ -92,39 +90,3 @@ unfoldable pub variant_members : Variant → Trees
 variant_members v = trees (
     text_tree v.name
     ∷ [])
-
--- ---- each kind is sound
-
-pub light_of_node_sound : is_sound light_of_node_kind ≡ true
-unfolding light_of_node_rows
-light_of_node_sound = refl
-
-pub spot_sound : is_sound spot_kind ≡ true
-unfolding spot_rows
-spot_sound = refl
-
-pub light_sound : is_sound light_kind ≡ true
-unfolding light_rows
-light_sound = rw spot_sound refl
-
-pub variant_sound : is_sound variant_kind ≡ true
-unfolding variant_rows
-variant_sound = refl
-
--- ---- how far down something can be wrong
-
-pub light_of_node_height : IsHigh 1 light_of_node_kind
-unfolding light_of_node_rows
-light_of_node_height = (refl, refl)
-
-pub spot_height : IsFlat spot_kind
-unfolding spot_rows
-spot_height = (refl, refl)
-
-pub light_height : IsHigh 1 light_kind
-unfolding light_rows
-light_height = rw spot_height.0 (refl, refl)
-
-pub variant_height : IsFlat variant_kind
-unfolding variant_rows
-variant_height = (refl, refl)

@@ -1,12 +1,10 @@
 -- The rows of nodes, scenes and skins (glTF 2.0, sections 5.25, 5.27 and 5.28).
-use Rattle.std.specs.Prelude.{◌≡◌, true, false, codes, refl, [], ◌∷◌}
+use Rattle.std.specs.Prelude.{true, false, codes, [], ◌∷◌}
 use Rattle.gltf_paths.specs.Lists.{accessors, cameras, meshes, nodes, skins}
 use Rattle.gltf_schema.specs.Tree.{list, end, Tree, Trees, trees, tree_or_absent, numbers, object}
 use Rattle.gltf_schema.specs.Kind.{optional, unless, Kind, IndexInto, Number, Numbers, Text, Any, ListOf, Object, Rows, no_rows, ◌◂◌, no_rule}
 use Rattle.gltf_schema.specs.Extensions.{kept_extensions}
-use Rattle.gltf_nodes.specs.Light.{light_of_node_kind, light_of_node_sound, light_of_node_height, light_of_node_members}
-use Rattle.gltf_schema.specs.Sound.{is_sound}
-use Rattle.gltf_schema.specs.Height.{IsHigh}
+use Rattle.gltf_nodes.specs.Light.{light_of_node_kind, light_of_node_members}
 use Rattle.serde_json.specs.Data.{unsigned}
 use Rattle.serde_json.specs.View.{members_view}
 use Rattle.gltf_schema.specs.Fields.{index_tree, text_tree, real_tree, reals_tree, any_tree, list_tree, closed_object, kept_tree}
@@ -118,39 +116,3 @@ skin_members v = trees (
     ∷ tree_or_absent text_tree v.name
     ∷ tree_or_absent index_tree v.skeleton
     ∷ [])
-
--- ---- each kind is sound
-
-pub node_extension_sound : is_sound node_extensions_kind ≡ true
-unfolding node_extension_rows
-node_extension_sound = rw light_of_node_sound refl
-
-pub node_sound : is_sound node_kind ≡ true
-unfolding node_rows
-node_sound = rw node_extension_sound refl
-
-pub scene_sound : is_sound scene_kind ≡ true
-unfolding scene_rows
-scene_sound = refl
-
-pub skin_sound : is_sound skin_kind ≡ true
-unfolding skin_rows
-skin_sound = refl
-
--- ---- how far down something can be wrong
-
-pub node_extension_height : IsHigh 2 node_extensions_kind
-unfolding node_extension_rows
-node_extension_height = rw (light_of_node_height.0, light_of_node_height.1) (refl, refl)
-
-pub node_height : IsHigh 3 node_kind
-unfolding node_rows
-node_height = rw (node_extension_height.0, node_extension_height.1) (refl, refl)
-
-pub scene_height : IsHigh 2 scene_kind
-unfolding scene_rows
-scene_height = (refl, refl)
-
-pub skin_height : IsHigh 2 skin_kind
-unfolding skin_rows
-skin_height = (refl, refl)

@@ -1,22 +1,20 @@
 //! Cameras (glTF 2.0, sections 5.12 to 5.14).
 
-ghost use Rattle.std.specs.Prelude.{◌≡◌, [], ◌∷◌, false, codes};
-ghost use Rattle.std.proofs.Common.{lit≤};
-ghost use Rattle.serde_json.specs.Data.{no_members};
+ghost use Rattle.std.specs.Prelude.{◌≡◌, [], ◌∷◌, codes};
 ghost use Rattle.gltf_paths.specs.Lists.{cameras};
-ghost use Rattle.gltf_schema.specs.Kind.{needs_projection};
 ghost use Rattle.gltf_checked.specs.Spelling.{by_name};
 ghost use Rattle.gltf_schema.specs.Tree.{chosen};
 ghost use Rattle.gltf_schema.specs.Given.{made};
 ghost use Rattle.gltf_schema.specs.Fields.{real_tree, closed_object};
-ghost use Rattle.gltf_nodes.specs.Camera.{camera_rows, camera_sound, camera_height, orthographic_rows, orthographic_sound, orthographic_height, perspective_rows, perspective_sound, perspective_height, camera_members, orthographic_members, perspective_members};
+ghost use Rattle.gltf_nodes.specs.Camera.{camera_rows, orthographic_rows, perspective_rows, camera_members, orthographic_members, perspective_members};
 
 use crate::extensions;
 use gltf_base::camera::CameraType;
 use gltf_base::validation::Checked;
 use gltf_base::{Listed, Real};
 use gltf_data::extras::Extras;
-use gltf_schema::{Object, ReadRows, WriteRows};
+
+mod derived;
 
 /// A camera's projection (glTF 2.0, section 5.12).
 // What takes longest to drop comes last (docs/DECISIONS.md, "Order of fields").
@@ -33,7 +31,7 @@ pub struct Camera {
     pub perspective: Option<Perspective>,
 }
 
-// One call drops it, wherever it is held (docs/DECISIONS.md, "Large values").
+// Written by tools/derive.py: begin
 impl Drop for Camera {
     fn drop(self) {
         let Camera {
@@ -46,6 +44,7 @@ impl Drop for Camera {
         } = self;
     }
 }
+// Written by tools/derive.py: end
 
 impl Camera {
     /// Returns a camera with a perspective projection.
@@ -89,50 +88,6 @@ impl Listed for Camera {
     ghost list = { cameras };
 }
 
-impl Object for Camera {
-    ghost rule = { needs_projection };
-
-    ghost rows = { camera_rows };
-
-    ghost keeps = { false };
-
-    ghost members = { camera_members };
-
-    ghost unknown = { λ _. no_members };
-
-    ghost sound = { camera_sound };
-
-    ghost height = { 1 };
-
-    ghost low = { (camera_height.1, lit≤ tt) };
-
-    fn read_members<R: ReadRows>(from: &mut R) -> Camera {
-        let name = from.optional("name");
-        let orthographic = from.optional("orthographic");
-        let perspective = from.optional("perspective");
-        let type_ = from.required("type");
-        let extensions = from.optional("extensions");
-        let extras = from.optional("extras");
-        Camera {
-            name,
-            orthographic,
-            perspective,
-            type_,
-            extensions,
-            extras,
-        }
-    }
-
-    fn write_members<W: WriteRows>(&self, to: &mut W) {
-        to.optional("extensions", &self.extensions);
-        to.optional("extras", &self.extras);
-        to.optional("name", &self.name);
-        to.optional("orthographic", &self.orthographic);
-        to.optional("perspective", &self.perspective);
-        to.always("type", &self.type_);
-    }
-}
-
 /// An orthographic projection (glTF 2.0, section 5.13).
 #[derive(Clone, Debug, Drop)]
 pub struct Orthographic {
@@ -170,48 +125,6 @@ impl Orthographic {
     }
 }
 
-impl Object for Orthographic {
-    ghost rows = { orthographic_rows };
-
-    ghost keeps = { false };
-
-    ghost members = { orthographic_members };
-
-    ghost unknown = { λ _. no_members };
-
-    ghost sound = { orthographic_sound };
-
-    ghost height = { 0 };
-
-    ghost low = { (orthographic_height.1, lit≤ tt) };
-
-    fn read_members<R: ReadRows>(from: &mut R) -> Orthographic {
-        let xmag = from.required("xmag");
-        let ymag = from.required("ymag");
-        let zfar = from.required("zfar");
-        let znear = from.required("znear");
-        let extensions = from.optional("extensions");
-        let extras = from.optional("extras");
-        Orthographic {
-            xmag,
-            ymag,
-            zfar,
-            znear,
-            extensions,
-            extras,
-        }
-    }
-
-    fn write_members<W: WriteRows>(&self, to: &mut W) {
-        to.optional("extensions", &self.extensions);
-        to.optional("extras", &self.extras);
-        to.always("xmag", &self.xmag);
-        to.always("ymag", &self.ymag);
-        to.always("zfar", &self.zfar);
-        to.always("znear", &self.znear);
-    }
-}
-
 /// A perspective projection (glTF 2.0, section 5.14).
 #[derive(Clone, Debug, Drop)]
 pub struct Perspective {
@@ -244,47 +157,5 @@ impl Perspective {
             extensions: None,
             extras: None,
         }
-    }
-}
-
-impl Object for Perspective {
-    ghost rows = { perspective_rows };
-
-    ghost keeps = { false };
-
-    ghost members = { perspective_members };
-
-    ghost unknown = { λ _. no_members };
-
-    ghost sound = { perspective_sound };
-
-    ghost height = { 0 };
-
-    ghost low = { (perspective_height.1, lit≤ tt) };
-
-    fn read_members<R: ReadRows>(from: &mut R) -> Perspective {
-        let aspect_ratio = from.optional("aspectRatio");
-        let yfov = from.required("yfov");
-        let zfar = from.optional("zfar");
-        let znear = from.required("znear");
-        let extensions = from.optional("extensions");
-        let extras = from.optional("extras");
-        Perspective {
-            aspect_ratio,
-            yfov,
-            zfar,
-            znear,
-            extensions,
-            extras,
-        }
-    }
-
-    fn write_members<W: WriteRows>(&self, to: &mut W) {
-        to.optional("aspectRatio", &self.aspect_ratio);
-        to.optional("extensions", &self.extensions);
-        to.optional("extras", &self.extras);
-        to.always("yfov", &self.yfov);
-        to.optional("zfar", &self.zfar);
-        to.always("znear", &self.znear);
     }
 }

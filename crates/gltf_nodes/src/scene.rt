@@ -1,15 +1,13 @@
 //! Scenes and their nodes (glTF 2.0, sections 5.25 and 5.27).
 
-ghost use Rattle.std.specs.Prelude.{◌≡◌, [], ◌∷◌, false, refl, codes, map, option_map};
-ghost use Rattle.std.proofs.Common.{lit≤};
-ghost use Rattle.serde_json.specs.Data.{no_members};
+ghost use Rattle.std.specs.Prelude.{◌≡◌, [], ◌∷◌, refl, codes, map, option_map};
 ghost use Rattle.gltf_paths.specs.Lists.{nodes, scenes};
 ghost use Rattle.gltf_schema.specs.Kind.{Numbers};
 ghost use Rattle.gltf_schema.specs.Defaults.{defaults};
 ghost use Rattle.gltf_schema.specs.Given.{made};
 ghost use Rattle.gltf_schema.specs.Floats.{real_float, floats_or};
 ghost use Rattle.gltf_schema.specs.Fields.{index_tree, list_tree};
-ghost use Rattle.gltf_nodes.specs.Scene.{node_rows, node_sound, node_height, scene_rows, scene_sound, scene_height, node_members, scene_members, unit_quaternion_tree, no_rotation};
+ghost use Rattle.gltf_nodes.specs.Scene.{node_rows, scene_rows, node_members, scene_members, unit_quaternion_tree, no_rotation};
 
 use crate::camera::Camera;
 use crate::extensions;
@@ -17,9 +15,11 @@ use crate::skin::Skin;
 use gltf_base::{Index, Listed, Real};
 use gltf_data::extras::Extras;
 use gltf_meshes::mesh::Mesh;
-use gltf_schema::{Error, Object, ReadRows, Refusal, Schema, Source, Tabled, WriteRows};
+use gltf_schema::{Error, Refusal, Schema, Source, Tabled};
 use serde_json::Value;
 use std::alloc::Global;
+
+mod derived;
 
 /// A node in the node hierarchy (glTF 2.0, section 5.25).
 // What takes longest to drop comes last (docs/DECISIONS.md, "Order of fields").
@@ -46,7 +46,7 @@ pub struct Node {
     pub extras: Extras,
 }
 
-// One call drops it, wherever it is held (docs/DECISIONS.md, "Large values").
+// Written by tools/derive.py: begin
 impl Drop for Node {
     fn drop(self) {
         let Node {
@@ -65,6 +65,7 @@ impl Drop for Node {
         } = self;
     }
 }
+// Written by tools/derive.py: end
 
 impl Node {
     /// Returns a node with every member at its default.
@@ -91,16 +92,6 @@ impl Node {
     /// The numbers that an absent `translation` means.
     pub const DEFAULT_TRANSLATION: [f64; 3] = [0.0; 3];
 
-    /// The numbers as floats, or [`Node::DEFAULT_TRANSLATION`] if they are absent.
-    pub fn translation_values(&self) -> [f64; 3]
-        ensures { result ≡ floats_or Self.DEFAULT_TRANSLATION self.now.translation }
-    {
-        match &self.translation {
-            Some([x, y, z]) => [x.as_f64(), y.as_f64(), z.as_f64()],
-            None => Node::DEFAULT_TRANSLATION,
-        }
-    }
-
     /// The numbers that an absent `rotation` means: x, y, z, w.
     pub const DEFAULT_ROTATION: [f64; 4] = [0.0, 0.0, 0.0, 1.0];
 
@@ -117,80 +108,10 @@ impl Node {
 
     /// The numbers that an absent `scale` means.
     pub const DEFAULT_SCALE: [f64; 3] = [1.0; 3];
-
-    /// The numbers as floats, or [`Node::DEFAULT_SCALE`] if they are absent.
-    pub fn scale_values(&self) -> [f64; 3]
-        ensures { result ≡ floats_or Self.DEFAULT_SCALE self.now.scale }
-    {
-        match &self.scale {
-            Some([x, y, z]) => [x.as_f64(), y.as_f64(), z.as_f64()],
-            None => Node::DEFAULT_SCALE,
-        }
-    }
 }
 
 impl Listed for Node {
     ghost list = { nodes };
-}
-
-impl Object for Node {
-    ghost rows = { node_rows };
-
-    ghost keeps = { false };
-
-    ghost members = { node_members };
-
-    ghost unknown = { λ _. no_members };
-
-    ghost sound = { node_sound };
-
-    ghost height = { 3 };
-
-    ghost low = { (node_height.1, lit≤ tt) };
-
-    fn read_members<R: ReadRows>(from: &mut R) -> Node {
-        let camera = from.optional("camera");
-        let children = from.optional("children");
-        let extensions = from.optional("extensions");
-        let extras = from.optional("extras");
-        let matrix = from.optional("matrix");
-        let mesh = from.optional("mesh");
-        let name = from.optional("name");
-        let rotation = from.optional("rotation");
-        let scale = from.optional("scale");
-        let translation = from.optional("translation");
-        let skin = from.optional("skin");
-        let weights = from.optional("weights");
-        Node {
-            camera,
-            children,
-            extensions,
-            extras,
-            matrix,
-            mesh,
-            name,
-            rotation,
-            scale,
-            translation,
-            skin,
-            weights,
-        }
-    }
-
-    fn write_members<W: WriteRows>(&self, to: &mut W) {
-        to.optional("camera", &self.camera);
-        to.optional("children", &self.children);
-        to.optional("extensions", &self.extensions);
-        to.optional("extras", &self.extras);
-        to.optional("matrix", &self.matrix);
-        to.optional("mesh", &self.mesh);
-        to.optional("name", &self.name);
-        to.optional("rotation", &self.rotation);
-        to.optional("scale", &self.scale);
-        to.optional("skin", &self.skin);
-        to.optional("translation", &self.translation);
-        to.optional("weights", &self.weights);
-    }
 }
 
 /// The root nodes of a scene (glTF 2.0, section 5.27).
@@ -204,7 +125,7 @@ pub struct Scene {
     pub extras: Extras,
 }
 
-// One call drops it, wherever it is held (docs/DECISIONS.md, "Large values").
+// Written by tools/derive.py: begin
 impl Drop for Scene {
     fn drop(self) {
         let Scene {
@@ -215,6 +136,7 @@ impl Drop for Scene {
         } = self;
     }
 }
+// Written by tools/derive.py: end
 
 impl Scene {
     /// Returns a scene with these root nodes.
@@ -235,42 +157,6 @@ impl Scene {
 
 impl Listed for Scene {
     ghost list = { scenes };
-}
-
-impl Object for Scene {
-    ghost rows = { scene_rows };
-
-    ghost keeps = { false };
-
-    ghost members = { scene_members };
-
-    ghost unknown = { λ _. no_members };
-
-    ghost sound = { scene_sound };
-
-    ghost height = { 2 };
-
-    ghost low = { (scene_height.1, lit≤ tt) };
-
-    fn read_members<R: ReadRows>(from: &mut R) -> Scene {
-        let extensions = from.optional("extensions");
-        let extras = from.optional("extras");
-        let name = from.optional("name");
-        let nodes = from.list("nodes");
-        Scene {
-            extensions,
-            extras,
-            name,
-            nodes,
-        }
-    }
-
-    fn write_members<W: WriteRows>(&self, to: &mut W) {
-        to.optional("extensions", &self.extensions);
-        to.optional("extras", &self.extras);
-        to.optional("name", &self.name);
-        to.list("nodes", &self.nodes);
-    }
 }
 
 /// A rotation as a unit quaternion: x, y, z, w.

@@ -1,19 +1,18 @@
 //! Skins: joints and their inverse bind matrices (glTF 2.0, section 5.28).
 
-ghost use Rattle.std.specs.Prelude.{◌≡◌, [], ◌∷◌, false, codes};
-ghost use Rattle.std.proofs.Common.{lit≤};
-ghost use Rattle.serde_json.specs.Data.{no_members};
+ghost use Rattle.std.specs.Prelude.{◌≡◌, [], ◌∷◌, codes};
 ghost use Rattle.gltf_paths.specs.Lists.{skins};
 ghost use Rattle.gltf_schema.specs.Given.{made};
 ghost use Rattle.gltf_schema.specs.Fields.{index_tree, list_tree};
-ghost use Rattle.gltf_nodes.specs.Scene.{skin_rows, skin_sound, skin_height, skin_members};
+ghost use Rattle.gltf_nodes.specs.Scene.{skin_rows, skin_members};
 
 use crate::extensions;
 use crate::scene::Node;
 use gltf_base::{Index, Listed};
 use gltf_data::accessor::Accessor;
 use gltf_data::extras::Extras;
-use gltf_schema::{Object, ReadRows, WriteRows};
+
+mod derived;
 
 /// The joints and matrices for skinning a mesh (glTF 2.0, section 5.28).
 // What takes longest to drop comes last (docs/DECISIONS.md, "Order of fields").
@@ -30,7 +29,7 @@ pub struct Skin {
     pub extras: Extras,
 }
 
-// One call drops it, wherever it is held (docs/DECISIONS.md, "Large values").
+// Written by tools/derive.py: begin
 impl Drop for Skin {
     fn drop(self) {
         let Skin {
@@ -43,6 +42,7 @@ impl Drop for Skin {
         } = self;
     }
 }
+// Written by tools/derive.py: end
 
 impl Skin {
     /// Returns a skin with these joints.
@@ -65,46 +65,4 @@ impl Skin {
 
 impl Listed for Skin {
     ghost list = { skins };
-}
-
-impl Object for Skin {
-    ghost rows = { skin_rows };
-
-    ghost keeps = { false };
-
-    ghost members = { skin_members };
-
-    ghost unknown = { λ _. no_members };
-
-    ghost sound = { skin_sound };
-
-    ghost height = { 2 };
-
-    ghost low = { (skin_height.1, lit≤ tt) };
-
-    fn read_members<R: ReadRows>(from: &mut R) -> Skin {
-        let extensions = from.optional("extensions");
-        let extras = from.optional("extras");
-        let inverse_bind_matrices = from.optional("inverseBindMatrices");
-        let joints = from.list("joints");
-        let name = from.optional("name");
-        let skeleton = from.optional("skeleton");
-        Skin {
-            extensions,
-            extras,
-            inverse_bind_matrices,
-            joints,
-            name,
-            skeleton,
-        }
-    }
-
-    fn write_members<W: WriteRows>(&self, to: &mut W) {
-        to.optional("extensions", &self.extensions);
-        to.optional("extras", &self.extras);
-        to.optional("inverseBindMatrices", &self.inverse_bind_matrices);
-        to.list("joints", &self.joints);
-        to.optional("name", &self.name);
-        to.optional("skeleton", &self.skeleton);
-    }
 }

@@ -19,7 +19,8 @@ use Rattle.gltf_schema.specs.Tree.{Tree}
 use Rattle.gltf_schema.specs.Write.{write}
 use Rattle.gltf_schema.proofs.ReadBack.{read_back}
 use Rattle.gltf_root.specs.Answer.{answer, document, tree_answer}
-use Rattle.gltf_root.specs.Root.{root_kind, root_sound}
+use Rattle.gltf_root.specs.Root.{root_kind}
+use Rattle.gltf_root.specs.RootDerived.{root_sound}
 use Rattle.gltf_root.specs.Written.{IsCompact, IsCompactOf, IsPretty, IsPrettyOf, IsReadBack}
 use Rattle.gltf_root.proofs.AnswerLemmas.{answer-json}
 

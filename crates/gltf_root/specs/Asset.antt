@@ -1,9 +1,7 @@
 -- The rows of a document's own description (glTF 2.0, section 5.9).
-use Rattle.std.specs.Prelude.{◌≡◌, true, false, codes, refl, ℕ, List, [], ◌∷◌}
+use Rattle.std.specs.Prelude.{false, codes, ℕ, List, [], ◌∷◌}
 use Rattle.gltf_schema.specs.Kind.{required, optional, Kind, Text, Object, Rows, ◌◂◌, no_rule}
 use Rattle.gltf_schema.specs.Extensions.{dropped_extensions, extensions_and_extras}
-use Rattle.gltf_schema.specs.Sound.{is_sound}
-use Rattle.gltf_schema.specs.Height.{IsFlat}
 use Rattle.gltf_schema.specs.Tree.{Trees, trees, tree_or_absent, absent, text}
 use Rattle.gltf_schema.specs.Fields.{text_tree, any_tree, dropped_tree}
 use Rattle.gltf_root.specs.declared.asset.Asset.{Asset}
@@ -34,13 +32,3 @@ asset_members v = trees (
 -- a version and nothing else
 abbrev pub asset_of_version : List ℕ → Trees
 asset_of_version version = trees (absent ∷ absent ∷ absent ∷ text version ∷ absent ∷ absent ∷ [])
-
-pub asset_sound : is_sound asset_kind ≡ true
-unfolding asset_rows
-asset_sound = refl
-
--- ---- how far down something can be wrong
-
-pub asset_height : IsFlat asset_kind
-unfolding asset_rows
-asset_height = (refl, refl)

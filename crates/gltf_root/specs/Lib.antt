@@ -12,3 +12,6 @@ pub mod ItemTrees
 pub mod Answer
 pub mod Written
 pub mod Rewritten
+pub mod AssetDerived
+pub mod RootDerived
+pub mod RootExtensionDerived

@@ -1,21 +1,19 @@
 -- The rows of a whole document (glTF 2.0, section 5.17).
-use Rattle.std.specs.Prelude.{◌≡◌, true, false, codes, refl, [], ◌∷◌}
+use Rattle.std.specs.Prelude.{false, codes, [], ◌∷◌}
 use Rattle.gltf_paths.specs.Lists.{ListName}
 use Rattle.gltf_schema.specs.Tree.{list, end, Tree, Trees, trees, tree_or_absent}
 use Rattle.gltf_schema.specs.Kind.{required, optional, unless, Kind, IndexInto, Text, Any, ListOf, Object, Rows, no_rows, ◌◂◌, requires_enabled}
-use Rattle.gltf_schema.specs.Sound.{is_sound}
-use Rattle.gltf_schema.specs.Height.{IsHigh}
-use Rattle.gltf_data.specs.Accessor.{accessor_kind, accessor_sound, accessor_height, accessor_members}
-use Rattle.gltf_data.specs.Buffer.{buffer_kind, buffer_sound, view_kind, view_sound, buffer_height, view_height, buffer_members, view_members}
-use Rattle.gltf_data.specs.Image.{image_kind, image_sound, image_height, image_members}
-use Rattle.gltf_textures.specs.Texture.{sampler_kind, sampler_sound, texture_kind, texture_sound, sampler_height, texture_height, sampler_members, texture_members}
-use Rattle.gltf_materials.specs.Material.{material_kind, material_sound, material_height, material_members}
-use Rattle.gltf_meshes.specs.Mesh.{mesh_kind, mesh_sound, mesh_height, mesh_members}
-use Rattle.gltf_root.specs.Asset.{asset_kind, asset_sound, asset_height, asset_members}
-use Rattle.gltf_nodes.specs.Camera.{camera_kind, camera_sound, camera_height, camera_members}
-use Rattle.gltf_nodes.specs.Scene.{node_kind, node_sound, scene_kind, scene_sound, skin_kind, skin_sound, node_height, scene_height, skin_height, node_members, scene_members, skin_members}
-use Rattle.gltf_animations.specs.Animation.{animation_kind, animation_sound, animation_height, animation_members}
-use Rattle.gltf_root.specs.RootExtension.{root_extensions_kind, root_extension_sound, root_extension_height, root_extensions}
+use Rattle.gltf_data.specs.Accessor.{accessor_kind, accessor_members}
+use Rattle.gltf_data.specs.Buffer.{buffer_kind, view_kind, buffer_members, view_members}
+use Rattle.gltf_data.specs.Image.{image_kind, image_members}
+use Rattle.gltf_textures.specs.Texture.{sampler_kind, texture_kind, sampler_members, texture_members}
+use Rattle.gltf_materials.specs.Material.{material_kind, material_members}
+use Rattle.gltf_meshes.specs.Mesh.{mesh_kind, mesh_members}
+use Rattle.gltf_root.specs.Asset.{asset_kind, asset_members}
+use Rattle.gltf_nodes.specs.Camera.{camera_kind, camera_members}
+use Rattle.gltf_nodes.specs.Scene.{node_kind, scene_kind, skin_kind, node_members, scene_members, skin_members}
+use Rattle.gltf_animations.specs.Animation.{animation_kind, animation_members}
+use Rattle.gltf_root.specs.RootExtension.{root_extensions_kind, root_extensions}
 use Rattle.gltf_schema.specs.Defaults.{defaults}
 use Rattle.gltf_schema.specs.Fields.{index_tree, text_tree, any_tree, list_tree, closed_object}
 use Rattle.gltf_root.specs.Named.{put_named}
@@ -78,29 +76,3 @@ root_tree v = closed_object (root_members v)
 -- an asset, and every other member left out
 abbrev pub root_of_asset : Trees → Trees
 root_of_asset asset = put_named (codes "asset") root_rows (closed_object asset) (defaults root_rows)
-
-pub root_sound : is_sound root_kind ≡ true
-unfolding root_rows
-root_sound = rw (
-  accessor_sound,
-  animation_sound,
-  asset_sound,
-  buffer_sound,
-  view_sound,
-  root_extension_sound,
-  camera_sound,
-  image_sound,
-  material_sound,
-  mesh_sound,
-  node_sound,
-  sampler_sound,
-  scene_sound,
-  skin_sound,
-  texture_sound,
-) refl
-
--- ---- how far down something can be wrong
-
-pub root_height : IsHigh 7 root_kind
-unfolding root_rows
-root_height = rw (accessor_height.0, accessor_height.1, animation_height.0, animation_height.1, asset_height.0, buffer_height.0, view_height.0, view_height.1, root_extension_height.0, root_extension_height.1, camera_height.0, camera_height.1, image_height.0, image_height.1, material_height.0, material_height.1, mesh_height.0, mesh_height.1, node_height.0, node_height.1, sampler_height.0, sampler_height.1, scene_height.0, scene_height.1, skin_height.0, skin_height.1, texture_height.0, texture_height.1) (refl, refl)

@@ -1,9 +1,7 @@
 -- The rows of the extensions of a whole document.
-use Rattle.std.specs.Prelude.{◌≡◌, true, false, codes, refl, [], ◌∷◌}
+use Rattle.std.specs.Prelude.{true, false, codes, [], ◌∷◌}
 use Rattle.gltf_schema.specs.Kind.{required, optional, Kind, ListOf, Object, Rows, no_rows, ◌◂◌, no_rule}
-use Rattle.gltf_schema.specs.Sound.{is_sound}
-use Rattle.gltf_schema.specs.Height.{IsFlat, IsHigh}
-use Rattle.gltf_nodes.specs.Light.{light_kind, light_sound, variant_kind, variant_sound, light_height, variant_height, light_members, variant_members}
+use Rattle.gltf_nodes.specs.Light.{light_kind, variant_kind, light_members, variant_members}
 use Rattle.serde_json.specs.View.{members_view}
 use Rattle.gltf_schema.specs.Tree.{Tree, Trees, trees, tree_or_absent, object}
 use Rattle.gltf_schema.specs.Fields.{list_tree, closed_object}
@@ -56,31 +54,3 @@ root_extension_members v = trees (
 
 abbrev pub root_extensions : Root → Tree
 root_extensions e = object (root_extension_members e) (members_view e.others.entries)
-
--- ---- each kind is sound
-
-pub lights_sound : is_sound lights_kind ≡ true
-unfolding lights_rows
-lights_sound = rw light_sound refl
-
-pub variants_sound : is_sound variants_kind ≡ true
-unfolding variants_rows
-variants_sound = rw variant_sound refl
-
-pub root_extension_sound : is_sound root_extensions_kind ≡ true
-unfolding root_extension_rows
-root_extension_sound = rw (lights_sound, variants_sound) refl
-
--- ---- how far down something can be wrong
-
-pub lights_height : IsHigh 3 lights_kind
-unfolding lights_rows
-lights_height = rw (light_height.0, light_height.1) (refl, refl)
-
-pub variants_height : IsFlat variants_kind
-unfolding variants_rows
-variants_height = rw variant_height.0 (refl, refl)
-
-pub root_extension_height : IsHigh 4 root_extensions_kind
-unfolding root_extension_rows
-root_extension_height = rw (lights_height.0, lights_height.1, variants_height.0) (refl, refl)

@@ -1,14 +1,14 @@
 //! Metadata about the document (glTF 2.0, section 5.9).
 
-ghost use Rattle.std.specs.Prelude.{◌≡◌, false, IfOk, codes, None, string_bytes};
-ghost use Rattle.std.proofs.Common.{lit≤};
-ghost use Rattle.serde_json.specs.Data.{no_members};
-ghost use Rattle.gltf_root.specs.Asset.{asset_rows, asset_sound, asset_height, asset_members, asset_of_version};
+ghost use Rattle.std.specs.Prelude.{◌≡◌, IfOk, codes, None, string_bytes};
+ghost use Rattle.gltf_root.specs.Asset.{asset_members, asset_of_version};
 
 use crate::extensions;
 use gltf_data::extras::Extras;
-use gltf_schema::{Blank, Object, ReadRows, WriteRows};
+use gltf_schema::Blank;
 use std::alloc::{AllocError, Global};
+
+mod derived;
 
 /// Metadata about the document.
 #[derive(Clone, Debug)]
@@ -25,7 +25,7 @@ pub struct Asset {
     pub extras: Extras,
 }
 
-// One call drops it, wherever it is held (docs/DECISIONS.md, "Large values").
+// Written by tools/derive.py: begin
 impl Drop for Asset {
     fn drop(self) {
         let Asset {
@@ -38,6 +38,7 @@ impl Drop for Asset {
         } = self;
     }
 }
+// Written by tools/derive.py: end
 
 impl Asset {
     /// Returns metadata with version `2.0` alone. Fails only if out of memory.
@@ -61,48 +62,6 @@ impl Asset {
             extensions: None,
             extras: None,
         }
-    }
-}
-
-impl Object for Asset {
-    ghost rows = { asset_rows };
-
-    ghost keeps = { false };
-
-    ghost members = { asset_members };
-
-    ghost unknown = { λ _. no_members };
-
-    ghost sound = { asset_sound };
-
-    ghost height = { 0 };
-
-    ghost low = { (asset_height.1, lit≤ tt) };
-
-    fn read_members<R: ReadRows>(from: &mut R) -> Asset {
-        let copyright = from.optional("copyright");
-        let generator = from.optional("generator");
-        let min_version = from.optional("minVersion");
-        let version = from.required("version");
-        let extensions = from.optional("extensions");
-        let extras = from.optional("extras");
-        Asset {
-            copyright,
-            generator,
-            min_version,
-            version,
-            extensions,
-            extras,
-        }
-    }
-
-    fn write_members<W: WriteRows>(&self, to: &mut W) {
-        to.optional("copyright", &self.copyright);
-        to.optional("extensions", &self.extensions);
-        to.optional("extras", &self.extras);
-        to.optional("generator", &self.generator);
-        to.optional("minVersion", &self.min_version);
-        to.always("version", &self.version);
     }
 }
 

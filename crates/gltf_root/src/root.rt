@@ -1,11 +1,8 @@
 //! Whole documents, and the lists in them.
 
-ghost use Rattle.std.specs.Prelude.{◌≡◌, false, IfOk, codes};
-ghost use Rattle.std.proofs.Common.{lit≤};
-ghost use Rattle.serde_json.specs.Data.{no_members};
-ghost use Rattle.gltf_schema.specs.Kind.{requires_enabled};
+ghost use Rattle.std.specs.Prelude.{◌≡◌, IfOk, codes};
 ghost use Rattle.gltf_root.specs.Asset.{asset_of_version};
-ghost use Rattle.gltf_root.specs.Root.{root_rows, root_sound, root_height, root_members, root_of_asset};
+ghost use Rattle.gltf_root.specs.Root.{root_rows, root_members, root_of_asset};
 
 use crate::asset::Asset;
 use crate::extensions;
@@ -20,13 +17,12 @@ use gltf_meshes::mesh::Mesh;
 use gltf_nodes::camera::Camera;
 use gltf_nodes::scene::{Node, Scene};
 use gltf_nodes::skin::Skin;
-use gltf_schema::{Object, ReadRows, WriteRows};
 use gltf_textures::texture::{self, Texture};
 use std::alloc::{AllocError, Global};
 
+mod derived;
 mod extended;
 mod get;
-mod items;
 mod lists;
 mod mark;
 mod parse;
@@ -69,7 +65,7 @@ pub struct Root {
     pub extras: Extras,
 }
 
-// One call drops it, wherever it is held (docs/DECISIONS.md, "Large values").
+// Written by tools/derive.py: begin
 impl Drop for Root {
     fn drop(self) {
         let Root {
@@ -95,6 +91,7 @@ impl Drop for Root {
         } = self;
     }
 }
+// Written by tools/derive.py: end
 
 impl Root {
     /// Returns an empty document of version `2.0`. Fails only if out of memory.
@@ -125,88 +122,5 @@ impl Root {
             extras: None,
             extensions: None,
         })
-    }
-}
-
-impl Object for Root {
-    ghost rule = { requires_enabled };
-
-    ghost rows = { root_rows };
-
-    ghost keeps = { false };
-
-    ghost members = { root_members };
-
-    ghost unknown = { λ _. no_members };
-
-    ghost sound = { root_sound };
-
-    ghost height = { 7 };
-
-    ghost low = { (root_height.1, lit≤ tt) };
-
-    fn read_members<R: ReadRows>(from: &mut R) -> Root {
-        let accessors = from.list("accessors");
-        let animations = from.list("animations");
-        let asset = from.required("asset");
-        let buffers = from.list("buffers");
-        let buffer_views = from.list("bufferViews");
-        let scene = from.optional("scene");
-        let extensions = from.optional("extensions");
-        let extras = from.optional("extras");
-        let extensions_used = from.list("extensionsUsed");
-        let extensions_required = from.list("extensionsRequired");
-        let cameras = from.list("cameras");
-        let images = from.list("images");
-        let materials = from.list("materials");
-        let meshes = from.list("meshes");
-        let nodes = from.list("nodes");
-        let samplers = from.list("samplers");
-        let scenes = from.list("scenes");
-        let skins = from.list("skins");
-        let textures = from.list("textures");
-        Root {
-            accessors,
-            animations,
-            asset,
-            buffers,
-            buffer_views,
-            scene,
-            extensions,
-            extras,
-            extensions_used,
-            extensions_required,
-            cameras,
-            images,
-            materials,
-            meshes,
-            nodes,
-            samplers,
-            scenes,
-            skins,
-            textures,
-        }
-    }
-
-    fn write_members<W: WriteRows>(&self, to: &mut W) {
-        to.list("accessors", &self.accessors);
-        to.list("animations", &self.animations);
-        to.always("asset", &self.asset);
-        to.list("bufferViews", &self.buffer_views);
-        to.list("buffers", &self.buffers);
-        to.list("cameras", &self.cameras);
-        to.optional("extensions", &self.extensions);
-        to.list("extensionsRequired", &self.extensions_required);
-        to.list("extensionsUsed", &self.extensions_used);
-        to.optional("extras", &self.extras);
-        to.list("images", &self.images);
-        to.list("materials", &self.materials);
-        to.list("meshes", &self.meshes);
-        to.list("nodes", &self.nodes);
-        to.list("samplers", &self.samplers);
-        to.optional("scene", &self.scene);
-        to.list("scenes", &self.scenes);
-        to.list("skins", &self.skins);
-        to.list("textures", &self.textures);
     }
 }

@@ -1,1 +1,2 @@
 pub mod MaterialExtension
+pub mod MaterialExtensionDerived

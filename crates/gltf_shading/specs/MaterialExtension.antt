@@ -1,20 +1,19 @@
 -- The rows of the extensions of materials whose names begin with KHR, each by its own document.
-use Rattle.std.specs.Prelude.{◌≡◌, true, false, codes, refl, [], ◌∷◌}
+use Rattle.std.specs.Prelude.{true, false, codes, refl, [], ◌∷◌}
 use Rattle.gltf_schema.specs.Kind.{optional, sometimes, Kind, Number, Numbers, Any, Object, Rows, no_rows, ◌◂◌, no_rule}
-use Rattle.gltf_textures.specs.Texture.{info_kind, info_sound, info_height, info_members}
-use Rattle.gltf_schema.specs.Sound.{is_sound}
-use Rattle.gltf_schema.specs.Height.{IsFlat, IsHigh}
+use Rattle.gltf_textures.specs.Texture.{info_kind, info_members}
+use Rattle.gltf_schema.specs.Height.{IsFlat}
 use Rattle.serde_json.specs.View.{members_view}
 use Rattle.gltf_schema.specs.Tree.{Tree, Trees, trees, tree_or_absent, object}
 use Rattle.gltf_schema.specs.Fields.{real_tree, reals_tree, any_tree, closed_object}
 use Rattle.gltf_shading.specs.declared.extensions.material.Material.{Material as MaterialExtensions}
-use Rattle.gltf_shading.specs.declared.extensions.material.PbrSpecularGlossiness.{PbrSpecularGlossiness}
-use Rattle.gltf_shading.specs.declared.extensions.material.Unlit.{Unlit}
-use Rattle.gltf_shading.specs.declared.extensions.material.Transmission.{Transmission}
-use Rattle.gltf_shading.specs.declared.extensions.material.Volume.{Volume}
-use Rattle.gltf_shading.specs.declared.extensions.material.Specular.{Specular}
-use Rattle.gltf_shading.specs.declared.extensions.material.Ior.{Ior}
-use Rattle.gltf_shading.specs.declared.extensions.material.EmissiveStrength.{EmissiveStrength}
+use Rattle.gltf_shading.specs.declared.extensions.material.pbr_specular_glossiness.PbrSpecularGlossiness.{PbrSpecularGlossiness}
+use Rattle.gltf_shading.specs.declared.extensions.material.unlit.Unlit.{Unlit}
+use Rattle.gltf_shading.specs.declared.extensions.material.transmission.Transmission.{Transmission}
+use Rattle.gltf_shading.specs.declared.extensions.material.volume.Volume.{Volume}
+use Rattle.gltf_shading.specs.declared.extensions.material.specular.Specular.{Specular}
+use Rattle.gltf_shading.specs.declared.extensions.material.ior.Ior.{Ior}
+use Rattle.gltf_shading.specs.declared.extensions.material.emissive_strength.EmissiveStrength.{EmissiveStrength}
 
 unfoldable pub pbr_specular_glossiness_rows : Rows
 pbr_specular_glossiness_rows =
@@ -163,66 +162,7 @@ material_extension_members v = trees (
     ∷ tree_or_absent (λ s. closed_object (emissive_strength_members s)) v.emissive_strength
     ∷ [])
 
--- ---- each kind is sound
-
-pub pbr_specular_glossiness_sound : is_sound pbr_specular_glossiness_kind ≡ true
-unfolding pbr_specular_glossiness_rows
-pbr_specular_glossiness_sound = rw info_sound refl
-
-pub transmission_sound : is_sound transmission_kind ≡ true
-unfolding transmission_rows
-transmission_sound = rw info_sound refl
-
-pub volume_sound : is_sound volume_kind ≡ true
-unfolding volume_rows
-volume_sound = rw info_sound refl
-
-pub specular_sound : is_sound specular_kind ≡ true
-unfolding specular_rows
-specular_sound = rw info_sound refl
-
-pub ior_sound : is_sound ior_kind ≡ true
-unfolding ior_rows
-ior_sound = refl
-
-pub emissive_strength_sound : is_sound emissive_strength_kind ≡ true
-unfolding emissive_strength_rows
-emissive_strength_sound = refl
-
-pub material_extension_sound : is_sound material_extensions_kind ≡ true
-unfolding material_extension_rows
-material_extension_sound =
-    rw (pbr_specular_glossiness_sound, transmission_sound, volume_sound, specular_sound, ior_sound, emissive_strength_sound) refl
-
 -- ---- how far down something can be wrong
-
-pub pbr_specular_glossiness_height : IsHigh 2 pbr_specular_glossiness_kind
-unfolding pbr_specular_glossiness_rows
-pbr_specular_glossiness_height = rw (info_height.0, info_height.1) (refl, refl)
 
 pub unlit_height : IsFlat unlit_kind
 unlit_height = (refl, refl)
-
-pub transmission_height : IsHigh 2 transmission_kind
-unfolding transmission_rows
-transmission_height = rw (info_height.0, info_height.1) (refl, refl)
-
-pub volume_height : IsHigh 2 volume_kind
-unfolding volume_rows
-volume_height = rw (info_height.0, info_height.1) (refl, refl)
-
-pub specular_height : IsHigh 2 specular_kind
-unfolding specular_rows
-specular_height = rw (info_height.0, info_height.1) (refl, refl)
-
-pub ior_height : IsFlat ior_kind
-unfolding ior_rows
-ior_height = (refl, refl)
-
-pub emissive_strength_height : IsFlat emissive_strength_kind
-unfolding emissive_strength_rows
-emissive_strength_height = (refl, refl)
-
-pub material_extension_height : IsHigh 3 material_extensions_kind
-unfolding material_extension_rows
-material_extension_height = rw (pbr_specular_glossiness_height.0, pbr_specular_glossiness_height.1, unlit_height.0, transmission_height.0, transmission_height.1, volume_height.0, volume_height.1, specular_height.0, specular_height.1, ior_height.0, emissive_strength_height.0) (refl, refl)

@@ -1,1 +1,2 @@
 pub mod Texture
+pub mod TextureDerived

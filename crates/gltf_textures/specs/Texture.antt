@@ -1,6 +1,6 @@
 -- The rows of textures, their samplers and the references to them (glTF 2.0, sections 5.26, 5.29
 -- and 5.30), and of the extension KHR_texture_transform.
-use Rattle.std.specs.Prelude.{◌≡◌, ℕ, true, false, codes, refl, [], ◌∷◌}
+use Rattle.std.specs.Prelude.{ℕ, true, false, codes, [], ◌∷◌}
 use Rattle.gltf_paths.specs.Lists.{samplers, textures}
 use Rattle.gltf_choices.specs.TextureChoices.{mag_filter_spelling, mag_filters, min_filter_spelling, min_filters, wrapping_mode_spelling, wrapping_modes}
 use Rattle.gltf_checked.specs.declared.choice.Form.TheVariants as form
@@ -9,8 +9,6 @@ use Rattle.gltf_schema.specs.Tree.{Tree, whole, chosen, index, Trees, trees, tre
 use Rattle.gltf_schema.specs.Kind.{required, optional, always, unless, sometimes, or_null, Kind, IndexInto, SourceImage, U32, Number, Numbers, Text, Any, Object, Rows, no_rows, ◌◂◌, no_rule}
 use Rattle.gltf_schema.specs.Leaves.{choice_of, checked_tree}
 use Rattle.gltf_schema.specs.Extensions.{kept_extensions, extensions_and_extras}
-use Rattle.gltf_schema.specs.Sound.{is_sound}
-use Rattle.gltf_schema.specs.Height.{IsFlat, IsHigh}
 use Rattle.serde_json.specs.View.{members_view}
 use Rattle.gltf_schema.specs.Fields.{index_tree, text_tree, real_tree, reals_tree, any_tree, closed_object, kept_tree}
 use Rattle.gltf_textures.specs.declared.texture.Sampler.{Sampler}
@@ -138,47 +136,3 @@ info_members v = trees (
     ∷ tree_or_absent info_extensions v.extensions
     ∷ tree_or_absent any_tree v.extras
     ∷ [])
-
--- ---- each kind is sound
-
-pub sampler_sound : is_sound sampler_kind ≡ true
-unfolding sampler_rows
-sampler_sound = refl
-
-pub texture_sound : is_sound texture_kind ≡ true
-unfolding texture_rows
-texture_sound = refl
-
-pub texture_transform_sound : is_sound texture_transform_kind ≡ true
-unfolding texture_transform_rows
-texture_transform_sound = refl
-
-pub info_extension_sound : is_sound info_extensions_kind ≡ true
-unfolding info_extension_rows
-info_extension_sound = rw texture_transform_sound refl
-
-pub info_sound : is_sound info_kind ≡ true
-unfolding info_rows
-info_sound = rw info_extension_sound refl
-
--- ---- how far down something can be wrong
-
-pub sampler_height : IsHigh 1 sampler_kind
-unfolding sampler_rows
-sampler_height = (refl, refl)
-
-pub texture_height : IsHigh 1 texture_kind
-unfolding texture_rows
-texture_height = (refl, refl)
-
-pub texture_transform_height : IsFlat texture_transform_kind
-unfolding texture_transform_rows
-texture_transform_height = (refl, refl)
-
-pub info_extension_height : IsFlat info_extensions_kind
-unfolding info_extension_rows
-info_extension_height = rw texture_transform_height.0 (refl, refl)
-
-pub info_height : IsHigh 1 info_kind
-unfolding info_rows
-info_height = rw info_extension_height.0 (refl, refl)

@@ -1,14 +1,12 @@
 //! Textures, their samplers, and the references of materials to them (glTF 2.0, sections 5.26, 5.29
 //! and 5.30).
 
-ghost use Rattle.std.specs.Prelude.{◌≡◌, [], ◌∷◌, false, codes};
-ghost use Rattle.std.proofs.Common.{lit≤};
-ghost use Rattle.serde_json.specs.Data.{no_members};
+ghost use Rattle.std.specs.Prelude.{◌≡◌, [], ◌∷◌, codes};
 ghost use Rattle.gltf_paths.specs.Lists.{samplers, textures};
 ghost use Rattle.gltf_schema.specs.Defaults.{defaults};
 ghost use Rattle.gltf_schema.specs.Given.{made};
 ghost use Rattle.gltf_schema.specs.Fields.{index_tree};
-ghost use Rattle.gltf_textures.specs.Texture.{sampler_rows, sampler_sound, sampler_height, texture_rows, texture_sound, texture_height, info_rows, info_sound, info_height, sampler_members, texture_members, info_members};
+ghost use Rattle.gltf_textures.specs.Texture.{sampler_rows, texture_rows, info_rows, sampler_members, texture_members, info_members};
 
 use crate::extensions;
 use gltf_base::texture::{MagFilter, MinFilter, WrappingMode};
@@ -16,7 +14,8 @@ use gltf_base::validation::Checked;
 use gltf_base::{Index, Listed};
 use gltf_data::extras::Extras;
 use gltf_data::image::Image;
-use gltf_schema::{Object, ReadRows, WriteRows};
+
+mod derived;
 
 /// Filters and wrapping modes of a texture (glTF 2.0, section 5.26).
 // What takes longest to drop comes last (docs/DECISIONS.md, "Order of fields").
@@ -35,7 +34,7 @@ pub struct Sampler {
     pub extras: Extras,
 }
 
-// One call drops it, wherever it is held (docs/DECISIONS.md, "Large values").
+// Written by tools/derive.py: begin
 impl Drop for Sampler {
     fn drop(self) {
         let Sampler {
@@ -49,6 +48,7 @@ impl Drop for Sampler {
         } = self;
     }
 }
+// Written by tools/derive.py: end
 
 impl Sampler {
     /// Returns a sampler with every member at its default: it repeats the texture.
@@ -72,51 +72,6 @@ impl Listed for Sampler {
     ghost list = { samplers };
 }
 
-impl Object for Sampler {
-    ghost rows = { sampler_rows };
-
-    ghost keeps = { false };
-
-    ghost members = { sampler_members };
-
-    ghost unknown = { λ _. no_members };
-
-    ghost sound = { sampler_sound };
-
-    ghost height = { 1 };
-
-    ghost low = { (sampler_height.1, lit≤ tt) };
-
-    fn read_members<R: ReadRows>(from: &mut R) -> Sampler {
-        let mag_filter = from.optional("magFilter");
-        let min_filter = from.optional("minFilter");
-        let name = from.optional("name");
-        let wrap_s = from.or_default("wrapS", Checked::Valid(WrappingMode::Repeat));
-        let wrap_t = from.or_default("wrapT", Checked::Valid(WrappingMode::Repeat));
-        let extensions = from.optional("extensions");
-        let extras = from.optional("extras");
-        Sampler {
-            mag_filter,
-            min_filter,
-            name,
-            wrap_s,
-            wrap_t,
-            extensions,
-            extras,
-        }
-    }
-
-    fn write_members<W: WriteRows>(&self, to: &mut W) {
-        to.optional("extensions", &self.extensions);
-        to.optional("extras", &self.extras);
-        to.optional("magFilter", &self.mag_filter);
-        to.optional("minFilter", &self.min_filter);
-        to.optional("name", &self.name);
-        to.always("wrapS", &self.wrap_s);
-        to.always("wrapT", &self.wrap_t);
-    }
-}
-
 /// The number at `source` that means no image.
 pub const NO_IMAGE: u32 = u32::MAX;
 
@@ -134,7 +89,7 @@ pub struct Texture {
     pub extras: Extras,
 }
 
-// One call drops it, wherever it is held (docs/DECISIONS.md, "Large values").
+// Written by tools/derive.py: begin
 impl Drop for Texture {
     fn drop(self) {
         let Texture {
@@ -146,6 +101,7 @@ impl Drop for Texture {
         } = self;
     }
 }
+// Written by tools/derive.py: end
 
 impl Texture {
     /// Returns a texture without a sampler; `Index::new(NO_IMAGE)` stands for no image.
@@ -169,45 +125,6 @@ impl Listed for Texture {
     ghost list = { textures };
 }
 
-impl Object for Texture {
-    ghost rows = { texture_rows };
-
-    ghost keeps = { false };
-
-    ghost members = { texture_members };
-
-    ghost unknown = { λ _. no_members };
-
-    ghost sound = { texture_sound };
-
-    ghost height = { 1 };
-
-    ghost low = { (texture_height.1, lit≤ tt) };
-
-    fn read_members<R: ReadRows>(from: &mut R) -> Texture {
-        let name = from.optional("name");
-        let sampler = from.optional("sampler");
-        let extensions = from.optional("extensions");
-        let source = from.or_default("source", Index::new(NO_IMAGE));
-        let extras = from.optional("extras");
-        Texture {
-            name,
-            sampler,
-            extensions,
-            source,
-            extras,
-        }
-    }
-
-    fn write_members<W: WriteRows>(&self, to: &mut W) {
-        to.optional("extensions", &self.extensions);
-        to.optional("extras", &self.extras);
-        to.optional("name", &self.name);
-        to.optional("sampler", &self.sampler);
-        to.unless("source", &self.source, Index::new(NO_IMAGE));
-    }
-}
-
 /// A reference to a texture.
 #[derive(Clone, Debug)]
 pub struct Info {
@@ -219,7 +136,7 @@ pub struct Info {
     pub extras: Extras,
 }
 
-// One call drops it, wherever it is held (docs/DECISIONS.md, "Large values").
+// Written by tools/derive.py: begin
 impl Drop for Info {
     fn drop(self) {
         let Info {
@@ -230,6 +147,7 @@ impl Drop for Info {
         } = self;
     }
 }
+// Written by tools/derive.py: end
 
 impl Info {
     /// Returns a reference to a texture, with the first set of texture coordinates.
@@ -245,41 +163,5 @@ impl Info {
             extensions: None,
             extras: None,
         }
-    }
-}
-
-impl Object for Info {
-    ghost rows = { info_rows };
-
-    ghost keeps = { false };
-
-    ghost members = { info_members };
-
-    ghost unknown = { λ _. no_members };
-
-    ghost sound = { info_sound };
-
-    ghost height = { 1 };
-
-    ghost low = { (info_height.1, lit≤ tt) };
-
-    fn read_members<R: ReadRows>(from: &mut R) -> Info {
-        let index = from.required("index");
-        let tex_coord = from.or_default("texCoord", 0);
-        let extensions = from.optional("extensions");
-        let extras = from.optional("extras");
-        Info {
-            index,
-            tex_coord,
-            extensions,
-            extras,
-        }
-    }
-
-    fn write_members<W: WriteRows>(&self, to: &mut W) {
-        to.optional("extensions", &self.extensions);
-        to.optional("extras", &self.extras);
-        to.always("index", &self.index);
-        to.always("texCoord", &self.tex_coord);
     }
 }

@@ -15,6 +15,7 @@ use Rattle.gltf_faults.specs.Reports.{animation_below}
 use Rattle.gltf_faults.specs.Rules.{accessor_rule, camera_rule, light_rule, positions_faults, is_positions, primitive_attributes, root_extensions_required, extension_faults}
 use Rattle.gltf_schema.specs.Silence.{is_silent}
 use Rattle.gltf_faults.specs.Standing.{same_step}
+use Rattle.gltf_faults.specs.declared.primitive.PositionFaults.{PositionFaults}
 use Rattle.gltf_visits.specs.Outline.{Outline, place, Outlines, nothing, below, errors, leaf, also}
 
 -- ---- what is wrong at one place
@@ -58,6 +59,9 @@ item_outlines f i (with_tree t ts) = below (item i) (f t) (item_outlines f (suc 
 -- the faults at the positions and at the bounds of their accessor
 abbrev pub bounds_outline : Option Error → Option Error → Option Error → Outline
 bounds_outline positions min max = place (below (field (codes "min")) (leaf min) (below (field (codes "max")) (leaf max) nothing)) (errors positions)
+
+abbrev pub faults_outline : PositionFaults → Outline
+faults_outline f = bounds_outline f.positions f.min f.max
 
 abbrev pub positions_outline : From → Outline
 positions_outline f =

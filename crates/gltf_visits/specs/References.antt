@@ -13,8 +13,8 @@ use Rattle.gltf_visits.specs.OutlineOf.{outline}
 use Rattle.gltf_visits.specs.declared.references.ReferenceState.{ReferenceState}
 use Rattle.gltf_visits.specs.declared.references.ReferenceState.TheVariants as reference_state
 use Rattle.gltf_visits.specs.declared.material.MaterialFaults.{MaterialFaults}
-use Rattle.gltf_visits.specs.declared.shading.MemberName.{MemberName}
-use Rattle.gltf_visits.specs.declared.shading.MemberName.TheVariants as member_name
+use Rattle.gltf_visits.specs.MemberNames.{member_text}
+use Rattle.gltf_visits.specs.declared.member_name.MemberName.{MemberName}
 
 -- a reference to a texture, by what was found there
 abbrev pub reference_outline : ReferenceState → Outline
@@ -25,17 +25,6 @@ reference_outline reference_state.OutOfBounds = place (below (field (codes "inde
 -- a reference to a texture, by its index
 abbrev pub index_outline : Context → Tree → Outline
 index_outline context t = place (below (field (codes "index")) (outline (IndexInto textures) t context absent) nothing) []
-
--- the names of members that refer to textures
-abbrev pub member_text : MemberName → List ℕ
-member_text member_name.BaseColorTexture = codes "baseColorTexture"
-member_text member_name.MetallicRoughnessTexture = codes "metallicRoughnessTexture"
-member_text member_name.DiffuseTexture = codes "diffuseTexture"
-member_text member_name.SpecularGlossinessTexture = codes "specularGlossinessTexture"
-member_text member_name.TransmissionTexture = codes "transmissionTexture"
-member_text member_name.ThicknessTexture = codes "thicknessTexture"
-member_text member_name.SpecularTexture = codes "specularTexture"
-member_text member_name.SpecularColorTexture = codes "specularColorTexture"
 
 -- objects in which one reference or two can be wrong
 abbrev pub one_texture : ReferenceState → MemberName → Outline

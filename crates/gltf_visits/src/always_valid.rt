@@ -1,6 +1,10 @@
 //! Values in which nothing can be wrong.
 
 ghost use Rattle.std.specs.Prelude.{◌≡◌, None, refl};
+ghost use Rattle.gltf_data.specs.Image.{mime_type_tree};
+ghost use Rattle.gltf_materials.specs.Material.{alpha_cutoff_tree};
+ghost use Rattle.gltf_nodes.specs.Scene.{unit_quaternion_tree};
+ghost use Rattle.gltf_shading.specs.MaterialExtension.{unlit_kind, unlit_tree};
 ghost use Rattle.gltf_schema.specs.Tree.{Tree, absent, whole, truth};
 ghost use Rattle.gltf_schema.specs.Kind.{Kind, U32, U64, Number, Numbers, Text, Truth, Any};
 ghost use Rattle.gltf_schema.specs.Fields.{size_tree, real_tree, reals_tree, text_tree, any_tree, kept_tree, dropped_tree};
@@ -14,8 +18,12 @@ use crate::visitable::Visitable;
 use gltf_base::Real;
 use gltf_base::validation::USize64;
 use gltf_data::extras::Void;
+use gltf_data::image::MimeType;
 use gltf_faults::Context;
+use gltf_materials::material::AlphaCutoff;
+use gltf_nodes::scene::UnitQuaternion;
 use gltf_schema::{DroppedExtensions, KeptExtensions};
+use gltf_shading::extensions::material::Unlit;
 use serde_json::Value;
 
 /// A type in which nothing can be wrong.
@@ -123,6 +131,39 @@ impl AlwaysValid for DroppedExtensions {
     ghost kind = { dropped_extensions };
 
     ghost tree = { dropped_tree };
+
+    ghost silent = { λ _ _. refl };
+}
+
+impl AlwaysValid for MimeType {
+    ghost kind = { Text };
+
+    ghost tree = { mime_type_tree };
+
+    ghost silent = { λ _ _. refl };
+}
+
+impl AlwaysValid for AlphaCutoff {
+    ghost kind = { Number };
+
+    ghost tree = { alpha_cutoff_tree };
+
+    ghost silent = { λ _ _. refl };
+}
+
+impl AlwaysValid for UnitQuaternion {
+    ghost kind = { Numbers 4 };
+
+    ghost tree = { unit_quaternion_tree };
+
+    ghost silent = { λ _ _. refl };
+}
+
+/// It has no members.
+impl AlwaysValid for Unlit {
+    ghost kind = { unlit_kind };
+
+    ghost tree = { unlit_tree };
 
     ghost silent = { λ _ _. refl };
 }

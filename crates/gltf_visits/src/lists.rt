@@ -7,10 +7,9 @@ ghost use Rattle.gltf_schema.specs.Fields.{closed_object, list_tree, text_tree};
 ghost use Rattle.gltf_schema.specs.Kind.{ListOf};
 ghost use Rattle.gltf_schema.specs.Tree.{absent, items_in};
 ghost use Rattle.gltf_faults.specs.Context.{context_of};
-ghost use Rattle.gltf_visits.specs.ValueRefs.{faults_outline};
 ghost use Rattle.gltf_visits.specs.Moves.{IsGiven, IsMore};
 ghost use Rattle.gltf_visits.specs.Outline.{move_at, first_move, leaf, place, quiet, rest_after};
-ghost use Rattle.gltf_visits.specs.OutlineOf.{at_positions, entry_outline, item_outlines, name_outline, outline};
+ghost use Rattle.gltf_visits.specs.OutlineOf.{at_positions, entry_outline, faults_outline, item_outlines, name_outline, outline};
 
 use crate::event::{Event, EventBuilder};
 use crate::quiet::Quiet;

@@ -1,8 +1,7 @@
 //! Materials.
 
-ghost use Rattle.gltf_materials.specs.Material.{material_kind, material_extensions, pbr_metallic_roughness_kind, normal_texture_kind, occlusion_texture_kind, material_members, pbr_metallic_roughness_members, normal_texture_members, occlusion_texture_members, alpha_cutoff_tree};
-ghost use Rattle.gltf_schema.specs.Fields.{closed_object, list_tree};
-ghost use Rattle.gltf_schema.specs.Kind.{ListOf, Number};
+ghost use Rattle.gltf_materials.specs.Material.{material_kind, material_extensions, material_members, pbr_metallic_roughness_members};
+ghost use Rattle.gltf_schema.specs.Fields.{closed_object};
 ghost use Rattle.gltf_schema.specs.Leaves.{checked_tree, choice_of};
 ghost use Rattle.gltf_schema.specs.Tree.{absent, tree_or_absent};
 ghost use Rattle.gltf_faults.specs.Context.{Context as MathematicalContext, context_of};
@@ -11,28 +10,21 @@ ghost use Rattle.gltf_visits.specs.OutlineOf.{outline};
 ghost use Rattle.gltf_visits.specs.References.{extensions_outline, invalid_if, material_outline, parameters_outline};
 ghost use Rattle.gltf_visits.specs.ValueRefs.{outline_of};
 ghost use Rattle.gltf_visits.specs.declared.value_ref.ValueRef.TheVariants.{Material as material_ref};
-ghost use Rattle.std.specs.Prelude.{◌≡◌, ◌+◌, ◌<◌, ◌^◌, refl};
+ghost use Rattle.std.specs.Prelude.{◌≡◌, ◌+◌, ◌<◌, ◌^◌};
 
-use crate::always_valid::AlwaysValid;
 use crate::event::EventBuilder;
 use crate::events::Events;
-use crate::quiet::{Quiet, are_quiet};
-use crate::references::{
-    ReferenceState, TextureReference, index_state, is_reference_quiet, member_state,
-};
-use crate::shading::MemberName;
+use crate::member_name::MemberName;
+use crate::quiet::Quiet;
+use crate::references::{ReferenceState, member_state};
 use crate::value_ref::ValueRef;
 use crate::visitable::Visitable;
 use gltf_base::Step;
 use gltf_base::validation::{Checked, Error};
 use gltf_checked::choice::Choice;
 use gltf_faults::{Context, HasContext, choice_fault};
-use gltf_materials::material::{
-    AlphaCutoff, EmissiveFactor, Material, NormalTexture, OcclusionTexture, PbrBaseColorFactor,
-    PbrMetallicRoughness,
-};
+use gltf_materials::material::Material;
 use gltf_shading::extensions::material::Material as MaterialExtensions;
-use gltf_shading::material::StrengthFactor;
 
 /// What is wrong in the members of a material, but for its extensions.
 // Six bytes: docs/PERFORMANCE.md says why a `ValueRef` is small.
@@ -136,7 +128,7 @@ fn alpha_mode_fault(faults: MaterialFaults) -> Option<Error>
 }
 
 /// The parameters of the metallic-roughness model, by what was found at their references.
-fn parameters_ref<'a>(
+pub(crate) fn parameters_ref<'a>(
     base_color: ReferenceState,
     metallic_roughness: ReferenceState,
 ) -> ValueRef<'a>
@@ -208,108 +200,4 @@ impl Quiet for Material {
             context,
         )
     }
-}
-
-impl Visitable for Vec<Material> {
-    ghost kind = { ListOf material_kind };
-
-    ghost tree = { λ v. list_tree (λ x. closed_object (material_members x)) v.items };
-
-    fn value_ref<'a>(&'a self, _context: &Context<'_>) -> ValueRef<'a> {
-        ValueRef::Materials(self)
-    }
-}
-
-impl Quiet for Vec<Material> {
-    fn is_quiet<C: HasContext>(&self, context: &C) -> bool {
-        are_quiet(self, context)
-    }
-}
-
-impl Visitable for PbrMetallicRoughness {
-    ghost kind = { pbr_metallic_roughness_kind };
-
-    ghost tree = { λ v. closed_object (pbr_metallic_roughness_members v) };
-
-    #[tactic(auto, unfolding(gltf_materials::specs::Material::pbr_metallic_roughness_rows, gltf_textures::specs::Texture::info_rows, gltf_materials::specs::Material::pbr_metallic_roughness_members))]
-    fn value_ref<'a>(&'a self, context: &Context<'_>) -> ValueRef<'a> {
-        parameters_ref(
-            member_state(&self.base_color_texture, context),
-            member_state(&self.metallic_roughness_texture, context),
-        )
-    }
-}
-
-impl Quiet for PbrMetallicRoughness {
-    #[tactic(auto, unfolding(gltf_materials::specs::Material::pbr_metallic_roughness_rows, gltf_textures::specs::Texture::info_rows, gltf_materials::specs::Material::pbr_metallic_roughness_members))]
-    fn is_quiet<C: HasContext>(&self, context: &C) -> bool {
-        self.base_color_texture.is_quiet(context)
-            && self.metallic_roughness_texture.is_quiet(context)
-    }
-}
-
-impl Visitable for NormalTexture {
-    ghost kind = { normal_texture_kind };
-
-    ghost tree = { λ v. closed_object (normal_texture_members v) };
-
-    fn value_ref<'a>(&'a self, context: &Context<'_>) -> ValueRef<'a> {
-        ValueRef::TextureReference(self.state(context))
-    }
-}
-
-impl TextureReference for NormalTexture {
-    #[tactic(auto, unfolding(gltf_materials::specs::Material::normal_texture_rows, gltf_materials::specs::Material::normal_texture_members))]
-    fn state(&self, context: &Context<'_>) -> ReferenceState {
-        index_state(&self.index, context)
-    }
-}
-
-impl Quiet for NormalTexture {
-    fn is_quiet<C: HasContext>(&self, context: &C) -> bool {
-        is_reference_quiet(self, context)
-    }
-}
-
-impl Visitable for OcclusionTexture {
-    ghost kind = { occlusion_texture_kind };
-
-    ghost tree = { λ v. closed_object (occlusion_texture_members v) };
-
-    fn value_ref<'a>(&'a self, context: &Context<'_>) -> ValueRef<'a> {
-        ValueRef::TextureReference(self.state(context))
-    }
-}
-
-impl TextureReference for OcclusionTexture {
-    #[tactic(auto, unfolding(gltf_materials::specs::Material::occlusion_texture_rows, gltf_materials::specs::Material::occlusion_texture_members))]
-    fn state(&self, context: &Context<'_>) -> ReferenceState {
-        index_state(&self.index, context)
-    }
-}
-
-impl Quiet for OcclusionTexture {
-    fn is_quiet<C: HasContext>(&self, context: &C) -> bool {
-        is_reference_quiet(self, context)
-    }
-}
-
-impl AlwaysValid for AlphaCutoff {
-    ghost kind = { Number };
-
-    ghost tree = { alpha_cutoff_tree };
-
-    ghost silent = { λ _ _. refl };
-}
-
-impl AlwaysValid for EmissiveFactor {
-    ghost silent = { λ _ _. refl };
-}
-
-impl AlwaysValid for PbrBaseColorFactor {
-    ghost silent = { λ _ _. refl };
-}
-
-impl AlwaysValid for StrengthFactor {
-    ghost silent = { λ _ _. refl };
 }

@@ -11,7 +11,7 @@ ghost use Rattle.gltf_visits.specs.OutlineOf.{outline};
 ghost use Rattle.gltf_visits.specs.References.{index_outline, one_texture, reference_outline, two_textures};
 
 use crate::event::{Event, EventBuilder};
-use crate::shading::MemberName;
+use crate::member_name::MemberName;
 use crate::visitable::Visitable;
 use gltf_base::Index;
 use gltf_base::validation::Error;

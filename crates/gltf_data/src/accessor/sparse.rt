@@ -1,14 +1,12 @@
 //! Sparse storage: elements that replace those of an accessor's buffer view (glTF 2.0, sections 5.2
 //! to 5.4).
 
-ghost use Rattle.std.specs.Prelude.{◌≡◌, [], ◌∷◌, false, codes};
-ghost use Rattle.std.proofs.Common.{lit≤};
-ghost use Rattle.serde_json.specs.Data.{no_members};
+ghost use Rattle.std.specs.Prelude.{◌≡◌, [], ◌∷◌, codes};
 ghost use Rattle.gltf_choices.specs.Choices.{component_type_spelling};
 ghost use Rattle.gltf_schema.specs.Tree.{whole, chosen};
 ghost use Rattle.gltf_schema.specs.Given.{made};
 ghost use Rattle.gltf_schema.specs.Fields.{index_tree, closed_object};
-ghost use Rattle.gltf_data.specs.Accessor.{sparse_rows, sparse_sound, sparse_height, sparse_indices_rows, sparse_indices_sound, sparse_indices_height, sparse_values_rows, sparse_values_sound, sparse_values_height, sparse_members, sparse_indices_members, sparse_values_members};
+ghost use Rattle.gltf_data.specs.Accessor.{sparse_rows, sparse_indices_rows, sparse_values_rows, sparse_members, sparse_indices_members, sparse_values_members};
 
 use crate::buffer::View;
 use crate::extensions;
@@ -16,8 +14,10 @@ use crate::extras::Extras;
 use gltf_base::Index;
 use gltf_base::accessor::{ComponentType, IndexComponentType};
 use gltf_base::validation::{Checked, USize64};
-use gltf_schema::{Blank, Object, ReadRows, WriteRows};
+use gltf_schema::Blank;
 use std::alloc::Global;
+
+mod derived;
 
 /// Elements that replace those of the buffer view.
 // What takes longest to drop comes last (docs/DECISIONS.md, "Order of fields").
@@ -53,45 +53,6 @@ impl Sparse {
     }
 }
 
-impl Object for Sparse {
-    ghost rows = { sparse_rows };
-
-    ghost keeps = { false };
-
-    ghost members = { sparse_members };
-
-    ghost unknown = { λ _. no_members };
-
-    ghost sound = { sparse_sound };
-
-    ghost height = { 2 };
-
-    ghost low = { (sparse_height.1, lit≤ tt) };
-
-    fn read_members<R: ReadRows>(from: &mut R) -> Sparse {
-        let count = from.required("count");
-        let indices = from.required("indices");
-        let values = from.required("values");
-        let extensions = from.optional("extensions");
-        let extras = from.optional("extras");
-        Sparse {
-            count,
-            indices,
-            values,
-            extensions,
-            extras,
-        }
-    }
-
-    fn write_members<W: WriteRows>(&self, to: &mut W) {
-        to.always("count", &self.count);
-        to.optional("extensions", &self.extensions);
-        to.optional("extras", &self.extras);
-        to.always("indices", &self.indices);
-        to.always("values", &self.values);
-    }
-}
-
 /// Where the indices of the replaced elements are stored.
 #[derive(Clone, Debug, Drop)]
 pub struct Indices {
@@ -122,45 +83,6 @@ impl Indices {
             extensions: None,
             extras: None,
         }
-    }
-}
-
-impl Object for Indices {
-    ghost rows = { sparse_indices_rows };
-
-    ghost keeps = { false };
-
-    ghost members = { sparse_indices_members };
-
-    ghost unknown = { λ _. no_members };
-
-    ghost sound = { sparse_indices_sound };
-
-    ghost height = { 1 };
-
-    ghost low = { (sparse_indices_height.1, lit≤ tt) };
-
-    fn read_members<R: ReadRows>(from: &mut R) -> Indices {
-        let buffer_view = from.required("bufferView");
-        let byte_offset = from.or_default("byteOffset", USize64(0));
-        let component_type = from.required("componentType");
-        let extensions = from.optional("extensions");
-        let extras = from.optional("extras");
-        Indices {
-            buffer_view,
-            byte_offset,
-            component_type,
-            extensions,
-            extras,
-        }
-    }
-
-    fn write_members<W: WriteRows>(&self, to: &mut W) {
-        to.always("bufferView", &self.buffer_view);
-        to.always("byteOffset", &self.byte_offset);
-        to.always("componentType", &self.component_type);
-        to.optional("extensions", &self.extensions);
-        to.optional("extras", &self.extras);
     }
 }
 
@@ -201,42 +123,6 @@ impl Values {
             extensions: None,
             extras: None,
         }
-    }
-}
-
-impl Object for Values {
-    ghost rows = { sparse_values_rows };
-
-    ghost keeps = { false };
-
-    ghost members = { sparse_values_members };
-
-    ghost unknown = { λ _. no_members };
-
-    ghost sound = { sparse_values_sound };
-
-    ghost height = { 1 };
-
-    ghost low = { (sparse_values_height.1, lit≤ tt) };
-
-    fn read_members<R: ReadRows>(from: &mut R) -> Values {
-        let buffer_view = from.required("bufferView");
-        let byte_offset = from.or_default("byteOffset", USize64(0));
-        let extensions = from.optional("extensions");
-        let extras = from.optional("extras");
-        Values {
-            buffer_view,
-            byte_offset,
-            extensions,
-            extras,
-        }
-    }
-
-    fn write_members<W: WriteRows>(&self, to: &mut W) {
-        to.always("bufferView", &self.buffer_view);
-        to.always("byteOffset", &self.byte_offset);
-        to.optional("extensions", &self.extensions);
-        to.optional("extras", &self.extras);
     }
 }
 

@@ -1,16 +1,16 @@
 //! The extension objects of nodes and scenes.
 
-ghost use Rattle.std.specs.Prelude.{◌≡◌, true};
-ghost use Rattle.std.proofs.Common.{lit≤};
+ghost use Rattle.std.specs.Prelude.{◌≡◌};
 ghost use Rattle.serde_json.specs.Data.{no_members};
 ghost use Rattle.serde_json.specs.View.{members_view};
 ghost use Rattle.gltf_schema.specs.Defaults.{defaults};
-ghost use Rattle.gltf_nodes.specs.Scene.{node_extension_rows, node_extension_sound, node_extension_height, node_extension_members};
+ghost use Rattle.gltf_nodes.specs.Scene.{node_extension_rows, node_extension_members};
 
-use gltf_schema::{KeptExtensions, Object, ReadRows, WriteRows};
+use gltf_schema::KeptExtensions;
 use serde_json::{Map, Value};
 use std::alloc::Global;
 
+mod derived;
 pub mod khr_lights_punctual;
 pub mod khr_materials_variants;
 
@@ -21,36 +21,6 @@ pub struct Node {
     pub khr_lights_punctual: Option<khr_lights_punctual::KhrLightsPunctual>,
     /// Unknown extensions, kept as they are.
     pub others: Map<String, Value>,
-}
-
-impl Object for Node {
-    ghost rows = { node_extension_rows };
-
-    ghost keeps = { true };
-
-    ghost members = { node_extension_members };
-
-    ghost unknown = { λ e. members_view e.others.entries };
-
-    ghost sound = { node_extension_sound };
-
-    ghost height = { 2 };
-
-    ghost low = { (node_extension_height.1, lit≤ tt) };
-
-    fn read_members<R: ReadRows>(from: &mut R) -> Node {
-        let khr_lights_punctual = from.optional("KHR_lights_punctual");
-        let others = from.others();
-        Node {
-            khr_lights_punctual,
-            others,
-        }
-    }
-
-    fn write_members<W: WriteRows>(&self, to: &mut W) {
-        to.others(&self.others);
-        to.optional("KHR_lights_punctual", &self.khr_lights_punctual);
-    }
 }
 
 impl Node {

@@ -21,6 +21,8 @@ use super::mark::Mark;
 use gltf_base::{Index, Listed, PushError};
 use gltf_schema::Object;
 
+mod derived;
+
 /// An object whose list is a member of the document itself, and so is always there.
 pub trait TopLevel: Listed + Object {
     ghost use Rattle.std.specs.declared.vec.Vec.{Vec};

@@ -18,8 +18,8 @@ use gltf_sinks::{Sink, Stop};
 use gltf_visits::Visitable;
 use gltf_walk::{StepsFull, ValueWalk};
 
+mod derived;
 mod leaves;
-mod objects;
 
 /// A type that the table has by itself, not as an option or a list: a walk goes through it.
 pub trait InTable: Visitable {

@@ -1,7 +1,8 @@
 -- Both are what is read of the JSON.
 use Rattle.std.proofs.lemmas.Option.{same_Some}
 use Rattle.gltf_schema.proofs.ReadBack.{read_back}
-use Rattle.gltf_root.specs.Root.{root_kind, root_sound, root_tree}
+use Rattle.gltf_root.specs.Root.{root_kind, root_tree}
+use Rattle.gltf_root.specs.RootDerived.{root_sound}
 use Rattle.std.proofs.Common.{sym, ◌∙◌}
 use Rattle.gltf_faults.proofs.laws.plain_documents_written_alike_are_the_same.Goals as goal
 

@@ -1,6 +1,7 @@
 -- The kind of documents is sound.
 use Rattle.gltf_schema.proofs.RefusedWhereInvalid.{refused_where_invalid}
-use Rattle.gltf_root.specs.Root.{root_kind, root_sound}
+use Rattle.gltf_root.specs.Root.{root_kind}
+use Rattle.gltf_root.specs.RootDerived.{root_sound}
 use Rattle.gltf_faults.proofs.laws.read_documents_are_refused_where_invalid.Goals as goal
 
 pub returns : goal.returns

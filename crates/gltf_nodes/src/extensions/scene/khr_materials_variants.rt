@@ -1,15 +1,14 @@
 //! Variants of a document's materials (the extension `KHR_materials_variants`).
 
-ghost use Rattle.std.specs.Prelude.{◌≡◌, [], ◌∷◌, false, codes};
-ghost use Rattle.std.proofs.Common.{lit≤};
-ghost use Rattle.serde_json.specs.Data.{no_members};
+ghost use Rattle.std.specs.Prelude.{◌≡◌, [], ◌∷◌, codes};
 ghost use Rattle.gltf_paths.specs.Lists.{variants};
 ghost use Rattle.gltf_schema.specs.Given.{made};
 ghost use Rattle.gltf_schema.specs.Fields.{text_tree};
-ghost use Rattle.gltf_nodes.specs.Light.{variant_rows, variant_sound, variant_height, variant_members};
+ghost use Rattle.gltf_nodes.specs.Light.{variant_rows, variant_members};
 
 use gltf_base::Listed;
-use gltf_schema::{Object, ReadRows, WriteRows};
+
+mod derived;
 
 /// A material variant of a document.
 #[derive(Clone, Debug)]
@@ -17,12 +16,13 @@ pub struct Variant {
     pub name: String,
 }
 
-// One call drops it, wherever it is held (docs/DECISIONS.md, "Large values").
+// Written by tools/derive.py: begin
 impl Drop for Variant {
     fn drop(self) {
         let Variant { name: _ } = self;
     }
 }
+// Written by tools/derive.py: end
 
 impl Variant {
     /// Returns a variant with this name.
@@ -38,29 +38,4 @@ impl Variant {
 
 impl Listed for Variant {
     ghost list = { variants };
-}
-
-impl Object for Variant {
-    ghost rows = { variant_rows };
-
-    ghost keeps = { false };
-
-    ghost members = { variant_members };
-
-    ghost unknown = { λ _. no_members };
-
-    ghost sound = { variant_sound };
-
-    ghost height = { 0 };
-
-    ghost low = { (variant_height.1, lit≤ tt) };
-
-    fn read_members<R: ReadRows>(from: &mut R) -> Variant {
-        let name = from.required("name");
-        Variant { name }
-    }
-
-    fn write_members<W: WriteRows>(&self, to: &mut W) {
-        to.always("name", &self.name);
-    }
 }

@@ -1,21 +1,29 @@
-//! What the members of objects hold: extensions of which none is known, factors, numbers and texts.
+//! What the members of objects hold: extensions of which none is known, numbers and texts; and the
+//! object without members.
 
 ghost use Rattle.std.proofs.Common.{lit≤};
+ghost use Rattle.std.specs.Prelude.{refl};
 
-use super::InTable;
+use super::{InTable, TableObject};
 use gltf_base::validation::USize64;
 use gltf_base::{IndexTo, Names, Real};
 use gltf_data::buffer::Stride;
 use gltf_data::extras::Void;
 use gltf_data::image::MimeType;
-use gltf_materials::material::{AlphaCutoff, EmissiveFactor, PbrBaseColorFactor};
+use gltf_materials::material::AlphaCutoff;
 use gltf_nodes::scene::UnitQuaternion;
 use gltf_root::root::RootItem;
 use gltf_schema::{DroppedExtensions, KeptExtensions};
-use gltf_shading::extensions::material as shading;
-use gltf_shading::material::StrengthFactor;
-use gltf_textures::extensions::texture as texture_extensions;
+use gltf_shading::extensions::material::Unlit;
 use serde_json::Value;
+
+// ---- the object without members
+
+impl TableObject for Unlit {
+    ghost same_kind = { refl };
+
+    ghost same_tree = { λ _. refl };
+}
 
 // ---- extensions of which none is known
 
@@ -27,73 +35,9 @@ impl InTable for DroppedExtensions {
     ghost shallow = { (lit≤ tt, lit≤ tt) };
 }
 
-// ---- factors
+// ---- the factor that is never absent
 
 impl InTable for AlphaCutoff {
-    ghost shallow = { (lit≤ tt, lit≤ tt) };
-}
-
-impl InTable for EmissiveFactor {
-    ghost shallow = { (lit≤ tt, lit≤ tt) };
-}
-
-impl InTable for PbrBaseColorFactor {
-    ghost shallow = { (lit≤ tt, lit≤ tt) };
-}
-
-impl InTable for StrengthFactor {
-    ghost shallow = { (lit≤ tt, lit≤ tt) };
-}
-
-impl InTable for shading::PbrDiffuseFactor {
-    ghost shallow = { (lit≤ tt, lit≤ tt) };
-}
-
-impl InTable for shading::PbrSpecularFactor {
-    ghost shallow = { (lit≤ tt, lit≤ tt) };
-}
-
-impl InTable for shading::TransmissionFactor {
-    ghost shallow = { (lit≤ tt, lit≤ tt) };
-}
-
-impl InTable for shading::ThicknessFactor {
-    ghost shallow = { (lit≤ tt, lit≤ tt) };
-}
-
-impl InTable for shading::AttenuationDistance {
-    ghost shallow = { (lit≤ tt, lit≤ tt) };
-}
-
-impl InTable for shading::AttenuationColor {
-    ghost shallow = { (lit≤ tt, lit≤ tt) };
-}
-
-impl InTable for shading::SpecularFactor {
-    ghost shallow = { (lit≤ tt, lit≤ tt) };
-}
-
-impl InTable for shading::SpecularColorFactor {
-    ghost shallow = { (lit≤ tt, lit≤ tt) };
-}
-
-impl InTable for shading::IndexOfRefraction {
-    ghost shallow = { (lit≤ tt, lit≤ tt) };
-}
-
-impl InTable for shading::EmissiveStrengthFactor {
-    ghost shallow = { (lit≤ tt, lit≤ tt) };
-}
-
-impl InTable for texture_extensions::TextureTransformOffset {
-    ghost shallow = { (lit≤ tt, lit≤ tt) };
-}
-
-impl InTable for texture_extensions::TextureTransformRotation {
-    ghost shallow = { (lit≤ tt, lit≤ tt) };
-}
-
-impl InTable for texture_extensions::TextureTransformScale {
     ghost shallow = { (lit≤ tt, lit≤ tt) };
 }
 

@@ -1,7 +1,8 @@
 -- A plain document is what is read of the JSON that it is written as.
 use Rattle.gltf_schema.proofs.ReadBack.{read_back}
 use Rattle.gltf_schema.specs.Tree.{absent}
-use Rattle.gltf_root.specs.Root.{root_kind, root_sound}
+use Rattle.gltf_root.specs.Root.{root_kind}
+use Rattle.gltf_root.specs.RootDerived.{root_sound}
 use Rattle.gltf_faults.proofs.Pointing.{all_lead}
 use Rattle.gltf_faults.proofs.PointingRoot.{root_fits}
 use Rattle.gltf_faults.proofs.laws.further.reports_lead_to_places_in_the_json.Goals as goal

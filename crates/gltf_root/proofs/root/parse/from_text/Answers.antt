@@ -1,6 +1,7 @@
 use Rattle.serde_json.specs.Read.{read as read_json}
 use Rattle.gltf_schema.proofs.ReadPlain.{decoded_plain}
-use Rattle.gltf_root.specs.Root.{root_kind, root_tree, root_sound}
+use Rattle.gltf_root.specs.Root.{root_kind, root_tree}
+use Rattle.gltf_root.specs.RootDerived.{root_sound}
 use Rattle.gltf_root.proofs.AnswerLemmas.{IsAnswer-json, IsAnswer-decoded, decoded_is_plain}
 use Rattle.gltf_root.proofs.root.parse.from_text.Goals as goal
 

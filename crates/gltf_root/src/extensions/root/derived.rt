@@ -1,0 +1,95 @@
+//! Written by tools/derive.py from crates/gltf_root/src/extensions/root.rt and
+//! crates/gltf_root/specs/RootExtension.antt. Do not edit.
+
+ghost use Rattle.gltf_root.specs.RootExtension.{lights_members, lights_rows, root_extension_members, root_extension_rows, variants_members, variants_rows};
+ghost use Rattle.gltf_root.specs.RootExtensionDerived.{lights_height, lights_sound, root_extension_height, root_extension_sound, variants_height, variants_sound};
+ghost use Rattle.serde_json.specs.Data.{no_members};
+ghost use Rattle.serde_json.specs.View.{members_view};
+ghost use Rattle.std.proofs.Common.{lit≤};
+ghost use Rattle.std.specs.Prelude.{false, true};
+
+use super::{KhrLightsPunctual, KhrMaterialsVariants, Root};
+use gltf_schema::{Object, ReadRows, WriteRows};
+
+impl Object for KhrLightsPunctual {
+    ghost rows = { lights_rows };
+
+    ghost keeps = { false };
+
+    ghost members = { lights_members };
+
+    ghost unknown = { λ _. no_members };
+
+    ghost sound = { lights_sound };
+
+    ghost height = { 3 };
+
+    ghost low = { (lights_height.1, lit≤ tt) };
+
+    fn read_members<R: ReadRows>(from: &mut R) -> KhrLightsPunctual {
+        let lights = from.required("lights");
+        KhrLightsPunctual { lights }
+    }
+
+    fn write_members<W: WriteRows>(&self, to: &mut W) {
+        to.always("lights", &self.lights);
+    }
+}
+
+impl Object for KhrMaterialsVariants {
+    ghost rows = { variants_rows };
+
+    ghost keeps = { false };
+
+    ghost members = { variants_members };
+
+    ghost unknown = { λ _. no_members };
+
+    ghost sound = { variants_sound };
+
+    ghost height = { 0 };
+
+    ghost low = { (variants_height.1, lit≤ tt) };
+
+    fn read_members<R: ReadRows>(from: &mut R) -> KhrMaterialsVariants {
+        let variants = from.required("variants");
+        KhrMaterialsVariants { variants }
+    }
+
+    fn write_members<W: WriteRows>(&self, to: &mut W) {
+        to.always("variants", &self.variants);
+    }
+}
+
+impl Object for Root {
+    ghost rows = { root_extension_rows };
+
+    ghost keeps = { true };
+
+    ghost members = { root_extension_members };
+
+    ghost unknown = { λ e. members_view e.others.entries };
+
+    ghost sound = { root_extension_sound };
+
+    ghost height = { 4 };
+
+    ghost low = { (root_extension_height.1, lit≤ tt) };
+
+    fn read_members<R: ReadRows>(from: &mut R) -> Root {
+        let khr_lights_punctual = from.optional("KHR_lights_punctual");
+        let khr_materials_variants = from.optional("KHR_materials_variants");
+        let others = from.others();
+        Root {
+            khr_lights_punctual,
+            khr_materials_variants,
+            others,
+        }
+    }
+
+    fn write_members<W: WriteRows>(&self, to: &mut W) {
+        to.others(&self.others);
+        to.optional("KHR_lights_punctual", &self.khr_lights_punctual);
+        to.optional("KHR_materials_variants", &self.khr_materials_variants);
+    }
+}

@@ -1,0 +1,330 @@
+//! Written by tools/derive.py from crates/gltf_root/src/root.rt and
+//! crates/gltf_root/specs/Root.antt. Do not edit.
+
+ghost use Rattle.gltf_root.specs.Root.{root_members, root_rows};
+ghost use Rattle.std.specs.Prelude.{refl};
+
+use super::TopLevel;
+use crate::root::Root;
+use gltf_animations::animation::Animation;
+use gltf_data::accessor::Accessor;
+use gltf_data::buffer::{Buffer, View};
+use gltf_data::image::Image;
+use gltf_materials::material::Material;
+use gltf_meshes::mesh::Mesh;
+use gltf_nodes::camera::Camera;
+use gltf_nodes::scene::{Node, Scene};
+use gltf_nodes::skin::Skin;
+use gltf_textures::texture::{Sampler, Texture};
+
+impl TopLevel for Accessor {
+    ghost held = { λ r. r.accessors };
+
+    ghost put = { λ list r. record r { accessors = list } };
+
+    ghost kinded = { refl };
+
+    ghost stands = { λ r. unfold root_rows root_members in refl };
+
+    ghost puts = { λ r list. unfold root_rows root_members in (refl, refl) };
+
+    ghost same = { λ r. refl };
+
+    ghost itself = { λ root mark. (refl, refl, refl) };
+
+    fn list_in(root: &Root) -> &Vec<Accessor> {
+        &root.accessors
+    }
+
+    fn list_in_mut(root: &mut Root) -> &mut Vec<Accessor> {
+        &mut root.accessors
+    }
+}
+
+impl TopLevel for Animation {
+    ghost held = { λ r. r.animations };
+
+    ghost put = { λ list r. record r { animations = list } };
+
+    ghost kinded = { refl };
+
+    ghost stands = { λ r. unfold root_rows root_members in refl };
+
+    ghost puts = { λ r list. unfold root_rows root_members in (refl, refl) };
+
+    ghost same = { λ r. refl };
+
+    ghost itself = { λ root mark. (refl, refl, refl) };
+
+    fn list_in(root: &Root) -> &Vec<Animation> {
+        &root.animations
+    }
+
+    fn list_in_mut(root: &mut Root) -> &mut Vec<Animation> {
+        &mut root.animations
+    }
+}
+
+impl TopLevel for Buffer {
+    ghost held = { λ r. r.buffers };
+
+    ghost put = { λ list r. record r { buffers = list } };
+
+    ghost kinded = { refl };
+
+    ghost stands = { λ r. unfold root_rows root_members in refl };
+
+    ghost puts = { λ r list. unfold root_rows root_members in (refl, refl) };
+
+    ghost same = { λ r. refl };
+
+    ghost itself = { λ root mark. (refl, refl, refl) };
+
+    fn list_in(root: &Root) -> &Vec<Buffer> {
+        &root.buffers
+    }
+
+    fn list_in_mut(root: &mut Root) -> &mut Vec<Buffer> {
+        &mut root.buffers
+    }
+}
+
+impl TopLevel for View {
+    ghost held = { λ r. r.buffer_views };
+
+    ghost put = { λ list r. record r { buffer_views = list } };
+
+    ghost kinded = { refl };
+
+    ghost stands = { λ r. unfold root_rows root_members in refl };
+
+    ghost puts = { λ r list. unfold root_rows root_members in (refl, refl) };
+
+    ghost same = { λ r. refl };
+
+    ghost itself = { λ root mark. (refl, refl, refl) };
+
+    fn list_in(root: &Root) -> &Vec<View> {
+        &root.buffer_views
+    }
+
+    fn list_in_mut(root: &mut Root) -> &mut Vec<View> {
+        &mut root.buffer_views
+    }
+}
+
+impl TopLevel for Camera {
+    ghost held = { λ r. r.cameras };
+
+    ghost put = { λ list r. record r { cameras = list } };
+
+    ghost kinded = { refl };
+
+    ghost stands = { λ r. unfold root_rows root_members in refl };
+
+    ghost puts = { λ r list. unfold root_rows root_members in (refl, refl) };
+
+    ghost same = { λ r. refl };
+
+    ghost itself = { λ root mark. (refl, refl, refl) };
+
+    fn list_in(root: &Root) -> &Vec<Camera> {
+        &root.cameras
+    }
+
+    fn list_in_mut(root: &mut Root) -> &mut Vec<Camera> {
+        &mut root.cameras
+    }
+}
+
+impl TopLevel for Image {
+    ghost held = { λ r. r.images };
+
+    ghost put = { λ list r. record r { images = list } };
+
+    ghost kinded = { refl };
+
+    ghost stands = { λ r. unfold root_rows root_members in refl };
+
+    ghost puts = { λ r list. unfold root_rows root_members in (refl, refl) };
+
+    ghost same = { λ r. refl };
+
+    ghost itself = { λ root mark. (refl, refl, refl) };
+
+    fn list_in(root: &Root) -> &Vec<Image> {
+        &root.images
+    }
+
+    fn list_in_mut(root: &mut Root) -> &mut Vec<Image> {
+        &mut root.images
+    }
+}
+
+impl TopLevel for Material {
+    ghost held = { λ r. r.materials };
+
+    ghost put = { λ list r. record r { materials = list } };
+
+    ghost kinded = { refl };
+
+    ghost stands = { λ r. unfold root_rows root_members in refl };
+
+    ghost puts = { λ r list. unfold root_rows root_members in (refl, refl) };
+
+    ghost same = { λ r. refl };
+
+    ghost itself = { λ root mark. (refl, refl, refl) };
+
+    fn list_in(root: &Root) -> &Vec<Material> {
+        &root.materials
+    }
+
+    fn list_in_mut(root: &mut Root) -> &mut Vec<Material> {
+        &mut root.materials
+    }
+}
+
+impl TopLevel for Mesh {
+    ghost held = { λ r. r.meshes };
+
+    ghost put = { λ list r. record r { meshes = list } };
+
+    ghost kinded = { refl };
+
+    ghost stands = { λ r. unfold root_rows root_members in refl };
+
+    ghost puts = { λ r list. unfold root_rows root_members in (refl, refl) };
+
+    ghost same = { λ r. refl };
+
+    ghost itself = { λ root mark. (refl, refl, refl) };
+
+    fn list_in(root: &Root) -> &Vec<Mesh> {
+        &root.meshes
+    }
+
+    fn list_in_mut(root: &mut Root) -> &mut Vec<Mesh> {
+        &mut root.meshes
+    }
+}
+
+impl TopLevel for Node {
+    ghost held = { λ r. r.nodes };
+
+    ghost put = { λ list r. record r { nodes = list } };
+
+    ghost kinded = { refl };
+
+    ghost stands = { λ r. unfold root_rows root_members in refl };
+
+    ghost puts = { λ r list. unfold root_rows root_members in (refl, refl) };
+
+    ghost same = { λ r. refl };
+
+    ghost itself = { λ root mark. (refl, refl, refl) };
+
+    fn list_in(root: &Root) -> &Vec<Node> {
+        &root.nodes
+    }
+
+    fn list_in_mut(root: &mut Root) -> &mut Vec<Node> {
+        &mut root.nodes
+    }
+}
+
+impl TopLevel for Sampler {
+    ghost held = { λ r. r.samplers };
+
+    ghost put = { λ list r. record r { samplers = list } };
+
+    ghost kinded = { refl };
+
+    ghost stands = { λ r. unfold root_rows root_members in refl };
+
+    ghost puts = { λ r list. unfold root_rows root_members in (refl, refl) };
+
+    ghost same = { λ r. refl };
+
+    ghost itself = { λ root mark. (refl, refl, refl) };
+
+    fn list_in(root: &Root) -> &Vec<Sampler> {
+        &root.samplers
+    }
+
+    fn list_in_mut(root: &mut Root) -> &mut Vec<Sampler> {
+        &mut root.samplers
+    }
+}
+
+impl TopLevel for Scene {
+    ghost held = { λ r. r.scenes };
+
+    ghost put = { λ list r. record r { scenes = list } };
+
+    ghost kinded = { refl };
+
+    ghost stands = { λ r. unfold root_rows root_members in refl };
+
+    ghost puts = { λ r list. unfold root_rows root_members in (refl, refl) };
+
+    ghost same = { λ r. refl };
+
+    ghost itself = { λ root mark. (refl, refl, refl) };
+
+    fn list_in(root: &Root) -> &Vec<Scene> {
+        &root.scenes
+    }
+
+    fn list_in_mut(root: &mut Root) -> &mut Vec<Scene> {
+        &mut root.scenes
+    }
+}
+
+impl TopLevel for Skin {
+    ghost held = { λ r. r.skins };
+
+    ghost put = { λ list r. record r { skins = list } };
+
+    ghost kinded = { refl };
+
+    ghost stands = { λ r. unfold root_rows root_members in refl };
+
+    ghost puts = { λ r list. unfold root_rows root_members in (refl, refl) };
+
+    ghost same = { λ r. refl };
+
+    ghost itself = { λ root mark. (refl, refl, refl) };
+
+    fn list_in(root: &Root) -> &Vec<Skin> {
+        &root.skins
+    }
+
+    fn list_in_mut(root: &mut Root) -> &mut Vec<Skin> {
+        &mut root.skins
+    }
+}
+
+impl TopLevel for Texture {
+    ghost held = { λ r. r.textures };
+
+    ghost put = { λ list r. record r { textures = list } };
+
+    ghost kinded = { refl };
+
+    ghost stands = { λ r. unfold root_rows root_members in refl };
+
+    ghost puts = { λ r list. unfold root_rows root_members in (refl, refl) };
+
+    ghost same = { λ r. refl };
+
+    ghost itself = { λ root mark. (refl, refl, refl) };
+
+    fn list_in(root: &Root) -> &Vec<Texture> {
+        &root.textures
+    }
+
+    fn list_in_mut(root: &mut Root) -> &mut Vec<Texture> {
+        &mut root.textures
+    }
+}

@@ -176,7 +176,7 @@ class Variant:
 
 VARIANTS = [
     Variant("Leaf", "Option<Error>", [("Leaf e", "leaf e")], "fault", "leaf_at(fault, number)",
-            ("A place with nothing below, and the error there.",), is_found=True),
+            ("A place with nothing below, and the fault there.",), is_found=True),
     Variant("RequiredExtensions", "&'a Vec<String>",
             [("RequiredExtensions xs", "place (item_outlines (name_outline context.rules.enabled) "
               "0 (items_in (list_tree text_tree xs.now.items))) []")],
@@ -204,7 +204,9 @@ VARIANTS = [
             "faults, extensions", "at_material(faults, extensions, number, context)",
             ("What is wrong in the members of a material, with its extensions; or extensions "
              "alone. One",
-             "variant for both: the compiler limits what references reach (docs/DECISIONS.md)."),
+             "variant has both, because the compiler limits what references reach "
+             "(docs/DECISIONS.md,",
+             "\"What references may reach\")."),
             is_looked_at=True),
     Variant("PlainMaterial", "MaterialFaults",
             [("PlainMaterial m", "material_outline context m absent")],
@@ -228,7 +230,7 @@ VARIANTS = [
               "context absent")], "_", "unreachable!()", is_numbered=False),
     Variant("Attribute", "Option<Error>, Option<Error>", [("Attribute k i", "entry_outline k i")],
             "key, index", "in_attribute(key, index, number)",
-            ("The errors of an attribute's key and of its index.",), is_found=True),
+            ("The faults of an attribute's key and of its index.",), is_found=True),
     Variant("AtPositions", "PositionFaults",
             [("AtPositions f", "at_positions (faults_outline f)")],
             "faults", "E::from_event(at_attributes(faults, number))",

@@ -11,8 +11,8 @@ from derive_sources import CRATES
 METHODS = ("event", "from_event", "has_no_fault", "is_quiet")
 FROM = ["the rows and the structs of all objects", "tools/derive_exceptions.py"]
 ENUM_DOC = """
-/// A value that a walk comes to: an object, a list or a map in which something can be wrong, a
-/// place that an object's rule names, or a place with nothing below.
+/// A value that a walk comes to: an object, a list or a map in which something can be wrong. It may
+/// also be a place that an object's rule names, or a place with nothing below.
 #[derive(Clone, Copy, Drop)]
 pub enum ValueRef<'a> {
 """
@@ -31,7 +31,7 @@ pub(crate) fn event_of<'a, E: FromEvent<'a>, C: HasContext>(
 """
 QUIET_DOC = """
 /// Whether a walk looks at the value as a whole, and nothing is wrong in it. A walk looks at the
-/// items of lists and at values that hold all their errors. Other values get a frame without a
+/// items of lists and at values that hold all their faults. Other values get a frame without a
 /// look, which keeps a walk linear: a fault is looked at once for each list above it.
 pub fn is_quiet<C: HasContext>(value: &ValueRef<'_>, context: &C) -> bool
     ensures { result ≡ is_looked_at value.now
@@ -128,9 +128,9 @@ class Values:
             "-- a value whose moves are numbered; attributes are gone through by their keys",
             "abbrev pub IsNumbered : ValueRef → Type 0", *numbered, "IsNumbered _ = ⊤", "",
             "-- ---- what a walk looks at", "",
-            "-- a value that holds all its errors; materials are looked at as items of a list",
+            "-- a value that holds all its faults; materials are looked at as items of a list",
             "abbrev pub is_found : ValueRef → Bool", *found, "is_found _ = false", "",
-            "-- an item of a list, or a value that holds all its errors",
+            "-- an item of a list, or a value that holds all its faults",
             "abbrev pub is_looked_at : ValueRef → Bool", *looked, "is_looked_at v = is_found v"]
         own = ("outline_of", "is_looked_at", "IsNumbered", "is_found")
         known = {name: path for name, path in self.table.ghost_names().items() if name not in own}

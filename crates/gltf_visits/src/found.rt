@@ -1,4 +1,4 @@
-//! Values that hold all their errors.
+//! Values that hold all their faults.
 
 ghost use Rattle.std.specs.Prelude.{◌≡◌, ◌&&◌};
 ghost use Rattle.gltf_faults.specs.Context.{Context as MathematicalContext};

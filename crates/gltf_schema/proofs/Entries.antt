@@ -1,5 +1,5 @@
 -- Entries of attributes, read in turn.
-use Rattle.std.proofs.Common.{◌≡◌, ℕ, List, [], ◌∷◌, map, true, Option, Some, None, option_map, refl, sym, ap, ◌∙◌, subst, Ordering, Less, Equal, Greater}
+use Rattle.std.proofs.Common.{◌≡◌, ℕ, List, [], ◌∷◌, map, true, Option, Some, None, option_map, refl, sym, ap, ◌∙◌, Ordering, Less, Equal, Greater}
 use Rattle.std.proofs.lemmas.Bool.{and_from}
 use Rattle.std.specs.BTreeMap.{insert_entry}
 use Rattle.std.specs.List.Sorted.{IsStrictlySortedBy}
@@ -7,13 +7,9 @@ use Rattle.std.specs.Ordering.{match_ordering, is_lt}
 use Rattle.serde_json.specs.Data.{Data, Members, member}
 use Rattle.gltf_checked.specs.Keys.{Key, key_cmp}
 use Rattle.gltf_checked.specs.Names.{key_named}
-use Rattle.gltf_paths.specs.declared.error.Error.{Error}
 use Rattle.gltf_schema.specs.Tree.{Tree, index}
 use Rattle.gltf_schema.specs.Read.{read_entries, small_number}
 use Rattle.gltf_schema.specs.Write.{are_in_order}
-use Rattle.gltf_schema.specs.Outcome.{Refuses}
-use Rattle.gltf_schema.proofs.TakingOut.{refused}
-use Rattle.gltf_schema.proofs.RowByRow.{refused_then}
 
 -- entries by what their keys and values mean
 abbrev pub meant : {K V L W : Type 0} → (K → L) → (V → W) → List (K × V) → List (L × W)
@@ -59,7 +55,3 @@ pub entry_read : (es : List (Key × ℕ)) (name : List ℕ) (d : Data) (ms : Mem
 entry_read es name d ms n h =
     let number : small_number d ≡ Some n = sym (number_back (small_number d)) ∙ ap (option_map number_in) h in
     rw number refl
-
--- a value that is no index is no attribute
-pub entry_refused : (e : Error) (es : List (Key × ℕ)) (name : List ℕ) (d : Data) (ms : Members) → Refuses e (option_map index (small_number d)) → Refuses e (read_entries es (member name d ms))
-entry_refused e es name d ms h = refused_then e _ (small_number d) (subst (Refuses e) (number_back (small_number d)) (refused e number_in _ h))

@@ -304,15 +304,6 @@ item_refused_inside (Some (first ∷ steps)) inner step within = tt
 
 -- ---- an array of numbers
 
--- what is refused in an array of numbers is refused as it is in a list of numbers
-pub number_refused : (place : Option (List Step)) (n : ℕ) (ds : Items) → IsPlaceIn place (ListOf Number) (json.array ds) → IsPlaceIn place (Numbers n) (json.array ds)
-number_refused None n ds h = tt
-number_refused (Some []) n ds h = absurd cc
-number_refused (Some (item i ∷ steps)) n ds h = h
-number_refused (Some (field m ∷ steps)) n ds h = absurd h
-number_refused (Some (key t ∷ steps)) n ds h = absurd h
-number_refused (Some (value t ∷ steps)) n ds h = absurd h
-
 none_stops : (o : Option Tree) (i : ℕ) (d : Data) (ts : Option Trees) (later : Option (ℕ × Data)) (t : Trees) → (o >>= λ x. option_map (with_tree x) ts) ≡ Some t → ((t' : Trees) → ts ≡ Some t' → later ≡ None)
     → (if is_none o then Some (i, d) else later) ≡ None
 none_stops None i d ts later t h rest = absurd cc

@@ -27,7 +27,7 @@ from specs import TOKEN, Definitions, bare, paths
 PAGE = ROOT / "docs" / "PROMISES.md"
 RECORD = ROOT / "tools" / "promises.json"
 # Crates whose types only try or show what is promised.
-TRIALS = {"gltf_bench", "gltf_corpus", "gltf_examples", "gltf_vectors"}
+TRIALS = {"gltf_bench", "gltf_vectors_corpus", "gltf_examples", "gltf_vectors"}
 # What contracts see of a value. A line names one of these only if its clause has nothing else.
 VIEWS = {
     *("index_number", "index_tree", "item_kind", "item_place", "members_in", "path_of"),

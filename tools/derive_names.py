@@ -6,9 +6,9 @@ import textwrap
 LINE = 100
 
 # The crates, by what they have.
-SCHEMA, FAULTS, ROOT_CRATE = "gltf_schema", "gltf_faults", "gltf_root"
-VISITS, EVENTS, VALIDATION = "gltf_visits", "gltf_events", "gltf_validation"
-BASE, PATHS = "gltf_base", "gltf_paths"
+SCHEMA, FAULTS, ROOT_CRATE = "gltf_schema", "gltf_validation_rules", "gltf_root"
+VISITS, EVENTS, VALIDATION = "gltf_validation_objects", "gltf_validation_values", "gltf_validation"
+BASE, PATHS = "gltf_base", "gltf_base"
 
 # Definitions of std, the kit and the crates without objects, by their modules.
 MODULES = {

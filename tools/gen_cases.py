@@ -1,8 +1,8 @@
 #!/usr/bin/env python3
-"""gen_cases.py: documents that gltf_corpus reads and writes in two ways, and what becomes of them.
+"""gen_cases.py: documents that gltf_vectors_corpus reads and writes in two ways, and what becomes of them.
 
-It writes crates/gltf_corpus/data/cases.jsonl, a case a line, and their number into the last line of
-crates/gltf_corpus/stdout, or compares both (`--check`). A case has a title, a text or bytes, and
+It writes crates/gltf_vectors_corpus/data/cases.jsonl, a case a line, and their number into the last line of
+crates/gltf_vectors_corpus/stdout, or compares both (`--check`). A case has a title, a text or bytes, and
 what becomes of them: the line that the document is written as, or the error. A case may also have
 members that objects are to keep in `others`, under the names of src/kept.rt, and extras, and the
 place that the table refuses, as a path and as a JSON pointer.
@@ -13,7 +13,7 @@ import json
 from settle import settle
 from sources import ROOT
 
-CORPUS = ROOT / "crates" / "gltf_corpus"
+CORPUS = ROOT / "crates" / "gltf_vectors_corpus"
 
 NO_JSON = "not JSON"
 NO_DOCUMENT = "not a glTF document"

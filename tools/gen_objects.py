@@ -1,7 +1,7 @@
 #!/usr/bin/env python3
-"""gen_objects.py: what gltf_corpus tries at each object of the format, and what it expects.
+"""gen_objects.py: what gltf_vectors_corpus tries at each object of the format, and what it expects.
 
-It writes crates/gltf_corpus/data/objects.json, or compares it (`--check`). What is expected is
+It writes crates/gltf_vectors_corpus/data/objects.json, or compares it (`--check`). What is expected is
 worked out by table.py, never taken from the program.
 
 objects.json has the values that stand in for each member in turn; the names of the fields that a
@@ -20,7 +20,7 @@ from sources import ROOT
 from table import ABSENT, CHOICES, INVALID, KEEPERS, MEANT, OBJECTS, REFUSED
 from table import answer, answer_of_object
 
-CORPUS = ROOT / "crates" / "gltf_corpus"
+CORPUS = ROOT / "crates" / "gltf_vectors_corpus"
 
 # The name of a member that no object has.
 UNKNOWN = "zz"

@@ -1,8 +1,8 @@
 -- An object of which some lists are read apart from its other members is read as a whole.
 use Rattle.std.proofs.Common.{◌≡◌, ℕ, List, [], ◌∷◌, Bool, true, false, ◌||◌, cond, map, Option, Some, None, option_map, is_some, bytes_eq, refl, ap, ◌∙◌, subst}
 use Rattle.std.specs.Prelude.{⊤, ◌&&◌, if◌then◌else◌}
-use Rattle.gltf_paths.specs.declared.error.Error.{Error}
-use Rattle.gltf_paths.specs.declared.error.Error.TheVariants.{Schema, Memory}
+use Rattle.gltf_base.specs.declared.error.Error.{Error}
+use Rattle.gltf_base.specs.declared.error.Error.TheVariants.{Schema, Memory}
 use Rattle.serde_json.specs.Data.{Members, object as json_object}
 use Rattle.serde_json.specs.Find.{get_member}
 use Rattle.gltf_schema.specs.Maybe.{◌>>=◌}

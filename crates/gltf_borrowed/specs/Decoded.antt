@@ -1,7 +1,7 @@
 -- What decoding a text gives; a growth may also be refused.
 use Rattle.std.specs.Prelude.{Option, Some, None, Result, Err, ⊤}
-use Rattle.gltf_paths.specs.declared.error.Error.{Error}
-use Rattle.gltf_paths.specs.declared.error.Error.TheVariants as errors
+use Rattle.gltf_base.specs.declared.error.Error.{Error}
+use Rattle.gltf_base.specs.declared.error.Error.TheVariants as errors
 use Rattle.gltf_schema.specs.Outcome.{Reads}
 
 -- what the table reads of the text's value; where there is no value, the text is no JSON

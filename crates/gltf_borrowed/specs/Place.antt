@@ -2,11 +2,11 @@
 use Rattle.std.specs.Prelude.{◌≡◌, ℕ, List, Option, Some, None, option_map, Result, Ok, Err, ⊤, string_bytes}
 use Rattle.serde_json.specs.Data.{Data}
 use Rattle.serde_json.specs.Read.{read as read_json}
-use Rattle.gltf_paths.specs.Pointers.{pointer_text}
-use Rattle.gltf_paths.specs.Steps.{Step}
-use Rattle.gltf_paths.specs.Text.{path_text}
-use Rattle.gltf_paths.specs.declared.error.Error.{Error}
-use Rattle.gltf_paths.specs.declared.error.Error.TheVariants as errors
+use Rattle.gltf_base.specs.Pointers.{pointer_text}
+use Rattle.gltf_base.specs.Steps.{Step}
+use Rattle.gltf_base.specs.Text.{path_text}
+use Rattle.gltf_base.specs.declared.error.Error.{Error}
+use Rattle.gltf_base.specs.declared.error.Error.TheVariants as errors
 use Rattle.gltf_schema.specs.Kind.{Kind}
 use Rattle.gltf_schema.specs.Read.{read}
 use Rattle.gltf_schema.specs.Refused.{IsRefusedAt}

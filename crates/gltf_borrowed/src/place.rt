@@ -1,14 +1,14 @@
 //! The place at which the table refuses a text.
 
 ghost use Rattle.std.specs.Prelude.{◌≡◌, IfOk, map};
-ghost use Rattle.gltf_paths.specs.Steps.{step_of};
+ghost use Rattle.gltf_base.specs.Steps.{step_of};
 ghost use Rattle.gltf_schema.specs.Placings.{owned_step};
 ghost use Rattle.gltf_borrowed.specs.Place.{IsAtEnd, IsPlaceIn};
 
 use crate::reading::NoValue;
 use crate::whole::read_text;
-use gltf_paths::Path;
-use gltf_paths::path::Step;
+use gltf_base::Path;
+use gltf_base::path::Step;
 use gltf_schema::{Error, OwnedStep, Refusal, Schema};
 use json::Scratch;
 use std::alloc::{AllocError, Global};

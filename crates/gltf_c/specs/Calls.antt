@@ -4,12 +4,12 @@ use Rattle.std.specs.Str.Lines.{lines}
 use Rattle.std.specs.Global.{Vec}
 use Rattle.gltf_schema.specs.Invalid.{holds_invalid}
 use Rattle.gltf_schema.specs.Tree.{Tree}
-use Rattle.gltf_paths.specs.declared.error.Error.{Error}
-use Rattle.gltf_paths.specs.declared.error.Error.TheVariants as errors
+use Rattle.gltf_base.specs.declared.error.Error.{Error}
+use Rattle.gltf_base.specs.declared.error.Error.TheVariants as errors
 use Rattle.gltf_root.specs.Answer.{Answer, no_json, no_document, document}
 use Rattle.gltf_root.specs.Written.{IsCompactOf, IsReadBack}
-use Rattle.gltf_faults.specs.Context.{Rules}
-use Rattle.gltf_lines.specs.Output.{Output, output, refusal}
+use Rattle.gltf_validation_rules.specs.Context.{Rules}
+use Rattle.gltf_report_lines.specs.Output.{Output, output, refusal}
 use Rattle.gltf_c.specs.Filled.{IsFilled}
 use Rattle.gltf_c.specs.declared.returned.Returned.{Returned}
 

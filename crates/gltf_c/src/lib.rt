@@ -8,14 +8,13 @@
 
 ghost use Rattle.std.specs.Prelude.{◌≡◌, ◌≢◌, ◌≤◌, ◌⊎◌, [], IsUtf8};
 ghost use Rattle.gltf_root.specs.Answer.{answer, no_json, no_document};
-ghost use Rattle.gltf_faults.specs.Context.{standard_rules};
-ghost use Rattle.gltf_c.specs.Calls.{IsChecked, given_rules};
-ghost use Rattle.gltf_c.specs.Calls.{IsRewritten, IsUnwritable, rewrite_status};
+ghost use Rattle.gltf_validation_rules.specs.Context.{standard_rules};
+ghost use Rattle.gltf_c.specs.Calls.{IsChecked, given_rules, IsRewritten, IsUnwritable, rewrite_status};
 ghost use Rattle.gltf_c.specs.Filled.{IsFilled};
 
-use gltf_faults::Rules;
-use gltf_lines::Outcome;
+use gltf_report_lines::Outcome;
 use gltf_schema::Error;
+use gltf_validation_rules::Rules;
 use std::alloc::Global;
 use std::str::from_utf8;
 

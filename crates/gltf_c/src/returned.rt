@@ -1,11 +1,11 @@
 //! What a call returns, beside what it writes to its caller's buffer.
 
 ghost use Rattle.std.specs.Prelude.{◌≡◌};
-ghost use Rattle.gltf_lines.specs.Outcome.{outcome_output};
+ghost use Rattle.gltf_report_lines.specs.Outcome.{outcome_output};
 ghost use Rattle.gltf_c.specs.Calls.{IsGiven};
 ghost use Rattle.gltf_c.specs.Filled.{IsFilled};
 
-use gltf_lines::Outcome;
+use gltf_report_lines::Outcome;
 
 /// What a call returns.
 #[repr(C)]

@@ -3,14 +3,14 @@
 ghost use Rattle.std.specs.Prelude.{◌≡◌, map, IfOk};
 ghost use Rattle.std.specs.Str.Lines.{lines};
 ghost use Rattle.gltf_root.specs.Answer.{answer};
-ghost use Rattle.gltf_faults.specs.Context.{rules_of};
+ghost use Rattle.gltf_validation_rules.specs.Context.{rules_of};
 ghost use Rattle.gltf_c.specs.Calls.{IsChecked, IsRewriting};
 
 use crate::returned::{Returned, tell};
-use gltf_faults::Rules;
-use gltf_lines::Outcome;
+use gltf_report_lines::Outcome;
 use gltf_root::root::Root;
 use gltf_schema::Error;
+use gltf_validation_rules::Rules;
 use std::alloc::{AllocError, Global};
 
 /// Checks a document by the rules, and writes the outcome to a buffer.

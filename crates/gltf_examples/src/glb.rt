@@ -3,7 +3,7 @@
 #![tactic(auto)]
 
 use anyhow::{Context, Result, ensure};
-use gltf_binary::Glb;
+use gltf_glb::Glb;
 use gltf_json::Root;
 use std::fs;
 

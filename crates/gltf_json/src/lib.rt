@@ -22,11 +22,11 @@ pub use serde_json::Value;
 
 /// Extension objects: the values of an object's member `extensions`.
 pub mod extensions {
-    pub use gltf_faults::ENABLED_WITH_EMPTY_TEXTURES;
     pub use gltf_parts::extensions::{accessor, buffer, image, material, texture};
     pub use gltf_scene::extensions::{
         ENABLED_EXTENSIONS, SUPPORTED_EXTENSIONS, animation, asset, camera, mesh, scene, skin,
     };
+    pub use gltf_validation_rules::ENABLED_WITH_EMPTY_TEXTURES;
 
     /// Extension objects of a whole document.
     pub mod root {
@@ -38,25 +38,6 @@ pub mod extensions {
 /// modules have the laws of what documents are made of.
 pub mod laws {
     pub use gltf_base::laws as base;
-    pub use gltf_clean::changes::{calls_that_succeed_are_changes, changes_leave_no_reports};
-    pub use gltf_clean::laws::written_roots_are_held_again;
-    pub use gltf_faults::constant_is_listed;
-    pub use gltf_faults::laws::clean::clean_documents_are_written;
-    pub use gltf_faults::laws::further::{
-        attributes_spelled_as_their_keys_are_found, pointers_find_what_their_steps_lead_to,
-        reports_from_a_base_have_it_in_front, reports_lead_to_places_in_the_json,
-        rules_that_allow_more_leave_fewer_reports,
-    };
-    pub use gltf_faults::laws::plain::pushes_leave_documents_plain;
-    pub use gltf_faults::laws::worked::{
-        worked_documents, worked_plainness, worked_pushes, worked_rules, worked_writings,
-    };
-    pub use gltf_faults::laws::{
-        clean_documents_are_closed, clean_documents_avoid_the_next_number,
-        plain_documents_written_alike_are_the_same, pushes_add_reports_of_the_item,
-        pushes_change_one_list, pushes_leave_other_reports, pushes_onto_clean_documents,
-        read_documents_are_refused_where_invalid, reports_are_the_faults_of_places,
-    };
     pub use gltf_parts::laws as parts;
     pub use gltf_root::laws::lists::lists_are_those_of_the_document;
     pub use gltf_root::laws::pushes_are_taken_back;
@@ -65,21 +46,42 @@ pub mod laws {
     };
     pub use gltf_scene::laws as scene;
     pub use gltf_sinks::laws::{collections_hold_the_reports, counts_are_numbers_of_reports};
+    pub use gltf_validation_clean::changes::{
+        calls_that_succeed_are_changes, changes_leave_no_reports,
+    };
+    pub use gltf_validation_clean::laws::written_roots_are_held_again;
+    pub use gltf_validation_rules::constant_is_listed;
+    pub use gltf_validation_rules::laws::clean::clean_documents_are_written;
+    pub use gltf_validation_rules::laws::further::{
+        attributes_spelled_as_their_keys_are_found, pointers_find_what_their_steps_lead_to,
+        reports_from_a_base_have_it_in_front, reports_lead_to_places_in_the_json,
+        rules_that_allow_more_leave_fewer_reports,
+    };
+    pub use gltf_validation_rules::laws::plain::pushes_leave_documents_plain;
+    pub use gltf_validation_rules::laws::worked::{
+        worked_documents, worked_plainness, worked_pushes, worked_rules, worked_writings,
+    };
+    pub use gltf_validation_rules::laws::{
+        clean_documents_are_closed, clean_documents_avoid_the_next_number,
+        plain_documents_written_alike_are_the_same, pushes_add_reports_of_the_item,
+        pushes_change_one_list, pushes_leave_other_reports, pushes_onto_clean_documents,
+        read_documents_are_refused_where_invalid, reports_are_the_faults_of_places,
+    };
 }
 
 /// Whole documents, and the lists in them.
 pub mod root {
     pub use gltf_base::{Index, PushError};
-    pub use gltf_devices::{ByteIn, ByteOut, Failed, Watched};
+    pub use gltf_io::{ByteIn, ByteOut, Failed, Watched};
     pub use gltf_root::root::{Get, Mark, Place, Root, RootItem};
 }
 
 /// Validation: the faults of a document, and reports of them.
 pub mod validation {
     pub use gltf_base::validation::{Checked, Error, USize64};
-    pub use gltf_clean::{Clean, CleanError, Item, Refused, Report};
-    pub use gltf_faults::Rules;
     pub use gltf_sinks::{By, Collect, Count, Never, Sink, Stop, Take};
     pub use gltf_validation::validation::Validate;
-    pub use gltf_walk::Walk;
+    pub use gltf_validation_clean::{Clean, CleanError, Item, Refused, Report};
+    pub use gltf_validation_rules::Rules;
+    pub use gltf_validation_walk::Walk;
 }

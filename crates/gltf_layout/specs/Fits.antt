@@ -5,7 +5,7 @@ use Rattle.gltf_layout.specs.declared.span.AccessorLayout.{AccessorLayout}
 use Rattle.gltf_layout.specs.declared.span.Span.{Span}
 use Rattle.gltf_layout.specs.declared.misfit.Misfit.{Misfit}
 use Rattle.gltf_layout.specs.declared.misfit.Misfit.TheVariants.{ViewTooLong, StrideTooSmall, NoElements, AccessorTooLong, OffsetUnaligned, StartUnaligned, StrideUnaligned}
-use Rattle.gltf_choices.specs.Elements.{component_size}
+use Rattle.gltf_base.specs.Elements.{component_size}
 use Rattle.gltf_layout.specs.Sizes.{element_size}
 
 -- SIZE_OF_COMPONENT * NUMBER_OF_COMPONENTS, with what pads matrices

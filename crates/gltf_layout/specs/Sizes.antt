@@ -1,9 +1,9 @@
 -- Bytes of elements (glTF 2.0, sections 3.6.2.2 and 3.6.2.4).
 use Rattle.std.specs.Prelude.{ℕ, ◌*◌, ◌+◌, ◌/◌}
-use Rattle.gltf_choices.specs.declared.accessor.ComponentType.{ComponentType}
-use Rattle.gltf_choices.specs.declared.accessor.AccessorType.{AccessorType}
-use Rattle.gltf_choices.specs.declared.accessor.AccessorType.TheVariants.{Scalar, Vec2, Vec3, Vec4, Mat2, Mat3, Mat4}
-use Rattle.gltf_choices.specs.Elements.{component_size}
+use Rattle.gltf_base.specs.declared.accessor.ComponentType.{ComponentType}
+use Rattle.gltf_base.specs.declared.accessor.AccessorType.{AccessorType}
+use Rattle.gltf_base.specs.declared.accessor.AccessorType.TheVariants.{Scalar, Vec2, Vec3, Vec4, Mat2, Mat3, Mat4}
+use Rattle.gltf_base.specs.Elements.{component_size}
 
 -- an element that is no matrix is one column
 abbrev pub columns : AccessorType → ℕ

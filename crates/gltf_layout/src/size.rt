@@ -3,7 +3,7 @@
 ghost use Rattle.std.specs.Prelude.{◌≡◌};
 ghost use Rattle.gltf_layout.specs.Sizes.{element_size};
 
-use gltf_choices::accessor::{AccessorType, ComponentType};
+use gltf_base::accessor::{AccessorType, ComponentType};
 
 /// Returns the size of an element in bytes, with the padding of matrix columns (glTF 2.0, sections
 /// 3.6.2.2 and 3.6.2.4).

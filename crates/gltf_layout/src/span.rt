@@ -6,7 +6,7 @@ ghost use Rattle.gltf_layout.specs.Fits.{Fits, span_of, IsFirstMisfit};
 use crate::misfit::Misfit;
 use crate::size::element_size;
 use crate::view::ViewLayout;
-use gltf_choices::accessor::{AccessorType, ComponentType};
+use gltf_base::accessor::{AccessorType, ComponentType};
 
 /// The layout of an accessor's elements (glTF 2.0, section 5.1). The indices and the values of a
 /// sparse accessor (sections 5.3 and 5.4) are described in the same way.

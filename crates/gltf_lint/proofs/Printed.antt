@@ -3,7 +3,7 @@ use Rattle.std.proofs.Common.{◌≡◌, ℕ, zero, suc, ◌+◌, ◌-◌, ◌^�
 use Rattle.std.proofs.lemmas.Bool.{lt-ltb, le-ltb}
 use Rattle.std.proofs.lemmas.List.{append-nil}
 use Rattle.gltf_sinks.specs.Report.{Report}
-use Rattle.gltf_devices.specs.Device.{saturated}
+use Rattle.gltf_io.specs.Device.{saturated}
 use Rattle.gltf_lint.specs.declared.arguments.Format.{Format}
 use Rattle.gltf_lint.specs.Lines.{report_line, rest_line, report_lines, file_lines}
 

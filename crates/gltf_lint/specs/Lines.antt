@@ -3,11 +3,11 @@ use Rattle.std.specs.Prelude.{ℕ, ◌-◌, List, [], ◌∷◌, ◌++◌, lengt
 use Rattle.std.specs.Fmt.{decimal}
 use Rattle.serde_json.specs.Data.{Data, number, string, object, member, no_members, unsigned}
 use Rattle.serde_json.specs.Written.{compact_text}
-use Rattle.gltf_paths.specs.Errors.{error_text, error_code}
-use Rattle.gltf_paths.specs.Text.{path_text}
-use Rattle.gltf_paths.specs.Pointers.{pointer_text}
+use Rattle.gltf_base.specs.Errors.{error_text, error_code}
+use Rattle.gltf_base.specs.Text.{path_text}
+use Rattle.gltf_base.specs.Pointers.{pointer_text}
 use Rattle.gltf_sinks.specs.Report.{Report}
-use Rattle.gltf_devices.specs.Device.{saturated}
+use Rattle.gltf_io.specs.Device.{saturated}
 use Rattle.gltf_lint.specs.declared.arguments.Format.{Format}
 use Rattle.gltf_lint.specs.declared.arguments.Format.TheVariants.{Text, Json}
 use Rattle.gltf_lint.specs.declared.tally.Tally.{Tally}

@@ -1,7 +1,7 @@
 //! The arguments of the program.
 
 use clap::{ArgMatches, Command, arg, value_parser};
-use gltf_faults::Rules;
+use gltf_validation_rules::Rules;
 use std::alloc::{AllocError, Global};
 
 const AFTER_HELP: &str = "\

@@ -1,7 +1,7 @@
 //! Documents from the bytes of files.
 
 use crate::refusal::Refusal;
-use gltf_binary::Glb;
+use gltf_glb::Glb;
 use gltf_root::root::Root;
 use gltf_schema::Error;
 use serde_json::Value;

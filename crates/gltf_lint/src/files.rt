@@ -1,7 +1,7 @@
 //! What there is to check: files, and folders of files.
 
 use crate::refusal::Refusal;
-use gltf_devices::{ByteIn, Watched, read_to_end};
+use gltf_io::{ByteIn, Watched, read_to_end};
 use std::alloc::Global;
 use std::collections::BTreeMap;
 use std::fs::DirEntry;

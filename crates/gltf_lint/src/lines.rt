@@ -1,16 +1,16 @@
 //! The lines that are printed for a document.
 
 ghost use Rattle.std.specs.Prelude.{◌≡◌, length, IfOk, string_bytes};
-ghost use Rattle.gltf_devices.specs.Device.{saturated};
+ghost use Rattle.gltf_io.specs.Device.{saturated};
 ghost use Rattle.gltf_root.specs.Root.{root_tree};
-ghost use Rattle.gltf_faults.specs.Context.{rules_of};
-ghost use Rattle.gltf_faults.specs.Reports.{document_reports};
+ghost use Rattle.gltf_validation_rules.specs.Context.{rules_of};
+ghost use Rattle.gltf_validation_rules.specs.Reports.{document_reports};
 ghost use Rattle.gltf_lint.specs.Lines.{file_lines};
 
 use crate::arguments::Options;
 use crate::reports::{push_report, push_rest};
 use gltf_root::root::Root;
-use gltf_walk::Walk;
+use gltf_validation_walk::Walk;
 use std::alloc::{AllocError, Global};
 
 /// The lines for a document, and how many reports it has, up to the largest number of 64 bits.

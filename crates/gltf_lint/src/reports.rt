@@ -3,7 +3,7 @@
 ghost use Rattle.std.specs.Prelude.{◌≡◌, ◌++◌, IfOk, OnOk, false, string_bytes};
 ghost use Rattle.serde_json.specs.View.{view};
 ghost use Rattle.serde_json.specs.Written.{compact_text, has_float};
-ghost use Rattle.gltf_paths.specs.Steps.{steps_of};
+ghost use Rattle.gltf_base.specs.Steps.{steps_of};
 ghost use Rattle.gltf_sinks.specs.Report.{report};
 ghost use Rattle.gltf_lint.specs.Lines.{line, report_data, report_line, rest_data, rest_line};
 

@@ -2,8 +2,8 @@
 use Rattle.std.proofs.Common.{◌≡◌, ℕ, ◌<◌, List, length, Option, Some, None, sym, ◌∙◌, subst, arith}
 use Rattle.std.specs.Prelude.{slice_get, get_or, ◌↔◌, Bool, IsTrue}
 use Rattle.std.proofs.lemmas.Option.{slice_get_within, slice_get-get_or}
-use Rattle.gltf_paths.specs.declared.index.IndexTo.{IndexTo}
-use Rattle.gltf_paths.specs.Indexes.{index_number}
+use Rattle.gltf_base.specs.declared.index.IndexTo.{IndexTo}
+use Rattle.gltf_base.specs.Indexes.{index_number}
 use Rattle.gltf_hierarchy.specs.Forest.{IsRoot}
 use Rattle.gltf_hierarchy.specs.Parents.{AreParents}
 use Rattle.gltf_hierarchy.proofs.Trees.{parent_of_child}

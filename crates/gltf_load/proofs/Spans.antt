@@ -2,15 +2,15 @@
 use Rattle.std.proofs.Common.{◌≡◌, ℕ, ◌<◌, List, length, get_or, Some, sym, ap, ◌∙◌, subst}
 use Rattle.std.specs.Prelude.{slice_get}
 use Rattle.std.proofs.lemmas.Option.{slice_get-get_or}
-use Rattle.gltf_paths.specs.Indexes.{index_number}
-use Rattle.gltf_checked.specs.declared.validation.Checked.{Checked}
-use Rattle.gltf_checked.specs.declared.validation.Checked.TheVariants.{Valid, Invalid}
-use Rattle.gltf_checked.specs.Checked.{IsValidAnd}
-use Rattle.gltf_choices.specs.declared.accessor.ComponentType.{ComponentType}
-use Rattle.gltf_choices.specs.declared.accessor.AccessorType.{AccessorType}
-use Rattle.gltf_data.specs.declared.accessor.Accessor.{Accessor}
-use Rattle.gltf_data.specs.declared.buffer.View.{View}
-use Rattle.gltf_data.specs.declared.buffer.Buffer.{Buffer}
+use Rattle.gltf_base.specs.Indexes.{index_number}
+use Rattle.gltf_base.specs.declared.validation.Checked.{Checked}
+use Rattle.gltf_base.specs.declared.validation.Checked.TheVariants.{Valid, Invalid}
+use Rattle.gltf_base.specs.Checked.{IsValidAnd}
+use Rattle.gltf_base.specs.declared.accessor.ComponentType.{ComponentType}
+use Rattle.gltf_base.specs.declared.accessor.AccessorType.{AccessorType}
+use Rattle.gltf_parts.specs.declared.accessor.Accessor.{Accessor}
+use Rattle.gltf_parts.specs.declared.buffer.View.{View}
+use Rattle.gltf_parts.specs.declared.buffer.Buffer.{Buffer}
 use Rattle.gltf_layout.specs.declared.span.AccessorLayout.{AccessorLayout}
 use Rattle.gltf_layout.specs.declared.span.Span.{Span}
 use Rattle.gltf_layout.specs.Fits.{Fits, span_of}

@@ -1,9 +1,9 @@
 -- The nodes that nodes and scenes of a document name (glTF 2.0, sections 5.25.2 and 5.27.1).
 use Rattle.std.specs.Prelude.{ℕ, List, [], Option, Some, None, map}
 use Rattle.std.specs.Global.{Vec}
-use Rattle.gltf_paths.specs.declared.index.IndexTo.{IndexTo}
-use Rattle.gltf_paths.specs.Indexes.{index_number}
-use Rattle.gltf_nodes.specs.declared.scene.Node.{Node}
+use Rattle.gltf_base.specs.declared.index.IndexTo.{IndexTo}
+use Rattle.gltf_base.specs.Indexes.{index_number}
+use Rattle.gltf_scene.specs.declared.scene.Node.{Node}
 
 -- the numbers that indexes are; a list that isn't there has none
 abbrev pub numbers_in : {P : Type 0} → Option (Vec (IndexTo P)) → List ℕ

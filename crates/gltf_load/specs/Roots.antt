@@ -1,7 +1,7 @@
 -- Nodes that are root nodes (glTF 2.0, sections 3.5.1 and 3.5.2).
 use Rattle.std.specs.Prelude.{◌≡◌, ℕ, ◌<◌, List, length, slice_get, Option, Some, None}
-use Rattle.gltf_paths.specs.declared.index.IndexTo.{IndexTo}
-use Rattle.gltf_paths.specs.Indexes.{index_number}
+use Rattle.gltf_base.specs.declared.index.IndexTo.{IndexTo}
+use Rattle.gltf_base.specs.Indexes.{index_number}
 use Rattle.gltf_hierarchy.specs.Forest.{IsRoot}
 
 -- section 3.5.1: a scene lists nodes that exist and are root nodes

@@ -1,12 +1,12 @@
 -- Where the elements of a document's accessor lie (glTF 2.0, sections 5.1 and 5.11).
 use Rattle.std.specs.Prelude.{◌≡◌, ℕ, ◌≤◌, List, length, slice_get, Option, Some, None, IsSome, option_map}
-use Rattle.gltf_paths.specs.declared.validation.USize64.{USize64}
-use Rattle.gltf_paths.specs.Indexes.{index_number}
-use Rattle.gltf_checked.specs.declared.validation.Checked.TheVariants.{Invalid}
-use Rattle.gltf_checked.specs.Checked.{IsValidAnd, IsValid}
-use Rattle.gltf_data.specs.declared.accessor.Accessor.{Accessor}
-use Rattle.gltf_data.specs.declared.buffer.View.{View}
-use Rattle.gltf_data.specs.declared.buffer.Buffer.{Buffer}
+use Rattle.gltf_base.specs.declared.validation.USize64.{USize64}
+use Rattle.gltf_base.specs.Indexes.{index_number}
+use Rattle.gltf_base.specs.declared.validation.Checked.TheVariants.{Invalid}
+use Rattle.gltf_base.specs.Checked.{IsValidAnd, IsValid}
+use Rattle.gltf_parts.specs.declared.accessor.Accessor.{Accessor}
+use Rattle.gltf_parts.specs.declared.buffer.View.{View}
+use Rattle.gltf_parts.specs.declared.buffer.Buffer.{Buffer}
 use Rattle.gltf_layout.specs.declared.view.ViewLayout.{ViewLayout}
 use Rattle.gltf_layout.specs.declared.span.AccessorLayout.{AccessorLayout}
 use Rattle.gltf_layout.specs.declared.span.Span.{Span}

@@ -1,9 +1,9 @@
 //! Laws: functions that do nothing, each with a contract that is a fact about definitions.
 
 ghost use Rattle.std.specs.Prelude.{◌+◌, ◌*◌, ◌≤◌, ◌<◌, ℕ, List};
-ghost use Rattle.gltf_data.specs.declared.accessor.Accessor.{Accessor};
-ghost use Rattle.gltf_data.specs.declared.buffer.View.{View};
-ghost use Rattle.gltf_data.specs.declared.buffer.Buffer.{Buffer};
+ghost use Rattle.gltf_parts.specs.declared.accessor.Accessor.{Accessor};
+ghost use Rattle.gltf_parts.specs.declared.buffer.View.{View};
+ghost use Rattle.gltf_parts.specs.declared.buffer.Buffer.{Buffer};
 ghost use Rattle.gltf_layout.specs.declared.span.Span.{Span};
 ghost use Rattle.gltf_load.specs.Spans.{AreNamed, LieIn};
 

@@ -6,7 +6,7 @@ ghost use Rattle.gltf_hierarchy.specs.Parents.{AreParents};
 ghost use Rattle.gltf_load.specs.Named.{children_named};
 
 use gltf_hierarchy::{Forest, Hierarchy, HierarchyFault};
-use gltf_nodes::scene::Node;
+use gltf_scene::scene::Node;
 use std::alloc::Global;
 
 /// The nodes of a document, each with the children that it names.

@@ -5,11 +5,10 @@ ghost use Rattle.gltf_layout.specs.declared.span.Span.{Span};
 ghost use Rattle.gltf_load.specs.Spans.{IsPlace, LieIn, IsLayoutFault, IsAccessorLayout, IsChoiceFault, offset_or_0, view_layout};
 
 use crate::fault::LayoutFault;
-use gltf_checked::validation::Checked;
-use gltf_data::accessor::Accessor;
-use gltf_data::buffer::{Buffer, Stride, View};
+use gltf_base::validation::{Checked, USize64};
 use gltf_layout::{AccessorLayout, Span, ViewLayout};
-use gltf_paths::validation::USize64;
+use gltf_parts::accessor::Accessor;
+use gltf_parts::buffer::{Buffer, Stride, View};
 
 /// Returns where the elements of an accessor lie in its buffer, `None` if it names no view. Fails
 /// with the first fault, in the order of `LayoutFault`.

@@ -5,9 +5,9 @@ ghost use Rattle.gltf_hierarchy.specs.Forest.{forest_parents};
 ghost use Rattle.gltf_hierarchy.specs.Parents.{AreParents};
 ghost use Rattle.gltf_load.specs.Roots.{NameRoots, AreRoots};
 
+use gltf_base::IndexTo;
 use gltf_hierarchy::Forest;
-use gltf_nodes::scene::Scene;
-use gltf_paths::IndexTo;
+use gltf_scene::scene::Scene;
 
 /// Whether the nodes that a scene lists exist and are root nodes of a forest (glTF 2.0, section
 /// 3.5.1).

@@ -1,12 +1,12 @@
 //! Forests, places and faults that are worked by hand.
 
 use crate::{HierarchyFault, LayoutFault, Misfit, Span, forest_of, is_scene_of, span_of};
-use gltf_checked::validation::Checked;
-use gltf_choices::accessor::{AccessorType, ComponentType};
-use gltf_data::accessor::Accessor;
-use gltf_data::buffer::{Buffer, View};
-use gltf_nodes::scene::{Node, Scene};
-use gltf_paths::Index;
+use gltf_base::Index;
+use gltf_base::accessor::{AccessorType, ComponentType};
+use gltf_base::validation::Checked;
+use gltf_parts::accessor::Accessor;
+use gltf_parts::buffer::{Buffer, View};
+use gltf_scene::scene::{Node, Scene};
 use std::alloc::{AllocError, Global};
 use std::test::Fail;
 

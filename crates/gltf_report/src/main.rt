@@ -4,17 +4,17 @@
 
 ghost use Rattle.std.specs.Prelude.{◌≡◌, ◌≢◌, ◌≤◌};
 ghost use Rattle.std.specs.Process.{exit_status};
-ghost use Rattle.gltf_devices.specs.Device.{IsFresh, AppendsFront};
-ghost use Rattle.gltf_faults.specs.Context.{standard_rules};
-ghost use Rattle.gltf_lines.specs.Output.{refusal};
-ghost use Rattle.gltf_lines.specs.Run.{IsReadWhole, IsRun};
+ghost use Rattle.gltf_io.specs.Device.{IsFresh, AppendsFront};
+ghost use Rattle.gltf_validation_rules.specs.Context.{standard_rules};
+ghost use Rattle.gltf_report_lines.specs.Output.{refusal};
+ghost use Rattle.gltf_report_lines.specs.Run.{IsReadWhole, IsRun};
 
-use gltf_devices::{ByteIn, ByteOut, Watched};
+use gltf_io::{ByteIn, ByteOut, Watched};
 use std::alloc::Global;
 use std::process::ExitCode;
 
-// No crate can stand on a program: from Rust, these are called in `gltf_lines`.
-pub use gltf_lines::{run, run_with};
+// No crate can stand on a program: from Rust, these are called in `gltf_report_lines`.
+pub use gltf_report_lines::{run, run_with};
 
 /// Runs, and makes the status of the run that of the program.
 fn exit_code<R: ByteIn, W: ByteOut>(alloc: Global, reader: &mut R, writer: &mut W) -> ExitCode

@@ -12,10 +12,10 @@ use Rattle.gltf_schema.proofs.ReadPlain.{decoded_plain}
 use Rattle.gltf_borrowed.specs.Decoded.{IsDecoded}
 use Rattle.gltf_schema.specs.Read.{read}
 use Rattle.gltf_schema.specs.Tree.{Tree}
-use Rattle.gltf_paths.specs.declared.error.Error.{Error}
-use Rattle.gltf_paths.specs.declared.error.Error.TheVariants.{Json, Schema, InvalidItem, Read, Write, Memory, TooLong}
+use Rattle.gltf_base.specs.declared.error.Error.{Error}
+use Rattle.gltf_base.specs.declared.error.Error.TheVariants.{Json, Schema, InvalidItem, Read, Write, Memory, TooLong}
 use Rattle.gltf_root.specs.Answer.{Answer, no_json, tree_answer, answer, IsAnswer, IsReadAnswer, IsReading, IsRefusal}
-use Rattle.gltf_devices.specs.Device.{Seen, IsWithin, IsCause, IsReadError, IsReadToEnd}
+use Rattle.gltf_io.specs.Device.{Seen, IsWithin, IsCause, IsReadError, IsReadToEnd}
 use Rattle.gltf_root.specs.Root.{root_kind, root_tree}
 use Rattle.gltf_root.specs.RootDerived.{root_sound}
 use Rattle.gltf_root.specs.declared.root.Root.{Root}

@@ -12,7 +12,7 @@ use Rattle.serde_json.specs.Data.{Data, depth}
 use Rattle.serde_json.specs.Read.{of_json, read as read_json, max_depth}
 use Rattle.serde_json.specs.Written.{IsInOrder, WritesValue}
 use Rattle.serde_json.proofs.Texts.{tokens_from_order, print-outline}
-use Rattle.gltf_paths.specs.declared.error.Error.{Error}
+use Rattle.gltf_base.specs.declared.error.Error.{Error}
 use Rattle.gltf_schema.specs.Printings.{Printed, Begins, PrintsValue, Finishes}
 use Rattle.gltf_schema.specs.Plain.{is_plain}
 use Rattle.gltf_schema.specs.Tree.{Tree}

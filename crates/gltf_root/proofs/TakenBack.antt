@@ -1,6 +1,6 @@
 -- A push that is taken back leaves the document that was pushed onto.
 use Rattle.std.proofs.Common.{◌≡◌, Option, Some, None, refl, ap}
-use Rattle.gltf_paths.specs.Lists.{ListName}
+use Rattle.gltf_base.specs.Lists.{ListName}
 use Rattle.gltf_schema.specs.Tree.{Tree, tree_or_absent}
 use Rattle.gltf_schema.specs.Fields.{closed_object}
 use Rattle.gltf_root.proofs.Undoing.{without_last-with_last}

@@ -1,7 +1,7 @@
 -- A list that is put in place of a document's own, with one item more or less at its end.
 use Rattle.std.proofs.Common.{◌≡◌, List, [], ◌∷◌, ◌++◌, map, Option, Some, None, IfSome, option_to_list, sym, ◌∙◌, ap}
 use Rattle.std.specs.List.{last_or}
-use Rattle.gltf_paths.specs.Lists.{ListName}
+use Rattle.gltf_base.specs.Lists.{ListName}
 use Rattle.gltf_schema.specs.Tree.{Tree, trees}
 use Rattle.gltf_root.proofs.Pushing.{trees_push}
 use Rattle.gltf_root.proofs.Undoing.{trees_pop, last_or_pop}

@@ -4,12 +4,12 @@ use Rattle.std.proofs.Common.{◌≡◌, List, true, not, map, option_map, Optio
 use Rattle.std.specs.declared.alloc.Global.{Global}
 use Rattle.std.specs.declared.vec.Vec.{Vec}
 use Rattle.serde_json.specs.View.{members_view}
-use Rattle.gltf_paths.specs.Lists.{ListName}
+use Rattle.gltf_base.specs.Lists.{ListName}
 use Rattle.gltf_schema.specs.Tree.{Tree, Trees, absent, is_absent, list, object, end, trees, tree_or_absent, items_in, members_in}
 use Rattle.gltf_schema.specs.Fields.{closed_object}
-use Rattle.gltf_nodes.specs.Light.{light_members, variant_members}
-use Rattle.gltf_nodes.specs.declared.extensions.scene.khr_lights_punctual.Light.{Light}
-use Rattle.gltf_nodes.specs.declared.extensions.scene.khr_materials_variants.Variant.{Variant}
+use Rattle.gltf_scene.specs.Light.{light_members, variant_members}
+use Rattle.gltf_scene.specs.declared.extensions.scene.khr_lights_punctual.Light.{Light}
+use Rattle.gltf_scene.specs.declared.extensions.scene.khr_materials_variants.Variant.{Variant}
 use Rattle.gltf_root.specs.Items.{listed_in, lights_in, lights_of, lights_put, lights_put_in, put_lights, variants_in, variants_of, variants_put, variants_put_in, put_variants}
 use Rattle.gltf_root.specs.Lists.{extensions_name, lights_name, variants_name, lights_way, variants_way, further_way, is_there}
 use Rattle.gltf_root.specs.Named.{member_named, put_named, reached, with_reached}

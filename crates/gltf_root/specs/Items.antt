@@ -2,8 +2,8 @@
 use Rattle.std.specs.Prelude.{List, [], Option, Some, None, option_map}
 use Rattle.std.specs.declared.alloc.Global.{Global}
 use Rattle.std.specs.declared.vec.Vec.{Vec}
-use Rattle.gltf_nodes.specs.declared.extensions.scene.khr_lights_punctual.Light.{Light}
-use Rattle.gltf_nodes.specs.declared.extensions.scene.khr_materials_variants.Variant.{Variant}
+use Rattle.gltf_scene.specs.declared.extensions.scene.khr_lights_punctual.Light.{Light}
+use Rattle.gltf_scene.specs.declared.extensions.scene.khr_materials_variants.Variant.{Variant}
 use Rattle.gltf_root.specs.declared.root.Root.{Root}
 use Rattle.gltf_root.specs.declared.extensions.root.KhrLightsPunctual.{KhrLightsPunctual}
 use Rattle.gltf_root.specs.declared.extensions.root.KhrMaterialsVariants.{KhrMaterialsVariants}

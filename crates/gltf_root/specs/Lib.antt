@@ -1,4 +1,3 @@
-pub mod Asset
 pub mod Root
 pub mod RootExtension
 pub mod Named
@@ -12,6 +11,5 @@ pub mod ItemTrees
 pub mod Answer
 pub mod Written
 pub mod Rewritten
-pub mod AssetDerived
 pub mod RootDerived
 pub mod RootExtensionDerived

@@ -1,8 +1,8 @@
 -- The lists of a document, and the ways to them.
 use Rattle.std.specs.Prelude.{ℕ, List, [], ◌∷◌, Bool, true, not, codes}
-use Rattle.gltf_paths.specs.Lists.{ListName}
+use Rattle.gltf_base.specs.Lists.{ListName}
 use Rattle.gltf_schema.specs.Tree.{Tree, Trees, is_absent, count_of, items_in, members_in}
-use Rattle.gltf_animations.specs.Animation.{animation_rows}
+use Rattle.gltf_scene.specs.Animation.{animation_rows}
 use Rattle.gltf_root.specs.Named.{Way, row_named, member_named, reached}
 use Rattle.gltf_root.specs.RootExtension.{root_extension_rows, lights_rows, variants_rows}
 use Rattle.gltf_root.specs.Root.{root_rows}

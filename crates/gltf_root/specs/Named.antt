@@ -1,6 +1,6 @@
 -- Members of objects by the names of their rows, and ways down through such members.
 use Rattle.std.specs.Prelude.{ℕ, zero, suc, List, [], ◌∷◌, cond, map, bytes_eq}
-use Rattle.gltf_paths.specs.Steps.{Step, field}
+use Rattle.gltf_base.specs.Steps.{Step, field}
 use Rattle.gltf_schema.specs.Tree.{Tree, absent, object, Trees, end, with_tree, tree_at, members_in}
 use Rattle.gltf_schema.specs.Kind.{Rows, no_rows, row}
 use Rattle.gltf_schema.specs.Defaults.{defaults}

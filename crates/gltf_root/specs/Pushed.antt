@@ -1,19 +1,19 @@
 -- A document with another list in place of one of its own, and with one more item at a list's end.
 use Rattle.std.specs.Prelude.{ℕ, List, [], ◌∷◌, ◌++◌}
-use Rattle.gltf_paths.specs.Lists.{ListName}
-use Rattle.gltf_paths.specs.Steps.{Step, item}
+use Rattle.gltf_base.specs.Lists.{ListName}
+use Rattle.gltf_base.specs.Steps.{Step, item}
 use Rattle.gltf_schema.specs.Tree.{Tree, list, Trees, end, with_tree}
 use Rattle.gltf_schema.specs.Kind.{Kind}
-use Rattle.gltf_data.specs.Accessor.{accessor_kind}
-use Rattle.gltf_data.specs.Buffer.{buffer_kind, view_kind}
-use Rattle.gltf_data.specs.Image.{image_kind}
-use Rattle.gltf_textures.specs.Texture.{sampler_kind, texture_kind}
-use Rattle.gltf_materials.specs.Material.{material_kind}
-use Rattle.gltf_meshes.specs.Mesh.{mesh_kind}
-use Rattle.gltf_nodes.specs.Camera.{camera_kind}
-use Rattle.gltf_nodes.specs.Light.{light_kind, variant_kind}
-use Rattle.gltf_nodes.specs.Scene.{node_kind, scene_kind, skin_kind}
-use Rattle.gltf_animations.specs.Animation.{animation_kind}
+use Rattle.gltf_parts.specs.Accessor.{accessor_kind}
+use Rattle.gltf_parts.specs.Buffer.{buffer_kind, view_kind}
+use Rattle.gltf_parts.specs.Image.{image_kind}
+use Rattle.gltf_parts.specs.Texture.{sampler_kind, texture_kind}
+use Rattle.gltf_parts.specs.Material.{material_kind}
+use Rattle.gltf_scene.specs.Mesh.{mesh_kind}
+use Rattle.gltf_scene.specs.Camera.{camera_kind}
+use Rattle.gltf_scene.specs.Light.{light_kind, variant_kind}
+use Rattle.gltf_scene.specs.Scene.{node_kind, scene_kind, skin_kind}
+use Rattle.gltf_scene.specs.Animation.{animation_kind}
 use Rattle.gltf_root.specs.Lists.{list_in, list_way}
 use Rattle.gltf_root.specs.Named.{way_steps, with_reached}
 

@@ -1,18 +1,18 @@
 -- The rows of a whole document (glTF 2.0, section 5.17).
 use Rattle.std.specs.Prelude.{false, codes, [], ◌∷◌}
-use Rattle.gltf_paths.specs.Lists.{ListName}
+use Rattle.gltf_base.specs.Lists.{ListName}
 use Rattle.gltf_schema.specs.Tree.{list, end, Tree, Trees, trees, tree_or_absent}
 use Rattle.gltf_schema.specs.Kind.{required, optional, unless, Kind, IndexInto, Text, Any, ListOf, Object, Rows, no_rows, ◌◂◌, requires_enabled}
-use Rattle.gltf_data.specs.Accessor.{accessor_kind, accessor_members}
-use Rattle.gltf_data.specs.Buffer.{buffer_kind, view_kind, buffer_members, view_members}
-use Rattle.gltf_data.specs.Image.{image_kind, image_members}
-use Rattle.gltf_textures.specs.Texture.{sampler_kind, texture_kind, sampler_members, texture_members}
-use Rattle.gltf_materials.specs.Material.{material_kind, material_members}
-use Rattle.gltf_meshes.specs.Mesh.{mesh_kind, mesh_members}
-use Rattle.gltf_root.specs.Asset.{asset_kind, asset_members}
-use Rattle.gltf_nodes.specs.Camera.{camera_kind, camera_members}
-use Rattle.gltf_nodes.specs.Scene.{node_kind, scene_kind, skin_kind, node_members, scene_members, skin_members}
-use Rattle.gltf_animations.specs.Animation.{animation_kind, animation_members}
+use Rattle.gltf_parts.specs.Accessor.{accessor_kind, accessor_members}
+use Rattle.gltf_parts.specs.Buffer.{buffer_kind, view_kind, buffer_members, view_members}
+use Rattle.gltf_parts.specs.Image.{image_kind, image_members}
+use Rattle.gltf_parts.specs.Texture.{sampler_kind, texture_kind, sampler_members, texture_members}
+use Rattle.gltf_parts.specs.Material.{material_kind, material_members}
+use Rattle.gltf_scene.specs.Mesh.{mesh_kind, mesh_members}
+use Rattle.gltf_scene.specs.Asset.{asset_kind, asset_members}
+use Rattle.gltf_scene.specs.Camera.{camera_kind, camera_members}
+use Rattle.gltf_scene.specs.Scene.{node_kind, scene_kind, skin_kind, node_members, scene_members, skin_members}
+use Rattle.gltf_scene.specs.Animation.{animation_kind, animation_members}
 use Rattle.gltf_root.specs.RootExtension.{root_extensions_kind, root_extensions}
 use Rattle.gltf_schema.specs.Defaults.{defaults}
 use Rattle.gltf_schema.specs.Fields.{index_tree, text_tree, any_tree, list_tree, closed_object}

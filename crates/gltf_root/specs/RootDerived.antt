@@ -1,19 +1,19 @@
 -- Written by tools/derive.py from crates/gltf_root/specs/Root.antt and
 -- crates/gltf_root/src/root.rt. Do not edit.
-use Rattle.gltf_animations.specs.AnimationDerived.{animation_height, animation_sound}
-use Rattle.gltf_data.specs.AccessorDerived.{accessor_height, accessor_sound}
-use Rattle.gltf_data.specs.BufferDerived.{buffer_height, buffer_sound, view_height, view_sound}
-use Rattle.gltf_data.specs.ImageDerived.{image_height, image_sound}
-use Rattle.gltf_materials.specs.MaterialDerived.{material_height, material_sound}
-use Rattle.gltf_meshes.specs.MeshDerived.{mesh_height, mesh_sound}
-use Rattle.gltf_nodes.specs.CameraDerived.{camera_height, camera_sound}
-use Rattle.gltf_nodes.specs.SceneDerived.{node_height, node_sound, scene_height, scene_sound, skin_height, skin_sound}
-use Rattle.gltf_root.specs.AssetDerived.{asset_height, asset_sound}
+use Rattle.gltf_parts.specs.AccessorDerived.{accessor_height, accessor_sound}
+use Rattle.gltf_parts.specs.BufferDerived.{buffer_height, buffer_sound, view_height, view_sound}
+use Rattle.gltf_parts.specs.ImageDerived.{image_height, image_sound}
+use Rattle.gltf_parts.specs.MaterialDerived.{material_height, material_sound}
+use Rattle.gltf_parts.specs.TextureDerived.{sampler_height, sampler_sound, texture_height, texture_sound}
 use Rattle.gltf_root.specs.Root.{root_kind, root_rows}
 use Rattle.gltf_root.specs.RootExtensionDerived.{root_extension_height, root_extension_sound}
+use Rattle.gltf_scene.specs.AnimationDerived.{animation_height, animation_sound}
+use Rattle.gltf_scene.specs.AssetDerived.{asset_height, asset_sound}
+use Rattle.gltf_scene.specs.CameraDerived.{camera_height, camera_sound}
+use Rattle.gltf_scene.specs.MeshDerived.{mesh_height, mesh_sound}
+use Rattle.gltf_scene.specs.SceneDerived.{node_height, node_sound, scene_height, scene_sound, skin_height, skin_sound}
 use Rattle.gltf_schema.specs.Height.{IsHigh}
 use Rattle.gltf_schema.specs.Sound.{is_sound}
-use Rattle.gltf_textures.specs.TextureDerived.{sampler_height, sampler_sound, texture_height, texture_sound}
 use Rattle.std.specs.Prelude.{refl, true, ◌≡◌}
 
 pub root_sound : is_sound root_kind ≡ true

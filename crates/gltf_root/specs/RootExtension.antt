@@ -1,7 +1,7 @@
 -- The rows of the extensions of a whole document.
 use Rattle.std.specs.Prelude.{true, false, codes, [], ◌∷◌}
 use Rattle.gltf_schema.specs.Kind.{required, optional, Kind, ListOf, Object, Rows, no_rows, ◌◂◌, no_rule}
-use Rattle.gltf_nodes.specs.Light.{light_kind, variant_kind, light_members, variant_members}
+use Rattle.gltf_scene.specs.Light.{light_kind, variant_kind, light_members, variant_members}
 use Rattle.serde_json.specs.View.{members_view}
 use Rattle.gltf_schema.specs.Tree.{Tree, Trees, trees, tree_or_absent, object}
 use Rattle.gltf_schema.specs.Fields.{list_tree, closed_object}

@@ -1,7 +1,7 @@
 -- Written by tools/derive.py from crates/gltf_root/specs/RootExtension.antt and
 -- crates/gltf_root/src/extensions/root.rt. Do not edit.
-use Rattle.gltf_nodes.specs.LightDerived.{light_height, light_sound, variant_height, variant_sound}
 use Rattle.gltf_root.specs.RootExtension.{lights_kind, lights_rows, root_extension_rows, root_extensions_kind, variants_kind, variants_rows}
+use Rattle.gltf_scene.specs.LightDerived.{light_height, light_sound, variant_height, variant_sound}
 use Rattle.gltf_schema.specs.Height.{IsFlat, IsHigh}
 use Rattle.gltf_schema.specs.Sound.{is_sound}
 use Rattle.std.specs.Prelude.{refl, true, ◌≡◌}

@@ -1,7 +1,7 @@
 -- Which of the extension objects around a list a document has, and the document after the last push
 -- onto that list is taken back.
 use Rattle.std.specs.Prelude.{ℕ, List, if◌then◌else◌}
-use Rattle.gltf_paths.specs.Lists.{ListName}
+use Rattle.gltf_base.specs.Lists.{ListName}
 use Rattle.gltf_schema.specs.Tree.{Tree, Trees, absent, is_absent, end, with_tree}
 use Rattle.gltf_root.specs.Lists.{extensions_name, lights_name, variants_name, extensions_in, extension_in, list_in}
 use Rattle.gltf_root.specs.Named.{with_member}

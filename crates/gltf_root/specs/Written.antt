@@ -13,8 +13,8 @@ use Rattle.gltf_schema.specs.Outcome.{Withholds}
 use Rattle.gltf_schema.specs.Plain.{is_plain}
 use Rattle.gltf_schema.specs.Tree.{Tree}
 use Rattle.gltf_schema.specs.Write.{write}
-use Rattle.gltf_paths.specs.declared.error.Error.{Error}
-use Rattle.gltf_paths.specs.declared.error.Error.TheVariants as errors
+use Rattle.gltf_base.specs.declared.error.Error.{Error}
+use Rattle.gltf_base.specs.declared.error.Error.TheVariants as errors
 use Rattle.gltf_root.specs.Answer.{answer, document}
 use Rattle.gltf_root.specs.Root.{root_kind}
 

@@ -1,4 +1,3 @@
 //! Extension objects of a whole document and of its asset: the values of their member `extensions`.
 
-pub mod asset;
 pub mod root;

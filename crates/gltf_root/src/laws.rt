@@ -2,7 +2,7 @@
 //! that does nothing.
 
 ghost use Rattle.std.specs.Prelude.{◌≡◌};
-ghost use Rattle.gltf_paths.specs.Lists.{ListName};
+ghost use Rattle.gltf_base.specs.Lists.{ListName};
 ghost use Rattle.gltf_schema.specs.Tree.{Tree};
 ghost use Rattle.gltf_root.specs.Pushed.{pushed};
 ghost use Rattle.gltf_root.specs.Root.{root_tree};

@@ -2,7 +2,6 @@
 //! devices and written to them.
 #![tactic(auto)]
 
-pub mod asset;
 pub mod extensions;
 pub mod laws;
 pub mod root;

@@ -1,23 +1,23 @@
 //! Whole documents, and the lists in them.
 
 ghost use Rattle.std.specs.Prelude.{◌≡◌, IfOk, codes};
-ghost use Rattle.gltf_root.specs.Asset.{asset_of_version};
+ghost use Rattle.gltf_scene.specs.Asset.{asset_of_version};
 ghost use Rattle.gltf_root.specs.Root.{root_rows, root_members, root_of_asset};
 
-use crate::asset::Asset;
 use crate::extensions;
-use gltf_animations::animation::Animation;
 use gltf_base::Index;
-use gltf_data::accessor::Accessor;
-use gltf_data::buffer::{Buffer, View};
-use gltf_data::extras::Extras;
-use gltf_data::image::Image;
-use gltf_materials::material::Material;
-use gltf_meshes::mesh::Mesh;
-use gltf_nodes::camera::Camera;
-use gltf_nodes::scene::{Node, Scene};
-use gltf_nodes::skin::Skin;
-use gltf_textures::texture::{self, Texture};
+use gltf_parts::accessor::Accessor;
+use gltf_parts::buffer::{Buffer, View};
+use gltf_parts::extras::Extras;
+use gltf_parts::image::Image;
+use gltf_parts::material::Material;
+use gltf_parts::texture::{self, Texture};
+use gltf_scene::animation::Animation;
+use gltf_scene::asset::Asset;
+use gltf_scene::camera::Camera;
+use gltf_scene::mesh::Mesh;
+use gltf_scene::scene::{Node, Scene};
+use gltf_scene::skin::Skin;
 use std::alloc::{AllocError, Global};
 
 mod derived;

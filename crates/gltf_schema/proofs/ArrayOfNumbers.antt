@@ -6,10 +6,10 @@ use Rattle.std.specs.Result.{IsErrAnd, MatchResult}
 use Rattle.serde_json.specs.Data.{Num, unsigned, array, Items, no_items, item}
 use Rattle.serde_json.specs.Data as json
 use Rattle.serde_json.specs.Find.{as_number}
-use Rattle.gltf_paths.specs.Reals.{real_number}
-use Rattle.gltf_paths.specs.declared.real.Real.{Real}
-use Rattle.gltf_paths.specs.declared.error.Error.{Error}
-use Rattle.gltf_paths.specs.declared.error.Error.TheVariants as errors
+use Rattle.gltf_base.specs.Reals.{real_number}
+use Rattle.gltf_base.specs.declared.real.Real.{Real}
+use Rattle.gltf_base.specs.declared.error.Error.{Error}
+use Rattle.gltf_base.specs.declared.error.Error.TheVariants as errors
 use Rattle.gltf_schema.specs.Write.{write, write_items, number_items}
 use Rattle.gltf_schema.specs.Invalid.{any_holds_invalid}
 use Rattle.gltf_schema.specs.Outcome.{Reads, Refuses, Withholds}

@@ -7,9 +7,9 @@ use Rattle.std.specs.Cmp.{IsTotalOrder, alike_right, tied_itself, on_total}
 use Rattle.std.specs.Cmp.Lexicographic.{slice_cmp, nat_list_cmp_total}
 use Rattle.std.specs.Ordering.{match_ordering, ordering_then, ordering_reverse, on, is_lt}
 use Rattle.serde_json.specs.Data.{Data, number, unsigned, Members, no_members, member, put}
-use Rattle.gltf_checked.specs.Keys.{Key, extras, positions, normals, tangents, colors, tex_coords, joints, weights, unknown, key_text, key_cmp}
-use Rattle.gltf_checked.specs.Names.{key_named, is_named}
-use Rattle.gltf_checked.proofs.KeyLemmas.{key_named-key_text}
+use Rattle.gltf_base.specs.Keys.{Key, extras, positions, normals, tangents, colors, tex_coords, joints, weights, unknown, key_text, key_cmp}
+use Rattle.gltf_base.specs.Names.{key_named, is_named}
+use Rattle.gltf_base.proofs.KeyLemmas.{key_named-key_text}
 use Rattle.gltf_schema.specs.Maybe.{◌>>=◌}
 use Rattle.gltf_schema.specs.Read.{read_entries, small_number}
 use Rattle.gltf_schema.specs.Write.{write_entries, are_in_order, key_name, small_data}

@@ -8,8 +8,8 @@ use Rattle.std.specs.Str.Parse.{digits_value, without_leading_plus}
 use Rattle.std.specs.BTreeMap.{insert_entry}
 use Rattle.std.specs.Ordering.{match_ordering, ordering_reverse, is_lt}
 use Rattle.serde_json.specs.Data.{Data, Members, no_members, member}
-use Rattle.gltf_checked.specs.Keys.{Key, extras, colors, tex_coords, joints, weights, unknown, key_cmp}
-use Rattle.gltf_checked.specs.Names.{behind, set_number, set_or, plain_key, key_named, is_named}
+use Rattle.gltf_base.specs.Keys.{Key, extras, colors, tex_coords, joints, weights, unknown, key_cmp}
+use Rattle.gltf_base.specs.Names.{behind, set_number, set_or, plain_key, key_named, is_named}
 use Rattle.gltf_schema.specs.Read.{read_entries, small_number, whole_number}
 use Rattle.gltf_schema.specs.Write.{write_entries, are_in_order}
 use Rattle.gltf_schema.specs.Invalid.{is_unknown, any_unknown}

@@ -1,9 +1,9 @@
 -- An item of a choice, and the tree of its spelling.
 use Rattle.std.proofs.Common.{◌≡◌, Bool, true, false, cond, ◌||◌, List, [], ◌∷◌, map, refl, ap}
 use Rattle.std.specs.List.{list_any}
-use Rattle.gltf_checked.specs.Spelling.{Spelling, is_spelled, item_spelled}
-use Rattle.gltf_checked.specs.declared.validation.Checked.TheVariants.{Valid}
-use Rattle.gltf_checked.proofs.ItemLemmas.{same_spelling}
+use Rattle.gltf_base.specs.Spelling.{Spelling, is_spelled, item_spelled}
+use Rattle.gltf_base.specs.declared.validation.Checked.TheVariants.{Valid}
+use Rattle.gltf_base.proofs.ItemLemmas.{same_spelling}
 use Rattle.gltf_schema.specs.Tree.{chosen, invalid}
 use Rattle.gltf_schema.specs.Read.{choice_among}
 use Rattle.gltf_schema.specs.Leaves.{checked_tree}

@@ -5,8 +5,8 @@ use Rattle.std.specs.BTreeMap.{insert_entry}
 use Rattle.std.specs.List.Sorted.{IsStrictlySortedBy}
 use Rattle.std.specs.Ordering.{match_ordering, is_lt}
 use Rattle.serde_json.specs.Data.{Data, Members, member}
-use Rattle.gltf_checked.specs.Keys.{Key, key_cmp}
-use Rattle.gltf_checked.specs.Names.{key_named}
+use Rattle.gltf_base.specs.Keys.{Key, key_cmp}
+use Rattle.gltf_base.specs.Names.{key_named}
 use Rattle.gltf_schema.specs.Tree.{Tree, index}
 use Rattle.gltf_schema.specs.Read.{read_entries, small_number}
 use Rattle.gltf_schema.specs.Write.{are_in_order}

@@ -1,7 +1,7 @@
 -- Items read in turn.
 use Rattle.std.proofs.Common.{◌≡◌, ℕ, suc, List, [], ◌∷◌, ◌++◌, Option, Some, None, option_map, refl, ap, ◌∙◌}
 use Rattle.serde_json.specs.Data.{Data, Items, no_items, item}
-use Rattle.gltf_paths.specs.declared.error.Error.{Error}
+use Rattle.gltf_base.specs.declared.error.Error.{Error}
 use Rattle.gltf_schema.specs.Tree.{Tree, end, with_tree, trees}
 use Rattle.gltf_schema.specs.Read.{read_items}
 use Rattle.gltf_schema.specs.Outcome.{Refuses}

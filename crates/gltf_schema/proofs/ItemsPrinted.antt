@@ -4,7 +4,7 @@ use Rattle.std.proofs.lemmas.Bool.{or_left, or_right}
 use Rattle.json.specs.Token.{Token, begin_array, end_array}
 use Rattle.serde_json.specs.Data.{Data, array, Items, no_items, item}
 use Rattle.serde_json.specs.Written.{WritesValue, WritesItems}
-use Rattle.gltf_paths.specs.declared.error.Error.{Error}
+use Rattle.gltf_base.specs.declared.error.Error.{Error}
 use Rattle.gltf_schema.specs.Invalid.{holds_invalid, any_holds_invalid}
 use Rattle.gltf_schema.specs.Outcome.{Withholds}
 use Rattle.gltf_schema.specs.Printings.{Printed, GoesOn, PrintsToken, PrintsValue}

@@ -6,9 +6,9 @@ use Rattle.std.specs.Map.{lookup}
 use Rattle.std.specs.Option.{option_or}
 use Rattle.std.specs.Ordering.{is_eq, match_ordering}
 use Rattle.serde_json.specs.Data.{Members, no_members, member, object}
-use Rattle.gltf_paths.specs.Lists.{ListName}
-use Rattle.gltf_checked.specs.Keys.{Key, key_cmp}
-use Rattle.gltf_checked.specs.Names.{key_named}
+use Rattle.gltf_base.specs.Lists.{ListName}
+use Rattle.gltf_base.specs.Keys.{Key, key_cmp}
+use Rattle.gltf_base.specs.Names.{key_named}
 use Rattle.gltf_schema.specs.Attributes.{index_at, last_index}
 use Rattle.gltf_schema.specs.Kind.{Attributes}
 use Rattle.gltf_schema.specs.Maybe.{◌>>=◌}

@@ -6,7 +6,7 @@ use Rattle.json.specs.Token.{begin_object, end_object}
 use Rattle.serde_json.specs.Data.{object, Members, no_members}
 use Rattle.serde_json.specs.Written.{WritesValue}
 use Rattle.serde_json.specs.Written as written
-use Rattle.gltf_paths.specs.declared.error.Error.{Error}
+use Rattle.gltf_base.specs.declared.error.Error.{Error}
 use Rattle.gltf_schema.specs.ByName.{by_name, trees_by_name}
 use Rattle.gltf_schema.specs.Kind.{Rows}
 use Rattle.gltf_schema.specs.Outcome.{Withholds}

@@ -2,7 +2,7 @@
 use Rattle.std.proofs.Common.{◌≡◌, ℕ, List, [], ◌∷◌, Option, Some, None, refl, sym, ap, ◌∙◌, subst}
 use Rattle.serde_json.specs.Data.{Data}
 use Rattle.serde_json.specs.Find.{get_member, as_array, as_object}
-use Rattle.gltf_paths.specs.Steps.{Step, field, item, key, value}
+use Rattle.gltf_base.specs.Steps.{Step, field, item, key, value}
 use Rattle.gltf_schema.specs.Maybe.{◌>>=◌}
 use Rattle.gltf_schema.specs.Kind.{Kind, IndexInto, Number, Numbers, Attributes, ListOf, Object}
 use Rattle.gltf_schema.specs.Refused.{refused_row, refused_item, refused_entry, IsMissingOr, IsRefusedAt}

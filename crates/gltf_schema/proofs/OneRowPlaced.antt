@@ -3,7 +3,7 @@
 use Rattle.std.proofs.Common.{◌≡◌, ℕ, List, [], ◌∷◌, Option, Some, None, option_map, Result, Ok, Err, refl, ◌∙◌}
 use Rattle.serde_json.specs.Data.{Data, Members}
 use Rattle.serde_json.specs.Find.{get_member}
-use Rattle.gltf_paths.specs.Steps.{Step, field}
+use Rattle.gltf_base.specs.Steps.{Step, field}
 use Rattle.gltf_schema.specs.Tree.{Tree, tree_or_absent}
 use Rattle.gltf_schema.specs.Kind.{Mark, required, Kind}
 use Rattle.gltf_schema.specs.Read.{read, read_member}

@@ -6,10 +6,10 @@ use Rattle.std.specs.BTreeMap.{insert_entry}
 use Rattle.serde_json.specs.Data as json
 use Rattle.serde_json.specs.Data.{Data, Items, Members, no_members}
 use Rattle.serde_json.specs.Find.{get_member, as_array, as_object}
-use Rattle.gltf_checked.specs.Keys.{Key, key_cmp}
-use Rattle.gltf_checked.specs.Names.{key_named}
-use Rattle.gltf_paths.specs.Lists.{ListName}
-use Rattle.gltf_paths.specs.Steps.{Step, field, item, key, value}
+use Rattle.gltf_base.specs.Keys.{Key, key_cmp}
+use Rattle.gltf_base.specs.Names.{key_named}
+use Rattle.gltf_base.specs.Lists.{ListName}
+use Rattle.gltf_base.specs.Steps.{Step, field, item, key, value}
 use Rattle.gltf_schema.specs.Maybe.{◌>>=◌}
 use Rattle.gltf_schema.specs.Tree.{Tree, index, numbers, attributes, object, list, Trees, end, with_tree}
 use Rattle.gltf_schema.specs.Kind.{Mark, Kind, IndexInto, Number, Numbers, Attributes, ListOf, Object, Rows, no_rows, row, has_row, Rule}

@@ -7,10 +7,10 @@ use Rattle.std.proofs.Common.{◌≡◌, ℕ, zero, suc, drop, Bool, true, false
 use Rattle.serde_json.specs.Data as json
 use Rattle.serde_json.specs.Data.{Data, Members, put}
 use Rattle.serde_json.specs.View.{items_of, view, members_view}
-use Rattle.gltf_checked.specs.Keys.{Key, key_text}
-use Rattle.gltf_checked.specs.Names.{is_named}
-use Rattle.gltf_paths.specs.declared.error.Error.{Error}
-use Rattle.gltf_paths.specs.declared.error.Error.TheVariants as errors
+use Rattle.gltf_base.specs.Keys.{Key, key_text}
+use Rattle.gltf_base.specs.Names.{is_named}
+use Rattle.gltf_base.specs.declared.error.Error.{Error}
+use Rattle.gltf_base.specs.declared.error.Error.TheVariants as errors
 use Rattle.gltf_schema.specs.Maybe.{◌>>=◌}
 use Rattle.gltf_schema.specs.Outcome.{Withholds}
 use Rattle.gltf_schema.specs.Invalid.{is_unknown, any_unknown, holds_invalid, any_holds_invalid}

@@ -5,10 +5,10 @@ use Rattle.std.proofs.lemmas.Option.{same_Some}
 use Rattle.serde_json.specs.Data.{Num, Data, null, boolean, number, string, array, object as json_object, Items, item, Members, no_members, put}
 use Rattle.serde_json.specs.Find.{get_member, as_null}
 use Rattle.serde_json.proofs.Views.{get_member-put, get_member-put_other}
-use Rattle.gltf_checked.specs.Spelling.{Spelling, by_number, by_name}
-use Rattle.gltf_checked.specs.declared.choice.Form.{Form}
-use Rattle.gltf_checked.specs.declared.choice.Form.TheVariants as form
-use Rattle.gltf_checked.proofs.ItemLemmas.{same_spelling}
+use Rattle.gltf_base.specs.Spelling.{Spelling, by_number, by_name}
+use Rattle.gltf_base.specs.declared.choice.Form.{Form}
+use Rattle.gltf_base.specs.declared.choice.Form.TheVariants as form
+use Rattle.gltf_base.proofs.ItemLemmas.{same_spelling}
 use Rattle.gltf_schema.specs.Tree as tree
 use Rattle.gltf_schema.specs.Tree.{Tree, Trees, end, with_tree, is_absent}
 use Rattle.gltf_schema.specs.Kind.{Mark, required, optional, always, unless, sometimes, or_null, Kind, IndexInto, SourceImage, ChannelSampler, U32, U64, Stride, Number, Numbers, Text, Truth, Any, Choice, Attributes, ListOf, Object, Rows, no_rows, row, has_row}

@@ -4,10 +4,10 @@ use Rattle.std.proofs.lemmas.Bool.{and_from}
 use Rattle.std.specs.List.{list_any}
 use Rattle.serde_json.specs.Data.{Num, Data, null, boolean, number, string, array, object as json_object, Items, no_items, item, Members, no_members, member}
 use Rattle.serde_json.specs.Find.{get_member, as_null, as_bool, as_number, as_str, as_array, as_object}
-use Rattle.gltf_checked.specs.Spelling.{Spelling, by_number, by_name, is_spelled}
-use Rattle.gltf_checked.specs.declared.choice.Form.{Form}
-use Rattle.gltf_checked.specs.declared.choice.Form.TheVariants as form
-use Rattle.gltf_paths.specs.declared.error.Error.{Error}
+use Rattle.gltf_base.specs.Spelling.{Spelling, by_number, by_name, is_spelled}
+use Rattle.gltf_base.specs.declared.choice.Form.{Form}
+use Rattle.gltf_base.specs.declared.choice.Form.TheVariants as form
+use Rattle.gltf_base.specs.declared.error.Error.{Error}
 use Rattle.gltf_schema.specs.Outcome.{Reads}
 use Rattle.gltf_schema.specs.Maybe.{◌>>=◌}
 use Rattle.gltf_schema.specs.Tree as tree

@@ -5,10 +5,10 @@ use Rattle.std.proofs.lemmas.Option.{same_Some}
 use Rattle.std.specs.List.{list_any}
 use Rattle.serde_json.specs.Data.{Data, array, object as json_object, Items, no_items, item, Members, no_members, put}
 use Rattle.serde_json.specs.Find.{get_member, as_null, as_bool, as_number, as_str, as_array, as_object}
-use Rattle.gltf_checked.specs.Keys.{Key, unknown}
-use Rattle.gltf_checked.specs.Spelling.{Spelling, is_spelled}
-use Rattle.gltf_checked.specs.declared.choice.Form.{Form}
-use Rattle.gltf_checked.specs.Names.{is_named}
+use Rattle.gltf_base.specs.Keys.{Key, unknown}
+use Rattle.gltf_base.specs.Spelling.{Spelling, is_spelled}
+use Rattle.gltf_base.specs.declared.choice.Form.{Form}
+use Rattle.gltf_base.specs.Names.{is_named}
 use Rattle.gltf_schema.specs.Maybe.{◌>>=◌}
 use Rattle.gltf_schema.specs.Tree as tree
 use Rattle.gltf_schema.specs.Tree.{Tree, Trees, end, with_tree}

@@ -2,12 +2,12 @@
 -- state that goes on or stays failed.
 use Rattle.std.proofs.Common.{◌≡◌, ℕ, List, Option, Some, None, Bool, true, false, Result, Ok, Err, refl, sym, ap, subst}
 use Rattle.serde_json.specs.Data.{Members, no_members}
-use Rattle.gltf_paths.specs.declared.error.Error.{Error}
-use Rattle.gltf_paths.specs.declared.error.Error.TheVariants as errors
+use Rattle.gltf_base.specs.declared.error.Error.{Error}
+use Rattle.gltf_base.specs.declared.error.Error.TheVariants as errors
 use Rattle.gltf_schema.specs.Outcome.{Reads, Refuses}
 use Rattle.gltf_schema.specs.Maybe.{◌>>=◌}
 use Rattle.gltf_schema.specs.Tree.{Tree, whole, index, Trees, end, with_tree}
-use Rattle.gltf_paths.specs.Lists.{images}
+use Rattle.gltf_base.specs.Lists.{images}
 use Rattle.gltf_schema.specs.Kind.{Mark, required, Kind, IndexInto, SourceImage, ChannelSampler, U32, Rows, no_rows, row}
 use Rattle.gltf_schema.specs.Read.{left}
 use Rattle.gltf_schema.specs.Taken.{take_member, take_rows, take_all}

@@ -1,7 +1,7 @@
 -- A row written as a row of another mark is: steps of rows, whatever is added and to what state.
 use Rattle.std.proofs.Common.{◌≡◌, ℕ, nat_eq, true, false, List, [], ◌∷◌, length, map, Result, Ok, Err, refl, subst, true≢false}
 use Rattle.serde_json.specs.Data.{Data, null}
-use Rattle.gltf_paths.specs.declared.error.Error.{Error}
+use Rattle.gltf_base.specs.declared.error.Error.{Error}
 use Rattle.gltf_schema.specs.ByName.{row_data}
 use Rattle.gltf_schema.specs.Invalid.{holds_invalid}
 use Rattle.gltf_schema.specs.Kind.{Mark, required, optional, always, unless, sometimes, or_null, Kind, Any}

@@ -6,7 +6,7 @@ use Rattle.json.specs.Token.{Token, begin_object, end_object}
 use Rattle.serde_json.specs.Data.{Data, object, Members, no_members, member, put}
 use Rattle.serde_json.specs.Written.{WritesValue}
 use Rattle.serde_json.specs.Written as written
-use Rattle.gltf_paths.specs.declared.error.Error.{Error}
+use Rattle.gltf_base.specs.declared.error.Error.{Error}
 use Rattle.gltf_schema.specs.ByName.{by_name, trees_by_name, row_data, row_members}
 use Rattle.gltf_schema.specs.Invalid.{holds_invalid, any_holds_invalid}
 use Rattle.gltf_schema.specs.Kind.{Mark, Kind, Rows, no_rows, row}

@@ -5,8 +5,8 @@ use Rattle.serde_json.specs.View.{members_view}
 use Rattle.std.specs.BTreeMap.{BTreeMap}
 use Rattle.std.specs.declared.alloc.Global.{Global}
 use Rattle.serde_json.specs.declared.value.Value.{Value}
-use Rattle.gltf_paths.specs.declared.error.Error.{Error}
-use Rattle.gltf_paths.specs.declared.error.Error.TheVariants as errors
+use Rattle.gltf_base.specs.declared.error.Error.{Error}
+use Rattle.gltf_base.specs.declared.error.Error.TheVariants as errors
 use Rattle.gltf_schema.specs.Outcome.{Writes, Withholds}
 use Rattle.gltf_schema.specs.Tree.{Tree, Trees, end, with_tree}
 use Rattle.gltf_schema.specs.Kind.{Mark, Kind, Rows, no_rows, row}

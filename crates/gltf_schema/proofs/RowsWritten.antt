@@ -7,8 +7,8 @@ use Rattle.serde_json.specs.View.{view, members_view}
 use Rattle.serde_json.specs.declared.value.Value.{Value}
 use Rattle.serde_json.specs.declared.value.Value.TheVariants as values
 use Rattle.serde_json.proofs.Views.{view-Object}
-use Rattle.gltf_paths.specs.declared.error.Error.{Error}
-use Rattle.gltf_paths.specs.Lists.{images}
+use Rattle.gltf_base.specs.declared.error.Error.{Error}
+use Rattle.gltf_base.specs.Lists.{images}
 use Rattle.gltf_schema.specs.Tree.{Tree, whole, index, Trees, end, with_tree}
 use Rattle.gltf_schema.specs.Kind.{Mark, required, unless, Kind, IndexInto, SourceImage, ChannelSampler, U32, Rows, no_rows, row}
 use Rattle.gltf_schema.specs.Rowwise.{RowOnto, WritesRow, RowsOnto, BeginsWith, WritesMembers}

@@ -4,8 +4,8 @@ use Rattle.std.specs.BTreeMap.{is_at}
 use Rattle.std.specs.Map.{lookup}
 use Rattle.std.specs.Option.{option_or}
 use Rattle.serde_json.specs.Data.{Members, no_members, member}
-use Rattle.gltf_checked.specs.Keys.{Key, key_cmp}
-use Rattle.gltf_checked.specs.Names.{key_named}
+use Rattle.gltf_base.specs.Keys.{Key, key_cmp}
+use Rattle.gltf_base.specs.Names.{key_named}
 use Rattle.gltf_schema.specs.Read.{small_number}
 
 -- the index under a key, if there is one

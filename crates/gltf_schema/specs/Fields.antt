@@ -5,15 +5,15 @@ use Rattle.std.specs.BTreeMap.{BTreeMap}
 use Rattle.serde_json.specs.Data.{no_members}
 use Rattle.serde_json.specs.View.{view, members_view}
 use Rattle.serde_json.specs.declared.value.Value.{Value}
-use Rattle.gltf_checked.specs.Keys.{Key}
-use Rattle.gltf_checked.specs.Semantics.{checked_key}
-use Rattle.gltf_checked.specs.declared.mesh.Semantic.{Semantic}
-use Rattle.gltf_checked.specs.declared.validation.Checked.{Checked}
-use Rattle.gltf_paths.specs.Indexes.{index_number}
-use Rattle.gltf_paths.specs.Reals.{real_number}
-use Rattle.gltf_paths.specs.declared.index.IndexTo.{IndexTo}
-use Rattle.gltf_paths.specs.declared.real.Real.{Real}
-use Rattle.gltf_paths.specs.declared.validation.USize64.{USize64}
+use Rattle.gltf_base.specs.Keys.{Key}
+use Rattle.gltf_base.specs.Semantics.{checked_key}
+use Rattle.gltf_base.specs.declared.mesh.Semantic.{Semantic}
+use Rattle.gltf_base.specs.declared.validation.Checked.{Checked}
+use Rattle.gltf_base.specs.Indexes.{index_number}
+use Rattle.gltf_base.specs.Reals.{real_number}
+use Rattle.gltf_base.specs.declared.index.IndexTo.{IndexTo}
+use Rattle.gltf_base.specs.declared.real.Real.{Real}
+use Rattle.gltf_base.specs.declared.validation.USize64.{USize64}
 use Rattle.gltf_schema.specs.declared.unlisted.KeptExtensions.{KeptExtensions}
 use Rattle.gltf_schema.specs.declared.unlisted.DroppedExtensions.{DroppedExtensions}
 use Rattle.gltf_schema.specs.Tree.{Tree, Trees, end, trees, whole, number, numbers, text, any, index, list, attributes, object}

@@ -2,8 +2,8 @@
 use Rattle.std.specs.Prelude.{List, map, Option, Some, None}
 use Rattle.std.specs.Float.{Float}
 use Rattle.serde_json.specs.Find.{to_float}
-use Rattle.gltf_paths.specs.Reals.{real_number}
-use Rattle.gltf_paths.specs.declared.real.Real.{Real}
+use Rattle.gltf_base.specs.Reals.{real_number}
+use Rattle.gltf_base.specs.declared.real.Real.{Real}
 
 -- the nearest float
 abbrev pub real_float : Real → Float

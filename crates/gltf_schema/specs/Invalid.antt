@@ -1,7 +1,7 @@
 -- Trees in which something is invalid.
 use Rattle.std.specs.Prelude.{ℕ, List, Bool, true, false, ◌||◌}
 use Rattle.std.specs.List.{list_any}
-use Rattle.gltf_checked.specs.Keys.{Key, unknown}
+use Rattle.gltf_base.specs.Keys.{Key, unknown}
 use Rattle.gltf_schema.specs.Tree.{Tree, invalid, list, attributes, object, Trees, end, with_tree}
 
 -- a key that means nothing

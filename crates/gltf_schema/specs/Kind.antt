@@ -1,9 +1,9 @@
 -- The legend of the table: what a member may be, and when it is written.
 use Rattle.std.specs.Prelude.{ℕ, List, Bool, false, ◌||◌}
 use Rattle.std.specs.Str.{bytes_eq}
-use Rattle.gltf_paths.specs.Lists.{ListName}
-use Rattle.gltf_checked.specs.Spelling.{Spelling}
-use Rattle.gltf_checked.specs.declared.choice.Form.{Form}
+use Rattle.gltf_base.specs.Lists.{ListName}
+use Rattle.gltf_base.specs.Spelling.{Spelling}
+use Rattle.gltf_base.specs.declared.choice.Form.{Form}
 use Rattle.gltf_schema.specs.Tree.{Tree}
 
 -- what is asked of an object beside the kinds of its members; most objects have no rule

@@ -2,10 +2,10 @@
 use Rattle.std.specs.Prelude.{◌≡◌, Bool, false, is_none, refl, List, map}
 use Rattle.serde_json.specs.Data.{Data}
 use Rattle.serde_json.specs.Find.{as_object}
-use Rattle.gltf_checked.specs.Spelling.{Spelling}
-use Rattle.gltf_checked.specs.declared.choice.Form.{Form}
-use Rattle.gltf_checked.specs.declared.validation.Checked.{Checked}
-use Rattle.gltf_checked.specs.declared.validation.Checked.TheVariants.{Valid, Invalid}
+use Rattle.gltf_base.specs.Spelling.{Spelling}
+use Rattle.gltf_base.specs.declared.choice.Form.{Form}
+use Rattle.gltf_base.specs.declared.validation.Checked.{Checked}
+use Rattle.gltf_base.specs.declared.validation.Checked.TheVariants.{Valid, Invalid}
 use Rattle.gltf_schema.specs.Tree.{Tree, chosen, invalid, is_absent}
 use Rattle.gltf_schema.specs.Kind.{Kind, Choice, Attributes, Object}
 

@@ -1,10 +1,10 @@
 -- Trees that are of a kind of the table.
 use Rattle.std.specs.Prelude.{ℕ, ◌^◌, ◌==◌, nat_lt, length, Bool, true, false, ◌&&◌, ◌||◌}
 use Rattle.std.specs.List.{list_all}
-use Rattle.gltf_checked.specs.Keys.{Key}
+use Rattle.gltf_base.specs.Keys.{Key}
 use Rattle.gltf_schema.specs.Tree.{Tree, whole, number, numbers, text, truth, any, chosen, invalid, index, list, attributes, object, Trees, end, with_tree, is_absent}
 use Rattle.gltf_schema.specs.Kind.{Mark, optional, sometimes, or_null, Kind, IndexInto, SourceImage, ChannelSampler, U32, U64, Stride, Number, Numbers, Text, Truth, Any, Choice, Attributes, ListOf, Object, Rows, no_rows, row}
-use Rattle.gltf_checked.specs.Names.{is_named}
+use Rattle.gltf_base.specs.Names.{is_named}
 use Rattle.gltf_schema.specs.Write.{are_in_order}
 use Rattle.gltf_schema.specs.Plain.{is_of_form, are_none, all_trees}
 use Rattle.gltf_schema.specs.Invalid.{is_unknown}

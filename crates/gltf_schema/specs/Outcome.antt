@@ -1,7 +1,7 @@
 -- The results of calls that read or write; each may also fail with `Memory`.
 use Rattle.std.specs.Prelude.{◌≡◌, Bool, true, Option, Some, None, Result, Ok, Err, List, [], ◌∷◌, ◌++◌, ⊤}
-use Rattle.gltf_paths.specs.declared.error.Error.{Error}
-use Rattle.gltf_paths.specs.declared.error.Error.TheVariants as errors
+use Rattle.gltf_base.specs.declared.error.Error.{Error}
+use Rattle.gltf_base.specs.declared.error.Error.TheVariants as errors
 
 -- only what reads nothing is refused, and as no glTF
 abbrev pub Refuses : {Y : Type 0} → Error → Option Y → Type 0

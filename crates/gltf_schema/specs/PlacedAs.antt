@@ -3,8 +3,8 @@
 use Rattle.std.proofs.Common.{◌≡◌, ℕ, List, [], ◌∷◌, Option, Some, None, option_map, Ok, Err, refl, ap, ◌∙◌}
 use Rattle.serde_json.specs.Data.{Data, Members}
 use Rattle.serde_json.specs.Find.{get_member}
-use Rattle.gltf_paths.specs.Lists.{images}
-use Rattle.gltf_paths.specs.Steps.{Step, field, item, key, value}
+use Rattle.gltf_base.specs.Lists.{images}
+use Rattle.gltf_base.specs.Steps.{Step, field, item, key, value}
 use Rattle.gltf_schema.specs.Tree.{whole, index}
 use Rattle.gltf_schema.specs.Kind.{Mark, required, IndexInto, ChannelSampler, SourceImage, U32}
 use Rattle.gltf_schema.specs.Read.{read, read_member, small_number}

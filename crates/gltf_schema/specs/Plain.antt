@@ -3,9 +3,9 @@
 use Rattle.std.specs.Prelude.{Bool, true, false, not, ◌&&◌, ◌||◌}
 use Rattle.std.specs.List.{list_any}
 use Rattle.serde_json.specs.Data.{null, Members, no_members, member}
-use Rattle.gltf_checked.specs.Spelling.{Spelling, by_number, by_name, is_spelled}
-use Rattle.gltf_checked.specs.declared.choice.Form.{Form}
-use Rattle.gltf_checked.specs.declared.choice.Form.TheVariants as form
+use Rattle.gltf_base.specs.Spelling.{Spelling, by_number, by_name, is_spelled}
+use Rattle.gltf_base.specs.declared.choice.Form.{Form}
+use Rattle.gltf_base.specs.declared.choice.Form.TheVariants as form
 use Rattle.gltf_schema.specs.Tree.{Tree, any, chosen, list, object, Trees, end, with_tree}
 use Rattle.gltf_schema.specs.Kind.{Mark, optional, or_null, Kind, Choice, ListOf, Object, Rows, row, has_row}
 

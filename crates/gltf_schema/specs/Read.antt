@@ -4,11 +4,11 @@ use Rattle.std.specs.List.{list_any}
 use Rattle.std.specs.BTreeMap.{insert_entry}
 use Rattle.serde_json.specs.Data.{Num, Data, Items, no_items, item, Members, no_members, member}
 use Rattle.serde_json.specs.Find.{get_member, as_null, as_bool, as_number, as_str, as_array, as_object, as_u64}
-use Rattle.gltf_checked.specs.Keys.{Key, key_cmp}
-use Rattle.gltf_checked.specs.Names.{key_named}
-use Rattle.gltf_checked.specs.Spelling.{Spelling, by_number, by_name, is_spelled}
-use Rattle.gltf_checked.specs.declared.choice.Form.{Form}
-use Rattle.gltf_checked.specs.declared.choice.Form.TheVariants as form
+use Rattle.gltf_base.specs.Keys.{Key, key_cmp}
+use Rattle.gltf_base.specs.Names.{key_named}
+use Rattle.gltf_base.specs.Spelling.{Spelling, by_number, by_name, is_spelled}
+use Rattle.gltf_base.specs.declared.choice.Form.{Form}
+use Rattle.gltf_base.specs.declared.choice.Form.TheVariants as form
 use Rattle.gltf_schema.specs.Maybe.{◌>>=◌}
 use Rattle.gltf_schema.specs.Tree.{Tree, absent, whole, number, numbers, text, truth, any, chosen, invalid, index, list, attributes, object, Trees, end, with_tree}
 use Rattle.gltf_schema.specs.Kind.{Mark, required, optional, always, unless, sometimes, or_null, Kind, IndexInto, SourceImage, ChannelSampler, U32, U64, Stride, Number, Numbers, Text, Truth, Any, Choice, Attributes, ListOf, Object, Rows, no_rows, row, has_row}

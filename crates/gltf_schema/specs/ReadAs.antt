@@ -2,8 +2,8 @@
 use Rattle.std.proofs.Common.{◌≡◌, ℕ, List, Option, Some, None, option_map, Ok, Err, refl, ap, ◌∙◌}
 use Rattle.serde_json.specs.Data.{Data, Members}
 use Rattle.serde_json.specs.Find.{get_member}
-use Rattle.gltf_paths.specs.declared.error.Error.{Error}
-use Rattle.gltf_paths.specs.declared.error.Error.TheVariants as errors
+use Rattle.gltf_base.specs.declared.error.Error.{Error}
+use Rattle.gltf_base.specs.declared.error.Error.TheVariants as errors
 use Rattle.gltf_schema.specs.Outcome.{Refuses}
 use Rattle.gltf_schema.specs.Tree.{Tree, whole, index}
 use Rattle.gltf_schema.specs.Kind.{required, ChannelSampler, U32}

@@ -3,8 +3,8 @@
 use Rattle.std.specs.Prelude.{◌≡◌, ℕ, List, Bool, true, false, Option, Some, None, option_map, Result, Ok, Err}
 use Rattle.serde_json.specs.Data.{Data, Members, no_members}
 use Rattle.serde_json.specs.Find.{get_member}
-use Rattle.gltf_paths.specs.Lists.{images}
-use Rattle.gltf_paths.specs.declared.error.Error.{Error}
+use Rattle.gltf_base.specs.Lists.{images}
+use Rattle.gltf_base.specs.declared.error.Error.{Error}
 use Rattle.gltf_schema.specs.Outcome.{Reads, Refuses}
 use Rattle.gltf_schema.specs.Tree.{Tree, whole, index, Trees, end, with_tree}
 use Rattle.gltf_schema.specs.Kind.{Mark, required, Kind, IndexInto, SourceImage, ChannelSampler, U32, Rows, no_rows, row}

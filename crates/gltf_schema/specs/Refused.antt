@@ -3,7 +3,7 @@ use Rattle.std.specs.Prelude.{◌≡◌, ℕ, suc, List, [], ◌∷◌, Option, 
 use Rattle.serde_json.specs.Data as json
 use Rattle.serde_json.specs.Data.{Data, Items, Members}
 use Rattle.serde_json.specs.Find.{get_member, as_array, as_object}
-use Rattle.gltf_paths.specs.Steps.{Step, field, item}
+use Rattle.gltf_base.specs.Steps.{Step, field, item}
 use Rattle.gltf_schema.specs.Maybe.{◌>>=◌}
 use Rattle.gltf_schema.specs.Kind.{Kind, IndexInto, Number, Numbers, Attributes, ListOf, Object, Rows, no_rows, row}
 use Rattle.gltf_schema.specs.Read.{read, read_member}

@@ -2,7 +2,7 @@
 -- definition stays folded in a record, which keeps an object's chain of rows from being computed.
 use Rattle.std.specs.Prelude.{◌≡◌, ℕ, List, false, Option, Some, None, Result, Ok, Err, ◌⊎◌}
 use Rattle.serde_json.specs.Data.{Data, Members, no_members, put}
-use Rattle.gltf_paths.specs.declared.error.Error.{Error}
+use Rattle.gltf_base.specs.declared.error.Error.{Error}
 use Rattle.gltf_schema.specs.ByName.{row_data}
 use Rattle.gltf_schema.specs.Invalid.{holds_invalid}
 use Rattle.gltf_schema.specs.Kind.{Mark, Kind, Rows, no_rows, row}

@@ -1,7 +1,7 @@
 -- Kinds whose rows fit together: what they read is plain, is written, and is read back.
 use Rattle.std.specs.Prelude.{Bool, true, false, not, ◌&&◌, is_some, codes}
 use Rattle.std.specs.Str.{bytes_eq}
-use Rattle.gltf_paths.specs.Lists.{ListName}
+use Rattle.gltf_base.specs.Lists.{ListName}
 use Rattle.gltf_schema.specs.Kind.{Mark, always, unless, Kind, Attributes, ListOf, Object, Rows, no_rows, row, has_row, Rule, no_rule, needs_data, needs_projection, needs_cone, needs_positions, requires_enabled, holds_samplers}
 use Rattle.gltf_schema.specs.Write.{write}
 use Rattle.gltf_schema.specs.Plain.{is_plain}

@@ -1,8 +1,8 @@
 -- What a value of the table is, without where it lies in memory.
 use Rattle.std.specs.Prelude.{ℕ, zero, suc, List, [], ◌∷◌, Bool, true, false, Option, Some, None}
 use Rattle.serde_json.specs.Data.{Num, Data, Members}
-use Rattle.gltf_checked.specs.Keys.{Key}
-use Rattle.gltf_checked.specs.Spelling.{Spelling}
+use Rattle.gltf_base.specs.Keys.{Key}
+use Rattle.gltf_base.specs.Spelling.{Spelling}
 
 mutual
   pub data Tree : Type 0 where

@@ -5,9 +5,9 @@ use Rattle.std.specs.Prelude.{ℕ, ◌^◌, ◌==◌, nat_lt, length, List, [], 
 use Rattle.std.specs.Ordering.{is_lt}
 use Rattle.serde_json.specs.Data as json
 use Rattle.serde_json.specs.Data.{Num, unsigned, Data, Items, Members, no_members, put}
-use Rattle.gltf_checked.specs.Keys.{Key, key_text, key_cmp}
-use Rattle.gltf_checked.specs.Names.{is_named}
-use Rattle.gltf_checked.specs.Spelling.{Spelling, by_number, by_name, is_spelled}
+use Rattle.gltf_base.specs.Keys.{Key, key_text, key_cmp}
+use Rattle.gltf_base.specs.Names.{is_named}
+use Rattle.gltf_base.specs.Spelling.{Spelling, by_number, by_name, is_spelled}
 use Rattle.gltf_schema.specs.Maybe.{◌>>=◌}
 use Rattle.gltf_schema.specs.Tree.{Tree, absent, whole, number, numbers, text, truth, any, chosen, index, list, attributes, object, Trees, end, with_tree, is_absent}
 use Rattle.gltf_schema.specs.Kind.{Mark, optional, unless, sometimes, or_null, Kind, IndexInto, SourceImage, ChannelSampler, U32, U64, Stride, Number, Numbers, Text, Truth, Any, Choice, Attributes, ListOf, Object, Rows, no_rows, row}

@@ -3,7 +3,7 @@
 ghost use Rattle.std.specs.Prelude.{◌≡◌, map, true, OnOk, refl, string_bytes};
 ghost use Rattle.serde_json.specs.Data.{no_members, object};
 ghost use Rattle.serde_json.specs.View.{members_view};
-ghost use Rattle.gltf_checked.specs.Semantics.{checked_key};
+ghost use Rattle.gltf_base.specs.Semantics.{checked_key};
 ghost use Rattle.gltf_schema.specs.Kind.{Attributes};
 ghost use Rattle.gltf_schema.specs.Fields.{entry_of, attributes_tree};
 ghost use Rattle.gltf_schema.specs.Invalid.{is_unknown, any_unknown};

@@ -3,9 +3,9 @@
 
 ghost use Rattle.std.specs.Prelude.{◌≡◌, ◌↔◌, ◌∷◌, ℕ, List, [], true, false, Some, None, codes};
 ghost use Rattle.serde_json.specs.Data.{Data, Members, member, no_members, number, object, unsigned};
-ghost use Rattle.gltf_paths.specs.Lists.{ListName};
-ghost use Rattle.gltf_paths.specs.Steps.{Step};
-ghost use Rattle.gltf_checked.specs.Keys.{Key, colors};
+ghost use Rattle.gltf_base.specs.Lists.{ListName};
+ghost use Rattle.gltf_base.specs.Steps.{Step};
+ghost use Rattle.gltf_base.specs.Keys.{Key, colors};
 ghost use Rattle.gltf_schema.specs.Attributes.{index_at, last_index};
 ghost use Rattle.gltf_schema.specs.Tree.{Tree, attributes};
 ghost use Rattle.gltf_schema.specs.Kind.{Kind, Attributes};
@@ -50,7 +50,7 @@ pub fn trees_of_a_kind_are_refused_where_invalid()
 
 /// Attributes that were read have a key if and only if a name means it, with the index of the last
 /// such name.
-#[tactic(auto, unfolding(gltf_checked::specs::Names::key_named))]
+#[tactic(auto, unfolding(gltf_base::specs::Names::key_named))]
 pub fn keys_have_the_indexes_of_their_last_names()
     ensures last { (named : ListName) (ms : Members) (es : List (Key × ℕ))
         → read (Attributes named) (object ms) ≡ Some (attributes es)

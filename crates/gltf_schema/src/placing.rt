@@ -3,7 +3,7 @@
 
 ghost use Rattle.std.specs.Prelude.{◌≡◌, List, Option, Result, IfErr};
 ghost use Rattle.serde_json.specs.Data.{Members, object as json_object};
-ghost use Rattle.gltf_paths.specs.Steps.{Step as AnyStep, step_of, field};
+ghost use Rattle.gltf_base.specs.Steps.{Step as AnyStep, step_of, field};
 ghost use Rattle.gltf_schema.specs.Tree.{object};
 ghost use Rattle.gltf_schema.specs.Kind.{Object as object_kind};
 ghost use Rattle.gltf_schema.specs.Readings.{TakesOut};

@@ -7,7 +7,7 @@ ghost use Rattle.gltf_schema.specs.Tree.{Tree, absent, object, tree_or_absent};
 use crate::schema::Object;
 
 /// What a type is in the table. Reading and writing take it from here. Validation states it again,
-/// in `Visitable` of `gltf_visits`; laws say of each object that both state the same.
+/// in `Visitable` of `gltf_validation_objects`; laws say of each object that both state the same.
 pub trait Tabled {
     /// The kind of the type's values; any JSON, for a type that the table doesn't have.
     ghost kind: { Kind } = { Any };

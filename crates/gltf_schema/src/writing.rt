@@ -6,7 +6,7 @@ ghost use Rattle.serde_json.specs.View.{members_view};
 ghost use Rattle.gltf_schema.specs.Tree.{Tree, tree_or_absent, trees, list as list_tree, end};
 ghost use Rattle.gltf_schema.specs.Kind.{required as is_required, optional as is_optional, always as is_always, unless as is_unless, sometimes as is_sometimes, or_null as is_or_null, ListOf};
 ghost use Rattle.gltf_schema.specs.Outcome.{Writes};
-ghost use Rattle.gltf_paths.specs.declared.error.Error.{Error as AnError};
+ghost use Rattle.gltf_base.specs.declared.error.Error.{Error as AnError};
 ghost use Rattle.gltf_schema.specs.Rowwise.{BeginsWith, WritesRow, PutsIn, TakesOver};
 ghost use Rattle.gltf_schema.specs.Writings.{writing_state, written_or_error};
 

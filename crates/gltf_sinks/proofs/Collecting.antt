@@ -1,6 +1,6 @@
 -- What a collection holds after a run of reports.
 use Rattle.std.proofs.Common.{◌≡◌, ℕ, List, [], ◌∷◌, ◌++◌, map, sym, ◌∙◌, append-nil, append_assoc}
-use Rattle.gltf_paths.specs.declared.validation.Error.{Error}
+use Rattle.gltf_base.specs.declared.validation.Error.{Error}
 use Rattle.gltf_sinks.specs.Report.{Report}
 use Rattle.gltf_sinks.specs.Handed.{run}
 use Rattle.gltf_sinks.specs.Sinks.{as_collected, with_report}

@@ -4,9 +4,9 @@ use Rattle.std.proofs.Math.ListN.{drop_of_length-le}
 use Rattle.std.proofs.lemmas.List.{append-nil}
 use Rattle.std.specs.Result.{IsErrAnd}
 use Rattle.arrayvec.specs.ArrayVec.{ArrayVec}
-use Rattle.gltf_paths.specs.Steps.{Step, item}
-use Rattle.gltf_paths.specs.declared.path.Step.{Step as Borrowed}
-use Rattle.gltf_paths.specs.declared.validation.Error.{Error}
+use Rattle.gltf_base.specs.Steps.{Step, item}
+use Rattle.gltf_base.specs.declared.path.Step.{Step as Borrowed}
+use Rattle.gltf_base.specs.declared.validation.Error.{Error}
 use Rattle.gltf_sinks.specs.Report.{From, each_at}
 use Rattle.gltf_sinks.specs.declared.sink.Stop.{Stop}
 use Rattle.gltf_sinks.specs.Handed.{Walked}

@@ -3,9 +3,9 @@ use Rattle.std.proofs.Common.{◌≡◌, ℕ, ◌+◌, ◌<◌, ◌≤◌, List,
 use Rattle.std.proofs.lemmas.Result.{err_from_is_err_and}
 use Rattle.std.specs.Result.{IsErrAnd}
 use Rattle.arrayvec.specs.ArrayVec.{ArrayVec}
-use Rattle.gltf_paths.specs.Steps.{Step, steps_of}
-use Rattle.gltf_paths.specs.declared.path.Step.{Step as Borrowed}
-use Rattle.gltf_paths.specs.declared.validation.Error.{Error}
+use Rattle.gltf_base.specs.Steps.{Step, steps_of}
+use Rattle.gltf_base.specs.declared.path.Step.{Step as Borrowed}
+use Rattle.gltf_base.specs.declared.validation.Error.{Error}
 use Rattle.gltf_sinks.specs.Report.{Report, report, found_at, From}
 use Rattle.gltf_sinks.specs.declared.sink.Stop.{Stop}
 use Rattle.gltf_sinks.specs.declared.sink.Stop.TheVariants.{StepsFull, Sink}

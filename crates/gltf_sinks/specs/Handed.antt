@@ -1,9 +1,9 @@
 -- What a walk hands to a sink.
 use Rattle.std.specs.Prelude.{◌≡◌, ℕ, ◌+◌, ◌<◌, List, [], ◌∷◌, ◌++◌, length, Result, Ok, Err}
 use Rattle.arrayvec.specs.ArrayVec.{ArrayVec}
-use Rattle.gltf_paths.specs.Steps.{Step, steps_of}
-use Rattle.gltf_paths.specs.declared.path.Step.{Step as Borrowed}
-use Rattle.gltf_paths.specs.declared.validation.Error.{Error}
+use Rattle.gltf_base.specs.Steps.{Step, steps_of}
+use Rattle.gltf_base.specs.declared.path.Step.{Step as Borrowed}
+use Rattle.gltf_base.specs.declared.validation.Error.{Error}
 use Rattle.gltf_sinks.specs.Report.{Report, From}
 use Rattle.gltf_sinks.specs.declared.sink.Stop.{Stop}
 use Rattle.gltf_sinks.specs.declared.sink.Stop.TheVariants.{StepsFull, Sink}

@@ -1,7 +1,7 @@
 -- What is wrong at a place, and lists of that.
 use Rattle.std.specs.Prelude.{ℕ, suc, List, [], ◌∷◌, ◌++◌, Option, Some, None}
-use Rattle.gltf_paths.specs.Steps.{Step, item}
-use Rattle.gltf_paths.specs.declared.validation.Error.{Error}
+use Rattle.gltf_base.specs.Steps.{Step, item}
+use Rattle.gltf_base.specs.declared.validation.Error.{Error}
 
 -- a place, and what is wrong there
 pub record Report : Type 0 where

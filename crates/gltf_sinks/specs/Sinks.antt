@@ -1,9 +1,9 @@
 -- What the sinks of this crate hold.
 use Rattle.std.specs.Prelude.{ℕ, ◌+◌, ◌-◌, ◌^◌, min, List, [], ◌∷◌, ◌++◌, map, string_bytes}
-use Rattle.gltf_paths.specs.Steps.{Step}
-use Rattle.gltf_paths.specs.Text.{path_text}
-use Rattle.gltf_paths.specs.declared.path.Path.{Path}
-use Rattle.gltf_paths.specs.declared.validation.Error.{Error}
+use Rattle.gltf_base.specs.Steps.{Step}
+use Rattle.gltf_base.specs.Text.{path_text}
+use Rattle.gltf_base.specs.declared.path.Path.{Path}
+use Rattle.gltf_base.specs.declared.validation.Error.{Error}
 use Rattle.gltf_sinks.specs.Report.{Report}
 use Rattle.gltf_sinks.specs.declared.collect.Collect.{Collect}
 use Rattle.gltf_sinks.specs.declared.sink.Count.{Count}

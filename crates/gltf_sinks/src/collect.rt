@@ -1,7 +1,7 @@
 //! A sink that keeps what is reported.
 
 ghost use Rattle.std.specs.Prelude.{◌≡◌, ℕ, List, []};
-ghost use Rattle.gltf_paths.specs.declared.validation.Error.{Error};
+ghost use Rattle.gltf_base.specs.declared.validation.Error.{Error};
 ghost use Rattle.gltf_sinks.specs.Sinks.{texts_and_errors, reports_collected, with_report};
 
 use crate::sink::Sink;

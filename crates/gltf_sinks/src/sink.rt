@@ -1,8 +1,8 @@
 //! A receiver of reports.
 
 ghost use Rattle.std.specs.Prelude.{◌≡◌, ℕ, List, OnOk, IfErr};
-ghost use Rattle.gltf_paths.specs.Steps.{Step, steps_of};
-ghost use Rattle.gltf_paths.specs.declared.validation.Error.{Error};
+ghost use Rattle.gltf_base.specs.Steps.{Step, steps_of};
+ghost use Rattle.gltf_base.specs.declared.validation.Error.{Error};
 ghost use Rattle.gltf_sinks.specs.Sinks.{reports_counted, one_more};
 
 use gltf_base::Steps;

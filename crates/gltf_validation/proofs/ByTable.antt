@@ -1,16 +1,16 @@
 -- The reports of lists and choices are those of the table.
 use Rattle.std.proofs.Common.{◌≡◌, ℕ, suc, List, [], ◌∷◌, ◌++◌, map, Option, Some, None, refl, ap}
-use Rattle.gltf_checked.specs.Spelling.{Spelling}
-use Rattle.gltf_paths.specs.Steps.{Step, item}
-use Rattle.gltf_checked.specs.declared.validation.Checked.{Checked}
-use Rattle.gltf_checked.specs.declared.validation.Checked.TheVariants.{Valid, Invalid}
+use Rattle.gltf_base.specs.Spelling.{Spelling}
+use Rattle.gltf_base.specs.Steps.{Step, item}
+use Rattle.gltf_base.specs.declared.validation.Checked.{Checked}
+use Rattle.gltf_base.specs.declared.validation.Checked.TheVariants.{Valid, Invalid}
 use Rattle.gltf_schema.specs.Tree.{Tree, absent, trees, list}
 use Rattle.gltf_schema.specs.Kind.{Kind}
 use Rattle.gltf_schema.specs.Leaves.{checked_tree}
 use Rattle.gltf_sinks.specs.Report.{From, each_at}
-use Rattle.gltf_faults.specs.Context.{Context}
-use Rattle.gltf_faults.specs.Faults.{choice_faults, items_reports}
-use Rattle.gltf_faults.specs.Reports.{reports}
+use Rattle.gltf_validation_rules.specs.Context.{Context}
+use Rattle.gltf_validation_rules.specs.Faults.{choice_faults, items_reports}
+use Rattle.gltf_validation_rules.specs.Reports.{reports}
 use Rattle.gltf_validation.specs.ByType.{reports_by, reports_in, checked_reports, list_reports, list_kind}
 
 -- each item by itself

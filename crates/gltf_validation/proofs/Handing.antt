@@ -1,7 +1,7 @@
 -- Reports handed to a sink one at a time.
 use Rattle.std.proofs.Common.{◌≡◌, List, [], ◌∷◌, ◌++◌, sym, ◌∙◌, ap, append_assoc}
-use Rattle.gltf_paths.specs.Steps.{Step}
-use Rattle.gltf_paths.specs.declared.validation.Error.{Error}
+use Rattle.gltf_base.specs.Steps.{Step}
+use Rattle.gltf_base.specs.declared.validation.Error.{Error}
 use Rattle.gltf_sinks.specs.Report.{Report, report}
 use Rattle.gltf_sinks.specs.Handed.{run}
 use Rattle.gltf_sinks.proofs.Walks.{run-append}

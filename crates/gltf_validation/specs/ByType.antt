@@ -1,14 +1,14 @@
 -- The reports of values, by their types.
 use Rattle.std.specs.Prelude.{ℕ, List, [], ◌∷◌, ◌++◌, Option, Some, None}
-use Rattle.gltf_paths.specs.Steps.{key}
-use Rattle.gltf_paths.specs.declared.validation.Error.TheVariants as error
-use Rattle.gltf_checked.specs.declared.validation.Checked.{Checked}
-use Rattle.gltf_checked.specs.declared.validation.Checked.TheVariants as checked
+use Rattle.gltf_base.specs.Steps.{key}
+use Rattle.gltf_base.specs.declared.validation.Error.TheVariants as error
+use Rattle.gltf_base.specs.declared.validation.Checked.{Checked}
+use Rattle.gltf_base.specs.declared.validation.Checked.TheVariants as checked
 use Rattle.gltf_schema.specs.Tree.{Tree, absent}
 use Rattle.gltf_schema.specs.Kind.{Kind, ListOf}
 use Rattle.gltf_sinks.specs.Report.{report, From, each_at}
-use Rattle.gltf_faults.specs.Context.{Context}
-use Rattle.gltf_faults.specs.Reports.{reports}
+use Rattle.gltf_validation_rules.specs.Context.{Context}
+use Rattle.gltf_validation_rules.specs.Reports.{reports}
 
 -- by the table, where it has the value's kind; else by the type itself
 abbrev pub reports_by : Option Kind → Tree → (Context → From) → Context → From

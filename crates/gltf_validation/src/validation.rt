@@ -2,7 +2,7 @@
 
 ghost use Rattle.std.specs.Prelude.{◌≡◌, ℕ, Option, None};
 ghost use Rattle.gltf_schema.specs.Tree.{Tree, absent};
-ghost use Rattle.gltf_faults.specs.Context.{Context, rules_of, standard_rules, under};
+ghost use Rattle.gltf_validation_rules.specs.Context.{Context, rules_of, standard_rules, under};
 ghost use Rattle.gltf_schema.specs.Kind.{Kind};
 ghost use Rattle.gltf_sinks.specs.Report.{From};
 ghost use Rattle.gltf_root.specs.Root.{root_tree};
@@ -10,9 +10,9 @@ ghost use Rattle.gltf_sinks.specs.Handed.{Walked};
 ghost use Rattle.gltf_validation.specs.ByType.{reports_by, no_reports};
 
 use gltf_base::Steps;
-use gltf_faults::Rules;
 use gltf_root::root::Root;
 use gltf_sinks::{Sink, Stop};
+use gltf_validation_rules::Rules;
 
 mod choices;
 mod composed;

@@ -1,6 +1,6 @@
 //! The tests that only code can be: results of calls that no document shows, devices and memory
 //! that fail, values built by hand, and types of users. All that a document can show is in
-//! `gltf_corpus`. The tests are here because a crate with tests is proved twice.
+//! `gltf_vectors_corpus`. The tests are here because a crate with tests is proved twice.
 //!
 //! Each comparison is a function of its own that returns whether it holds. A test that asserts
 //! while it holds what it read, or goes over an array of tuples, takes many times as long to prove.

@@ -7,8 +7,8 @@ ghost use Rattle.gltf_schema.specs.Tree.{end, list, with_tree};
 ghost use Rattle.gltf_schema.specs.Defaults.{defaults};
 ghost use Rattle.gltf_root.specs.RootExtension.{root_extension_rows, root_extension_members, lights_members, variants_members};
 
-use gltf_nodes::extensions::scene::khr_lights_punctual::Light;
-use gltf_nodes::extensions::scene::khr_materials_variants::Variant;
+use gltf_scene::extensions::scene::khr_lights_punctual::Light;
+use gltf_scene::extensions::scene::khr_materials_variants::Variant;
 use serde_json::{Map, Value};
 use std::alloc::Global;
 

@@ -1,9 +1,8 @@
 //! The lists that are in extension objects of a document.
-
 #![tactic(auto)]
 
 ghost use Rattle.gltf_schema.specs.Fields.{closed_object};
-ghost use Rattle.gltf_nodes.specs.Light.{light_members, variant_members};
+ghost use Rattle.gltf_scene.specs.Light.{light_members, variant_members};
 ghost use Rattle.gltf_root.specs.Items.{lights_of, put_lights, put_variants, variants_of};
 ghost use Rattle.gltf_root.specs.ItemTrees.{lights_of-trees, put_lights-trees, put_variants-trees, variants_of-trees};
 ghost use Rattle.gltf_root.specs.Root.{root_rows, root_members};
@@ -14,8 +13,8 @@ use super::mark::Mark;
 use crate::extensions;
 use crate::extensions::root::{KhrLightsPunctual, KhrMaterialsVariants};
 use gltf_base::{Index, PushError};
-use gltf_nodes::extensions::scene::khr_lights_punctual::Light;
-use gltf_nodes::extensions::scene::khr_materials_variants::Variant;
+use gltf_scene::extensions::scene::khr_lights_punctual::Light;
+use gltf_scene::extensions::scene::khr_materials_variants::Variant;
 
 #[tactic(auto, using(crate::proofs::Pushing::trees_push, crate::proofs::Undoing::trees_pop, crate::proofs::Undoing::last_or_pop), unfolding(crate::specs::Root::root_rows, crate::specs::Root::root_members, crate::specs::RootExtension::root_extension_members, crate::specs::RootExtension::lights_members, crate::specs::RootExtension::root_extension_rows, crate::specs::RootExtension::lights_rows))]
 impl RootItem for Light {

@@ -4,9 +4,9 @@ ghost use Rattle.std.specs.Prelude.{◌≡◌, ◌↔◌, ◌-◌, ◌^◌, ◌�
 ghost use Rattle.std.specs.Borrow.{sem};
 ghost use Rattle.std.specs.List.{last_or};
 ghost use Rattle.std.specs.Option.{option_copied};
-ghost use Rattle.gltf_paths.specs.Indexes.{index_number};
-ghost use Rattle.gltf_paths.specs.Lists.{ListName};
-ghost use Rattle.gltf_paths.specs.Pushes.{IsHandedBack};
+ghost use Rattle.gltf_base.specs.Indexes.{index_number};
+ghost use Rattle.gltf_base.specs.Lists.{ListName};
+ghost use Rattle.gltf_base.specs.Pushes.{IsHandedBack};
 ghost use Rattle.gltf_schema.specs.Tree.{Tree, trees};
 ghost use Rattle.gltf_root.specs.Lists.{list_in, is_there};
 ghost use Rattle.gltf_root.specs.Lending.{lends_list};

@@ -7,13 +7,13 @@ ghost use Rattle.gltf_schema.specs.Outcome.{Reads};
 ghost use Rattle.gltf_schema.specs.Plain.{is_plain};
 ghost use Rattle.gltf_schema.specs.Read.{read};
 ghost use Rattle.gltf_root.specs.Answer.{IsAnswer, IsReadAnswer, IsReading, IsRefusal, answer, byte_limit, call_limit};
-ghost use Rattle.gltf_devices.specs.Device.{IsFresh};
+ghost use Rattle.gltf_io.specs.Device.{IsFresh};
 ghost use Rattle.gltf_root.specs.Root.{root_kind, root_tree};
 
 use super::Root;
 use super::lists::streamed;
 use gltf_borrowed::decode_text;
-use gltf_devices::{ByteIn, read_to_end};
+use gltf_io::{ByteIn, read_to_end};
 use gltf_schema::{Error, Schema};
 use serde_json::Value;
 use simdutf8::compat::from_utf8;

@@ -5,9 +5,9 @@ ghost use Rattle.gltf_validation.specs.ByType.{checked_reports};
 use super::Validate;
 use gltf_base::Steps;
 use gltf_base::validation::Checked;
-use gltf_faults::{Rules, choice_fault};
 use gltf_root::root::Root;
 use gltf_sinks::{Sink, Stop, tell};
+use gltf_validation_rules::{Rules, choice_fault};
 
 impl<T> Validate for Checked<T> {
     ghost own = { checked_reports };

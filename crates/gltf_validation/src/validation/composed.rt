@@ -10,9 +10,9 @@ ghost use Rattle.gltf_validation.specs.ByType.{option_reports, list_reports, lis
 use super::Validate;
 use super::within::within;
 use gltf_base::{Step, Steps};
-use gltf_faults::{Context, HasContext, Rules};
 use gltf_root::root::Root;
 use gltf_sinks::{Sink, Stop};
+use gltf_validation_rules::{Context, HasContext, Rules};
 
 impl<T: Validate> Validate for Option<T> {
     ghost kind = { T.kind };

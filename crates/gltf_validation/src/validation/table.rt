@@ -7,16 +7,16 @@ ghost use Rattle.gltf_schema.specs.Height.{kind_height};
 ghost use Rattle.gltf_schema.specs.Kind.{Object as object_kind};
 ghost use Rattle.gltf_schema.specs.Tree.{object};
 ghost use Rattle.gltf_sinks.specs.Handed.{HandedOver};
-ghost use Rattle.gltf_walk.specs.ToCome.{base_count, depth_in, to_come_in};
+ghost use Rattle.gltf_validation_walk.specs.ToCome.{base_count, depth_in, to_come_in};
 
 use super::Validate;
 use gltf_base::Steps;
-use gltf_faults::Rules;
 use gltf_root::root::Root;
 use gltf_schema::Object;
 use gltf_sinks::{Sink, Stop};
-use gltf_visits::Visitable;
-use gltf_walk::{StepsFull, ValueWalk};
+use gltf_validation_objects::Visitable;
+use gltf_validation_rules::Rules;
+use gltf_validation_walk::{StepsFull, ValueWalk};
 
 mod derived;
 mod leaves;

@@ -1,14 +1,14 @@
 //! A value one step further.
 
 ghost use Rattle.std.specs.Prelude.{◌≡◌, ◌+◌, ◌++◌, ◌∷◌, []};
-ghost use Rattle.gltf_paths.specs.Steps.{step_of};
+ghost use Rattle.gltf_base.specs.Steps.{step_of};
 ghost use Rattle.gltf_sinks.specs.Handed.{Walked};
 ghost use Rattle.gltf_validation.specs.ByType.{reports_by};
 
 use super::Validate;
 use gltf_base::{Step, Steps};
-use gltf_faults::HasContext;
 use gltf_sinks::{Sink, Stop};
+use gltf_validation_rules::HasContext;
 
 /// Validates a value one step further.
 pub(crate) fn within<'a, T: Validate, C: HasContext, S: Sink>(

@@ -99,7 +99,7 @@ fn key_shown(alloc: Global, name: &str) -> Result<String, AllocError> {
     format!(in alloc; "{written} {key:?}")
 }
 
-// What more names mean is shown by documents of `gltf_corpus`.
+// What more names mean is shown by documents of `gltf_vectors_corpus`.
 #[test]
 fn names_of_attributes_are_read(rt: HostRuntime) -> Result<(), Fail> {
     assert!(rt; shows(key_shown(rt.alloc(), "__+"), "__+ Valid(Extras(\"_+\"))")?);

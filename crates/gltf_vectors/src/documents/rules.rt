@@ -5,7 +5,7 @@ use gltf_json::extensions::ENABLED_WITH_EMPTY_TEXTURES;
 use gltf_json::root::Watched;
 use gltf_json::validation::Rules;
 use gltf_json::{Error, Root};
-use gltf_lines::run_with;
+use gltf_report_lines::run_with;
 use std::alloc::Global;
 
 /// A document that requires an extension by which textures have images of another format.
@@ -68,7 +68,7 @@ fn is_ruled(alloc: Global, rules: &Rules<'_>, document: &str, lines: &str) -> bo
 }
 
 /// For each of these documents, whether what is wrong in it by rules is its lines. Documents by the
-/// standard rules are in `gltf_corpus`.
+/// standard rules are in `gltf_vectors_corpus`.
 fn are_ruled(alloc: Global) -> [bool; 5] {
     [
         is_ruled(alloc, &EMPTY, WITHOUT_SOURCE, ""),

@@ -1,4 +1,4 @@
-//! Documents that are read in every way. Runs over documents are in `gltf_corpus`.
+//! Documents that are read in every way. Runs over documents are in `gltf_vectors_corpus`.
 
 use crate::documents::{NEW, SIX, SIX_LINES, has_lines};
 use crate::reading::{WAYS, Way, read_by};

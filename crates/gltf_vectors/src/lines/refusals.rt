@@ -6,7 +6,7 @@ use crate::documents::{FAULTY, NEW, SIX, SIX_LINES};
 use crate::shown::shows;
 use gltf_json::root::{ByteIn, Failed, Watched};
 use gltf_json::{Error, Root};
-use gltf_lines::run;
+use gltf_report_lines::run;
 use std::alloc::Global;
 use std::mem;
 use std::test::Fail;

@@ -2,13 +2,13 @@
 
 ghost use Rattle.std.specs.Prelude.{◌≡◌, ◌+◌, ◌++◌, ◌∷◌, [], Some, None, codes};
 ghost use Rattle.std.specs.String.{string_bytes};
-ghost use Rattle.gltf_paths.specs.Lists.{ListName};
-ghost use Rattle.gltf_paths.specs.Steps.{field};
+ghost use Rattle.gltf_base.specs.Lists.{ListName};
+ghost use Rattle.gltf_base.specs.Steps.{field};
 ghost use Rattle.gltf_schema.specs.Fields.{index_tree};
 ghost use Rattle.gltf_schema.specs.Kind.{IndexInto};
 ghost use Rattle.gltf_schema.specs.Tree.{absent};
 ghost use Rattle.gltf_root.specs.Root.{root_tree};
-ghost use Rattle.gltf_faults.specs.Context.{rules_of, under};
+ghost use Rattle.gltf_validation_rules.specs.Context.{rules_of, under};
 ghost use Rattle.gltf_sinks.specs.Handed.{Walked};
 ghost use Rattle.gltf_validation.specs.ByType.{reports_by, reports_in, each_entry, no_reports};
 

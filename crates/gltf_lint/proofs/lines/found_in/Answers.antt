@@ -1,7 +1,7 @@
 -- A turn prints the line of its report, or is past the most; behind the last one comes the end line, or all were printed.
 use Rattle.std.proofs.Common.{◌∷◌, ◌∙◌, ap, sym, arith, string_bytes}
 use Rattle.gltf_sinks.specs.Report.{report}
-use Rattle.gltf_walk.specs.ToCome.{to_come}
+use Rattle.gltf_validation_walk.specs.ToCome.{to_come}
 use Rattle.gltf_lint.proofs.Printed.{IsPrinted-more, IsPrinted-past, IsPrinted-cut, IsPrinted-whole}
 use Rattle.gltf_lint.proofs.lines.found_in.Goals as goal
 use Rattle.gltf_lint.proofs.lines.found_in.Goals.{then-faults-options+in_ok-push_report, else-faults-options, then-faults-options-2+in_ok-push_rest, else-faults-options-2}

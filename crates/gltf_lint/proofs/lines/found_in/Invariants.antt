@@ -1,9 +1,9 @@
 -- Each turn takes one of the reports that are still to come.
 use Rattle.std.proofs.Common.{length, string_bytes}
 use Rattle.gltf_root.specs.Root.{root_tree}
-use Rattle.gltf_faults.specs.Context.{rules_of}
-use Rattle.gltf_faults.specs.Reports.{document_reports}
-use Rattle.gltf_walk.specs.ToCome.{to_come}
+use Rattle.gltf_validation_rules.specs.Context.{rules_of}
+use Rattle.gltf_validation_rules.specs.Reports.{document_reports}
+use Rattle.gltf_validation_walk.specs.ToCome.{to_come}
 use Rattle.gltf_lint.proofs.Printed.{IsPrinted}
 use Rattle.gltf_lint.proofs.lines.found_in.Given as goal
 

@@ -1,6 +1,6 @@
 use Rattle.std.proofs.Common.{◌≡◌, Some, Ok, subst, sym, ap, ◌∙◌}
 use Rattle.std.specs.Prelude.{option_map}
-use Rattle.gltf_paths.specs.Indexes.{index_number}
+use Rattle.gltf_base.specs.Indexes.{index_number}
 use Rattle.gltf_layout.specs.Fits.{Fits, span_of, IsFirstMisfit}
 use Rattle.gltf_load.specs.Spans.{view_layout}
 use Rattle.gltf_load.proofs.Spans.{named, same_fits}

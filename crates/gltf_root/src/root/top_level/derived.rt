@@ -6,16 +6,16 @@ ghost use Rattle.std.specs.Prelude.{refl};
 
 use super::TopLevel;
 use crate::root::Root;
-use gltf_animations::animation::Animation;
-use gltf_data::accessor::Accessor;
-use gltf_data::buffer::{Buffer, View};
-use gltf_data::image::Image;
-use gltf_materials::material::Material;
-use gltf_meshes::mesh::Mesh;
-use gltf_nodes::camera::Camera;
-use gltf_nodes::scene::{Node, Scene};
-use gltf_nodes::skin::Skin;
-use gltf_textures::texture::{Sampler, Texture};
+use gltf_parts::accessor::Accessor;
+use gltf_parts::buffer::{Buffer, View};
+use gltf_parts::image::Image;
+use gltf_parts::material::Material;
+use gltf_parts::texture::{Sampler, Texture};
+use gltf_scene::animation::Animation;
+use gltf_scene::camera::Camera;
+use gltf_scene::mesh::Mesh;
+use gltf_scene::scene::{Node, Scene};
+use gltf_scene::skin::Skin;
 
 impl TopLevel for Accessor {
     ghost held = { λ r. r.accessors };

@@ -1,10 +1,10 @@
 use Rattle.std.proofs.Common.{◌≡◌, map, string_bytes, option_map, sym, ap, ◌∙◌, subst, rules}
 use Rattle.std.specs.BTreeMap.{insert_entry}
 use Rattle.serde_json.specs.View.{view, members_view}
-use Rattle.gltf_checked.specs.Keys.{key_cmp}
-use Rattle.gltf_checked.specs.Names.{key_named}
-use Rattle.gltf_checked.specs.Semantics.{checked_key}
-use Rattle.gltf_paths.specs.Indexes.{index_number}
+use Rattle.gltf_base.specs.Keys.{key_cmp}
+use Rattle.gltf_base.specs.Names.{key_named}
+use Rattle.gltf_base.specs.Semantics.{checked_key}
+use Rattle.gltf_base.specs.Indexes.{index_number}
 use Rattle.gltf_schema.specs.Kind.{IndexInto}
 use Rattle.gltf_schema.specs.Read.{read_entries}
 use Rattle.gltf_schema.specs.Refused.{refused_entry}

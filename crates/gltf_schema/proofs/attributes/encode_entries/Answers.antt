@@ -4,8 +4,8 @@ use Rattle.std.proofs.lemmas.Result.{err_from_is_err_and}
 use Rattle.serde_json.specs.Data.{put}
 use Rattle.serde_json.specs.View.{view, members_view}
 use Rattle.serde_json.proofs.Views.{members_view-insert_entry}
-use Rattle.gltf_checked.specs.Semantics.{checked_key}
-use Rattle.gltf_paths.specs.Indexes.{index_number}
+use Rattle.gltf_base.specs.Semantics.{checked_key}
+use Rattle.gltf_base.specs.Indexes.{index_number}
 use Rattle.gltf_schema.specs.Fields.{entry_of}
 use Rattle.gltf_schema.specs.Write.{write_entries}
 use Rattle.gltf_schema.specs.Invalid.{is_unknown, any_unknown}

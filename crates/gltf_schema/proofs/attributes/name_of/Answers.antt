@@ -1,6 +1,6 @@
 -- A semantic has a name, which is its text.
 use Rattle.std.proofs.Common.{Some, sym, ap, ◌∙◌}
-use Rattle.gltf_checked.specs.Semantics.{semantic_key}
+use Rattle.gltf_base.specs.Semantics.{semantic_key}
 use Rattle.gltf_schema.proofs.Putting.{named}
 use Rattle.gltf_schema.proofs.attributes.name_of.Goals as goal
 

@@ -4,50 +4,32 @@ ghost use Rattle.std.proofs.Common.{lit≤};
 ghost use Rattle.std.specs.Prelude.{refl};
 
 use super::{InTable, TableObject};
-use gltf_animations::animation::{Animation, Target};
-use gltf_data::accessor::Accessor;
-use gltf_data::accessor::sparse::{Indices, Sparse, Values};
-use gltf_data::buffer::{Buffer, View};
-use gltf_data::image::Image;
-use gltf_materials::material::{
-    EmissiveFactor, NormalTexture, OcclusionTexture, PbrBaseColorFactor, PbrMetallicRoughness,
-};
-use gltf_meshes::extensions::mesh::Mapping;
-use gltf_meshes::mesh::{Mesh, MorphTarget};
-use gltf_nodes::camera::{Camera, Orthographic, Perspective};
-use gltf_nodes::extensions::scene::khr_lights_punctual::{Light, Spot};
-use gltf_nodes::extensions::scene::khr_materials_variants::Variant;
-use gltf_nodes::scene::Scene;
-use gltf_nodes::skin::Skin;
-use gltf_root::asset::Asset;
-use gltf_shading::extensions::material::{
+use gltf_parts::accessor::Accessor;
+use gltf_parts::accessor::sparse::{Indices, Sparse, Values};
+use gltf_parts::buffer::{Buffer, View};
+use gltf_parts::extensions::material::{
     AttenuationColor, AttenuationDistance, EmissiveStrength, EmissiveStrengthFactor,
     IndexOfRefraction, Ior, PbrDiffuseFactor, PbrSpecularFactor, PbrSpecularGlossiness, Specular,
     SpecularColorFactor, SpecularFactor, ThicknessFactor, Transmission, TransmissionFactor, Volume,
 };
-use gltf_shading::material::StrengthFactor;
-use gltf_textures::extensions::texture::{
+use gltf_parts::extensions::texture::{
     TextureTransform, TextureTransformOffset, TextureTransformRotation, TextureTransformScale,
 };
-use gltf_textures::texture::Texture;
-
-impl TableObject for gltf_animations::animation::Sampler {
-    ghost same_kind = { refl };
-
-    ghost same_tree = { λ _. refl };
-}
-
-impl TableObject for Target {
-    ghost same_kind = { refl };
-
-    ghost same_tree = { λ _. refl };
-}
-
-impl TableObject for Animation {
-    ghost same_kind = { refl };
-
-    ghost same_tree = { λ _. refl };
-}
+use gltf_parts::image::Image;
+use gltf_parts::material::{
+    EmissiveFactor, NormalTexture, OcclusionTexture, PbrBaseColorFactor, PbrMetallicRoughness,
+    StrengthFactor,
+};
+use gltf_parts::texture::Texture;
+use gltf_scene::animation::{Animation, Target};
+use gltf_scene::asset::Asset;
+use gltf_scene::camera::{Camera, Orthographic, Perspective};
+use gltf_scene::extensions::mesh::Mapping;
+use gltf_scene::extensions::scene::khr_lights_punctual::{Light, Spot};
+use gltf_scene::extensions::scene::khr_materials_variants::Variant;
+use gltf_scene::mesh::{Mesh, MorphTarget};
+use gltf_scene::scene::Scene;
+use gltf_scene::skin::Skin;
 
 impl TableObject for Indices {
     ghost same_kind = { refl };
@@ -109,139 +91,7 @@ impl TableObject for OcclusionTexture {
     ghost same_tree = { λ _. refl };
 }
 
-impl TableObject for gltf_materials::material::Material {
-    ghost same_kind = { refl };
-
-    ghost same_tree = { λ _. refl };
-}
-
-impl TableObject for Mapping {
-    ghost same_kind = { refl };
-
-    ghost same_tree = { λ _. refl };
-}
-
-impl TableObject for gltf_meshes::extensions::mesh::KhrMaterialsVariants {
-    ghost same_kind = { refl };
-
-    ghost same_tree = { λ _. refl };
-}
-
-impl TableObject for gltf_meshes::extensions::mesh::Primitive {
-    ghost same_kind = { refl };
-
-    ghost same_tree = { λ _. refl };
-}
-
-impl TableObject for MorphTarget {
-    ghost same_kind = { refl };
-
-    ghost same_tree = { λ _. refl };
-}
-
-impl TableObject for gltf_meshes::mesh::Primitive {
-    ghost same_kind = { refl };
-
-    ghost same_tree = { λ _. refl };
-}
-
-impl TableObject for Mesh {
-    ghost same_kind = { refl };
-
-    ghost same_tree = { λ _. refl };
-}
-
-impl TableObject for Orthographic {
-    ghost same_kind = { refl };
-
-    ghost same_tree = { λ _. refl };
-}
-
-impl TableObject for Perspective {
-    ghost same_kind = { refl };
-
-    ghost same_tree = { λ _. refl };
-}
-
-impl TableObject for Camera {
-    ghost same_kind = { refl };
-
-    ghost same_tree = { λ _. refl };
-}
-
-impl TableObject for gltf_nodes::extensions::scene::khr_lights_punctual::KhrLightsPunctual {
-    ghost same_kind = { refl };
-
-    ghost same_tree = { λ _. refl };
-}
-
-impl TableObject for Spot {
-    ghost same_kind = { refl };
-
-    ghost same_tree = { λ _. refl };
-}
-
-impl TableObject for Light {
-    ghost same_kind = { refl };
-
-    ghost same_tree = { λ _. refl };
-}
-
-impl TableObject for Variant {
-    ghost same_kind = { refl };
-
-    ghost same_tree = { λ _. refl };
-}
-
-impl TableObject for gltf_nodes::extensions::scene::Node {
-    ghost same_kind = { refl };
-
-    ghost same_tree = { λ _. refl };
-}
-
-impl TableObject for gltf_nodes::scene::Node {
-    ghost same_kind = { refl };
-
-    ghost same_tree = { λ _. refl };
-}
-
-impl TableObject for Scene {
-    ghost same_kind = { refl };
-
-    ghost same_tree = { λ _. refl };
-}
-
-impl TableObject for Skin {
-    ghost same_kind = { refl };
-
-    ghost same_tree = { λ _. refl };
-}
-
-impl TableObject for Asset {
-    ghost same_kind = { refl };
-
-    ghost same_tree = { λ _. refl };
-}
-
-impl TableObject for gltf_root::root::Root {
-    ghost same_kind = { refl };
-
-    ghost same_tree = { λ _. refl };
-}
-
-impl TableObject for gltf_root::extensions::root::KhrLightsPunctual {
-    ghost same_kind = { refl };
-
-    ghost same_tree = { λ _. refl };
-}
-
-impl TableObject for gltf_root::extensions::root::KhrMaterialsVariants {
-    ghost same_kind = { refl };
-
-    ghost same_tree = { λ _. refl };
-}
-
-impl TableObject for gltf_root::extensions::root::Root {
+impl TableObject for gltf_parts::material::Material {
     ghost same_kind = { refl };
 
     ghost same_tree = { λ _. refl };
@@ -283,13 +133,13 @@ impl TableObject for EmissiveStrength {
     ghost same_tree = { λ _. refl };
 }
 
-impl TableObject for gltf_shading::extensions::material::Material {
+impl TableObject for gltf_parts::extensions::material::Material {
     ghost same_kind = { refl };
 
     ghost same_tree = { λ _. refl };
 }
 
-impl TableObject for gltf_textures::texture::Sampler {
+impl TableObject for gltf_parts::texture::Sampler {
     ghost same_kind = { refl };
 
     ghost same_tree = { λ _. refl };
@@ -307,13 +157,163 @@ impl TableObject for TextureTransform {
     ghost same_tree = { λ _. refl };
 }
 
-impl TableObject for gltf_textures::extensions::texture::Info {
+impl TableObject for gltf_parts::extensions::texture::Info {
     ghost same_kind = { refl };
 
     ghost same_tree = { λ _. refl };
 }
 
-impl TableObject for gltf_textures::texture::Info {
+impl TableObject for gltf_parts::texture::Info {
+    ghost same_kind = { refl };
+
+    ghost same_tree = { λ _. refl };
+}
+
+impl TableObject for gltf_root::root::Root {
+    ghost same_kind = { refl };
+
+    ghost same_tree = { λ _. refl };
+}
+
+impl TableObject for gltf_root::extensions::root::KhrLightsPunctual {
+    ghost same_kind = { refl };
+
+    ghost same_tree = { λ _. refl };
+}
+
+impl TableObject for gltf_root::extensions::root::KhrMaterialsVariants {
+    ghost same_kind = { refl };
+
+    ghost same_tree = { λ _. refl };
+}
+
+impl TableObject for gltf_root::extensions::root::Root {
+    ghost same_kind = { refl };
+
+    ghost same_tree = { λ _. refl };
+}
+
+impl TableObject for gltf_scene::animation::Sampler {
+    ghost same_kind = { refl };
+
+    ghost same_tree = { λ _. refl };
+}
+
+impl TableObject for Target {
+    ghost same_kind = { refl };
+
+    ghost same_tree = { λ _. refl };
+}
+
+impl TableObject for Animation {
+    ghost same_kind = { refl };
+
+    ghost same_tree = { λ _. refl };
+}
+
+impl TableObject for Asset {
+    ghost same_kind = { refl };
+
+    ghost same_tree = { λ _. refl };
+}
+
+impl TableObject for Orthographic {
+    ghost same_kind = { refl };
+
+    ghost same_tree = { λ _. refl };
+}
+
+impl TableObject for Perspective {
+    ghost same_kind = { refl };
+
+    ghost same_tree = { λ _. refl };
+}
+
+impl TableObject for Camera {
+    ghost same_kind = { refl };
+
+    ghost same_tree = { λ _. refl };
+}
+
+impl TableObject for gltf_scene::extensions::scene::khr_lights_punctual::KhrLightsPunctual {
+    ghost same_kind = { refl };
+
+    ghost same_tree = { λ _. refl };
+}
+
+impl TableObject for Spot {
+    ghost same_kind = { refl };
+
+    ghost same_tree = { λ _. refl };
+}
+
+impl TableObject for Light {
+    ghost same_kind = { refl };
+
+    ghost same_tree = { λ _. refl };
+}
+
+impl TableObject for Variant {
+    ghost same_kind = { refl };
+
+    ghost same_tree = { λ _. refl };
+}
+
+impl TableObject for Mapping {
+    ghost same_kind = { refl };
+
+    ghost same_tree = { λ _. refl };
+}
+
+impl TableObject for gltf_scene::extensions::mesh::KhrMaterialsVariants {
+    ghost same_kind = { refl };
+
+    ghost same_tree = { λ _. refl };
+}
+
+impl TableObject for gltf_scene::extensions::mesh::Primitive {
+    ghost same_kind = { refl };
+
+    ghost same_tree = { λ _. refl };
+}
+
+impl TableObject for MorphTarget {
+    ghost same_kind = { refl };
+
+    ghost same_tree = { λ _. refl };
+}
+
+impl TableObject for gltf_scene::mesh::Primitive {
+    ghost same_kind = { refl };
+
+    ghost same_tree = { λ _. refl };
+}
+
+impl TableObject for Mesh {
+    ghost same_kind = { refl };
+
+    ghost same_tree = { λ _. refl };
+}
+
+impl TableObject for gltf_scene::extensions::scene::Node {
+    ghost same_kind = { refl };
+
+    ghost same_tree = { λ _. refl };
+}
+
+impl TableObject for gltf_scene::scene::Node {
+    ghost same_kind = { refl };
+
+    ghost same_tree = { λ _. refl };
+}
+
+impl TableObject for Scene {
+    ghost same_kind = { refl };
+
+    ghost same_tree = { λ _. refl };
+}
+
+impl TableObject for Skin {
     ghost same_kind = { refl };
 
     ghost same_tree = { λ _. refl };

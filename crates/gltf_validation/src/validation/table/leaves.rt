@@ -7,14 +7,14 @@ ghost use Rattle.std.specs.Prelude.{refl};
 use super::{InTable, TableObject};
 use gltf_base::validation::USize64;
 use gltf_base::{IndexTo, Names, Real};
-use gltf_data::buffer::Stride;
-use gltf_data::extras::Void;
-use gltf_data::image::MimeType;
-use gltf_materials::material::AlphaCutoff;
-use gltf_nodes::scene::UnitQuaternion;
+use gltf_parts::buffer::Stride;
+use gltf_parts::extensions::material::Unlit;
+use gltf_parts::extras::Void;
+use gltf_parts::image::MimeType;
+use gltf_parts::material::AlphaCutoff;
 use gltf_root::root::RootItem;
+use gltf_scene::scene::UnitQuaternion;
 use gltf_schema::{DroppedExtensions, KeptExtensions};
-use gltf_shading::extensions::material::Unlit;
 use serde_json::Value;
 
 // ---- the object without members

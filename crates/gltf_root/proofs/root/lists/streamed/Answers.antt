@@ -12,15 +12,15 @@ use Rattle.gltf_borrowed.specs.Borrowed.{members_data}
 use Rattle.gltf_borrowed.specs.Slots.{items_tree, IsRest}
 use Rattle.gltf_borrowed.proofs.Levels.{data-Object}
 use Rattle.gltf_borrowed.proofs.RowsApart.{HoldAll, tree_apart, Refuses-later}
-use Rattle.gltf_data.specs.Accessor.{accessor_kind, accessor_members}
-use Rattle.gltf_data.specs.Buffer.{buffer_kind, view_kind, buffer_members, view_members}
-use Rattle.gltf_data.specs.Image.{image_kind, image_members}
-use Rattle.gltf_textures.specs.Texture.{sampler_kind, texture_kind, sampler_members, texture_members}
-use Rattle.gltf_materials.specs.Material.{material_kind, material_members}
-use Rattle.gltf_meshes.specs.Mesh.{mesh_kind, mesh_members}
-use Rattle.gltf_nodes.specs.Camera.{camera_kind, camera_members}
-use Rattle.gltf_nodes.specs.Scene.{node_kind, scene_kind, skin_kind, node_members, scene_members, skin_members}
-use Rattle.gltf_animations.specs.Animation.{animation_kind, animation_members}
+use Rattle.gltf_parts.specs.Accessor.{accessor_kind, accessor_members}
+use Rattle.gltf_parts.specs.Buffer.{buffer_kind, view_kind, buffer_members, view_members}
+use Rattle.gltf_parts.specs.Image.{image_kind, image_members}
+use Rattle.gltf_parts.specs.Texture.{sampler_kind, texture_kind, sampler_members, texture_members}
+use Rattle.gltf_parts.specs.Material.{material_kind, material_members}
+use Rattle.gltf_scene.specs.Mesh.{mesh_kind, mesh_members}
+use Rattle.gltf_scene.specs.Camera.{camera_kind, camera_members}
+use Rattle.gltf_scene.specs.Scene.{node_kind, scene_kind, skin_kind, node_members, scene_members, skin_members}
+use Rattle.gltf_scene.specs.Animation.{animation_kind, animation_members}
 use Rattle.gltf_root.specs.Apart.{list_names}
 use Rattle.gltf_root.specs.Root.{root_kind, root_rows, root_tree}
 use Rattle.gltf_root.proofs.root.lists.streamed.Goals as goal

@@ -1,5 +1,5 @@
 use Rattle.std.proofs.Common.{Some, ap, sym}
-use Rattle.gltf_checked.specs.Spelling.{by_number, by_name}
+use Rattle.gltf_base.specs.Spelling.{by_number, by_name}
 use Rattle.gltf_schema.proofs.Choosing.{chosen_among}
 use Rattle.gltf_schema.proofs.leaf.CheckedSchema.decode_from.Goals as goal
 

@@ -1,6 +1,6 @@
 -- One item after another.
 use Rattle.std.proofs.Common.{rules, arith, ◌+◌, ◌++◌, ◌∷◌, [], drop}
-use Rattle.gltf_paths.specs.Steps.{item}
+use Rattle.gltf_base.specs.Steps.{item}
 use Rattle.gltf_validation.specs.ByType.{reports_in}
 use Rattle.gltf_sinks.specs.Report.{each_at}
 use Rattle.gltf_sinks.proofs.Loops.{underway-begin, underway-same, underway-more, underway-exit, underway-end, each_at-next, each_at-past}

@@ -1,6 +1,6 @@
 -- One report more.
 use Rattle.std.proofs.Common.{◌∙◌, ap, arith, subst}
-use Rattle.gltf_walk.specs.ToCome.{to_come_in, path_in}
+use Rattle.gltf_validation_walk.specs.ToCome.{to_come_in, path_in}
 use Rattle.gltf_validation.proofs.Handing.{Handing, handing-more}
 use Rattle.gltf_validation.proofs.validation.table.hand_over.Goals as goal
 

@@ -1,6 +1,6 @@
 -- The sink took the reports before those that are left.
 use Rattle.std.proofs.Common.{◌≤◌, length}
-use Rattle.gltf_walk.specs.ToCome.{base_count, depth_in, to_come_in}
+use Rattle.gltf_validation_walk.specs.ToCome.{base_count, depth_in, to_come_in}
 use Rattle.gltf_validation.proofs.Handing.{Handing}
 use Rattle.gltf_validation.proofs.validation.table.hand_over.Given as goal
 

@@ -1,8 +1,8 @@
 -- The fault of the choice is reported.
 use Rattle.std.proofs.Common.{sym, ◌∙◌}
-use Rattle.gltf_checked.specs.Spelling.{by_number}
+use Rattle.gltf_base.specs.Spelling.{by_number}
 use Rattle.gltf_root.specs.Root.{root_tree}
-use Rattle.gltf_faults.specs.Context.{rules_of, under}
+use Rattle.gltf_validation_rules.specs.Context.{rules_of, under}
 use Rattle.gltf_validation.proofs.ByTable.{choice-checked}
 use Rattle.gltf_sinks.proofs.Walks.{walked_same}
 use Rattle.gltf_validation.proofs.validation.choices.CheckedValidate.validate_with.Goals as goal

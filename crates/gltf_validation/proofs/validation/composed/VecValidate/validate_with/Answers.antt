@@ -1,6 +1,6 @@
 -- The items by the table, where it has their kind.
 use Rattle.gltf_root.specs.Root.{root_tree}
-use Rattle.gltf_faults.specs.Context.{rules_of, under}
+use Rattle.gltf_validation_rules.specs.Context.{rules_of, under}
 use Rattle.gltf_validation.proofs.ByTable.{list-each}
 use Rattle.gltf_sinks.proofs.Walks.{walked_same}
 use Rattle.gltf_validation.proofs.validation.composed.VecValidate.validate_with.Goals as goal

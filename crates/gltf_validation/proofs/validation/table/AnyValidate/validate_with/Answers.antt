@@ -1,11 +1,11 @@
 -- The reports that the walk begins with are those of the value.
 use Rattle.std.proofs.Common.{refl, arith, ◌+◌, ◌≤◌, length}
-use Rattle.gltf_paths.specs.Steps.{steps_of}
+use Rattle.gltf_base.specs.Steps.{steps_of}
 use Rattle.gltf_root.specs.Root.{root_tree}
-use Rattle.gltf_faults.specs.Context.{rules_of}
-use Rattle.gltf_faults.specs.Reports.{reports_by_rules}
+use Rattle.gltf_validation_rules.specs.Context.{rules_of}
+use Rattle.gltf_validation_rules.specs.Reports.{reports_by_rules}
 use Rattle.gltf_sinks.proofs.Walks.{handed-wider}
-use Rattle.gltf_walk.specs.ToCome.{depth_in}
+use Rattle.gltf_validation_walk.specs.ToCome.{depth_in}
 use Rattle.gltf_validation.proofs.validation.table.AnyValidate.validate_with.Goals as goal
 
 pub new-requires : goal.new-requires

@@ -1,2 +1,0 @@
-pub mod Animation
-pub mod AnimationDerived

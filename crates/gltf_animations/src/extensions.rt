@@ -1,3 +1,0 @@
-//! Extension objects of animations: the values of their member `extensions`.
-
-pub mod animation;

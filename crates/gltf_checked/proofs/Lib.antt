@@ -1,4 +1,0 @@
-pub mod ItemLemmas
-pub mod PrefixLemmas
-pub mod SetLemmas
-pub mod KeyLemmas

@@ -1,6 +1,0 @@
--- The text of each key is read as that key.
-use Rattle.gltf_checked.proofs.KeyLemmas.{key_named-key_text}
-use Rattle.gltf_checked.proofs.mesh.texts_are_read_back.Goals as goal
-
-pub returns : goal.returns
-returns c = key_named-key_text

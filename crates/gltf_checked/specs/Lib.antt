@@ -1,5 +1,0 @@
-pub mod Spelling
-pub mod Checked
-pub mod Keys
-pub mod Semantics
-pub mod Names

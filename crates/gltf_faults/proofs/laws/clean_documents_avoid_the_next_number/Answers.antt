@@ -1,5 +1,0 @@
-use Rattle.gltf_faults.proofs.PushesOnto.{clean_avoids}
-use Rattle.gltf_faults.proofs.laws.clean_documents_avoid_the_next_number.Goals as goal
-
-pub returns : goal.returns
-returns c rules r named clean = clean_avoids rules named r clean

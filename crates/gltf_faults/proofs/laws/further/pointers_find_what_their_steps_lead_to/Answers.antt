@@ -1,5 +1,0 @@
-use Rattle.gltf_faults.proofs.PointerText.{pointer_finds}
-use Rattle.gltf_faults.proofs.laws.further.pointers_find_what_their_steps_lead_to.Goals as goal
-
-pub returns : goal.returns
-returns c steps d e small h = pointer_finds steps d e small h

@@ -1,2 +1,0 @@
-pub mod Material
-pub mod MaterialDerived

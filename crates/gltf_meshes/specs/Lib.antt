@@ -1,2 +1,0 @@
-pub mod Mesh
-pub mod MeshDerived

@@ -1,6 +1,0 @@
-pub mod Camera
-pub mod Light
-pub mod Scene
-pub mod CameraDerived
-pub mod LightDerived
-pub mod SceneDerived

@@ -1,0 +1,16 @@
+-- Written by tools/derive.py from crates/gltf_parts/src/accessor/sparse.rt and
+-- crates/gltf_parts/specs/Accessor.antt. Do not edit.
+-- Each row is read in the table's order.
+use Rattle.gltf_schema.proofs.RowByRow.{all_read, read_none, read_row}
+use Rattle.gltf_parts.specs.Accessor.{sparse_indices_rows, sparse_indices_members}
+use Rattle.gltf_parts.proofs.accessor.sparse.derived.IndicesObject.read_members.Goals as goal
+
+pub returns : goal.returns
+unfolding sparse_indices_rows sparse_indices_members
+returns g c =
+    all_read
+    (read_row c.required-buffer_view.ensures
+    (read_row c.or_default-byte_offset.ensures.always
+    (read_row c.required-component_type.ensures
+    (read_row c.optional-extensions.ensures.left_out
+    (read_row c.optional-extras.ensures.left_out read_none)))))

@@ -1,0 +1,13 @@
+-- Written by tools/derive.py from crates/gltf_parts/src/extensions/material/ior.rt and
+-- crates/gltf_parts/specs/MaterialExtension.antt. Do not edit.
+-- Each row is written in the order of the names.
+use Rattle.gltf_schema.proofs.RowsWritten.{all_written, write_none, write_row}
+use Rattle.gltf_parts.specs.MaterialExtension.{ior_rows, ior_members}
+use Rattle.gltf_parts.proofs.extensions.material.ior.derived.IorObject.write_members.Goals as goal
+
+pub returns : goal.returns
+unfolding ior_rows ior_members
+returns g c =
+    all_written
+    (write_row c.optional.ensures.optional
+    (write_row c.optional-2.ensures.sometimes write_none))

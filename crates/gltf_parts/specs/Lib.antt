@@ -1,0 +1,12 @@
+pub mod Accessor
+pub mod Buffer
+pub mod Image
+pub mod AccessorDerived
+pub mod BufferDerived
+pub mod ImageDerived
+pub mod Texture
+pub mod TextureDerived
+pub mod MaterialExtension
+pub mod MaterialExtensionDerived
+pub mod Material
+pub mod MaterialDerived

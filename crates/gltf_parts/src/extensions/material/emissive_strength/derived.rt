@@ -1,0 +1,60 @@
+//! Written by tools/derive.py from crates/gltf_parts/src/extensions/material/emissive_strength.rt
+//! and crates/gltf_parts/specs/MaterialExtension.antt. Do not edit.
+
+ghost use Rattle.gltf_parts.specs.MaterialExtension.{emissive_strength_members, emissive_strength_rows};
+ghost use Rattle.gltf_parts.specs.MaterialExtensionDerived.{emissive_strength_height, emissive_strength_sound};
+ghost use Rattle.gltf_schema.specs.Fields.{real_tree};
+ghost use Rattle.gltf_schema.specs.Floats.{float_or};
+ghost use Rattle.gltf_schema.specs.Kind.{Number};
+ghost use Rattle.gltf_schema.specs.Tree.{tree_or_absent};
+ghost use Rattle.serde_json.specs.Data.{no_members};
+ghost use Rattle.std.proofs.Common.{lit≤};
+ghost use Rattle.std.specs.Prelude.{false, ◌≡◌};
+
+use super::{EmissiveStrength, EmissiveStrengthFactor};
+use gltf_schema::{Object, ReadRows, Tabled, WriteRows};
+
+impl Object for EmissiveStrength {
+    ghost rows = { emissive_strength_rows };
+
+    ghost keeps = { false };
+
+    ghost members = { emissive_strength_members };
+
+    ghost unknown = { λ _. no_members };
+
+    ghost sound = { emissive_strength_sound };
+
+    ghost height = { 0 };
+
+    ghost low = { (emissive_strength_height.1, lit≤ tt) };
+
+    fn read_members<R: ReadRows>(from: &mut R) -> EmissiveStrength {
+        let emissive_strength = from.sometimes("emissiveStrength");
+        EmissiveStrength {
+            emissive_strength: EmissiveStrengthFactor(emissive_strength),
+        }
+    }
+
+    fn write_members<W: WriteRows>(&self, to: &mut W) {
+        to.optional("emissiveStrength", &self.emissive_strength.0);
+    }
+}
+
+impl EmissiveStrengthFactor {
+    /// The number as a float, or [`EmissiveStrengthFactor::DEFAULT`] if it is absent.
+    pub fn value(&self) -> f64
+        ensures { result ≡ float_or Self.DEFAULT self.now.0 }
+    {
+        match &self.0 {
+            Some(number) => number.as_f64(),
+            None => EmissiveStrengthFactor::DEFAULT,
+        }
+    }
+}
+
+impl Tabled for EmissiveStrengthFactor {
+    ghost kind = { Number };
+
+    ghost tree = { λ factor. tree_or_absent real_tree factor.0 };
+}

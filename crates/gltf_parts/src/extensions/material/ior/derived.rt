@@ -1,0 +1,63 @@
+//! Written by tools/derive.py from crates/gltf_parts/src/extensions/material/ior.rt and
+//! crates/gltf_parts/specs/MaterialExtension.antt. Do not edit.
+
+ghost use Rattle.gltf_parts.specs.MaterialExtension.{ior_members, ior_rows};
+ghost use Rattle.gltf_parts.specs.MaterialExtensionDerived.{ior_height, ior_sound};
+ghost use Rattle.gltf_schema.specs.Fields.{real_tree};
+ghost use Rattle.gltf_schema.specs.Floats.{float_or};
+ghost use Rattle.gltf_schema.specs.Kind.{Number};
+ghost use Rattle.gltf_schema.specs.Tree.{tree_or_absent};
+ghost use Rattle.serde_json.specs.Data.{no_members};
+ghost use Rattle.std.proofs.Common.{lit≤};
+ghost use Rattle.std.specs.Prelude.{false, ◌≡◌};
+
+use super::{IndexOfRefraction, Ior};
+use gltf_schema::{Object, ReadRows, Tabled, WriteRows};
+
+impl Object for Ior {
+    ghost rows = { ior_rows };
+
+    ghost keeps = { false };
+
+    ghost members = { ior_members };
+
+    ghost unknown = { λ _. no_members };
+
+    ghost sound = { ior_sound };
+
+    ghost height = { 0 };
+
+    ghost low = { (ior_height.1, lit≤ tt) };
+
+    fn read_members<R: ReadRows>(from: &mut R) -> Ior {
+        let ior = from.sometimes("ior");
+        let extras = from.optional("extras");
+        Ior {
+            ior: IndexOfRefraction(ior),
+            extras,
+        }
+    }
+
+    fn write_members<W: WriteRows>(&self, to: &mut W) {
+        to.optional("extras", &self.extras);
+        to.optional("ior", &self.ior.0);
+    }
+}
+
+impl IndexOfRefraction {
+    /// The number as a float, or [`IndexOfRefraction::DEFAULT`] if it is absent.
+    pub fn value(&self) -> f64
+        ensures { result ≡ float_or Self.DEFAULT self.now.0 }
+    {
+        match &self.0 {
+            Some(number) => number.as_f64(),
+            None => IndexOfRefraction::DEFAULT,
+        }
+    }
+}
+
+impl Tabled for IndexOfRefraction {
+    ghost kind = { Number };
+
+    ghost tree = { λ factor. tree_or_absent real_tree factor.0 };
+}

@@ -1,0 +1,101 @@
+//! Written by tools/derive.py from
+//! crates/gltf_parts/src/extensions/material/pbr_specular_glossiness.rt and
+//! crates/gltf_parts/specs/MaterialExtension.antt. Do not edit.
+
+ghost use Rattle.gltf_parts.specs.MaterialExtension.{pbr_specular_glossiness_members, pbr_specular_glossiness_rows};
+ghost use Rattle.gltf_parts.specs.MaterialExtensionDerived.{pbr_specular_glossiness_height, pbr_specular_glossiness_sound};
+ghost use Rattle.gltf_schema.specs.Fields.{reals_tree};
+ghost use Rattle.gltf_schema.specs.Floats.{floats_or};
+ghost use Rattle.gltf_schema.specs.Kind.{Numbers};
+ghost use Rattle.gltf_schema.specs.Tree.{tree_or_absent};
+ghost use Rattle.serde_json.specs.View.{members_view};
+ghost use Rattle.std.proofs.Common.{lit≤};
+ghost use Rattle.std.specs.Prelude.{true, ◌≡◌};
+
+use super::{PbrDiffuseFactor, PbrSpecularFactor, PbrSpecularGlossiness};
+use crate::material::StrengthFactor;
+use gltf_schema::{Object, ReadRows, Tabled, WriteRows};
+
+impl Object for PbrSpecularGlossiness {
+    ghost rows = { pbr_specular_glossiness_rows };
+
+    ghost keeps = { true };
+
+    ghost members = { pbr_specular_glossiness_members };
+
+    ghost unknown = { λ e. members_view e.others.entries };
+
+    ghost sound = { pbr_specular_glossiness_sound };
+
+    ghost height = { 2 };
+
+    ghost low = { (pbr_specular_glossiness_height.1, lit≤ tt) };
+
+    fn read_members<R: ReadRows>(from: &mut R) -> PbrSpecularGlossiness {
+        let diffuse_factor = from.sometimes("diffuseFactor");
+        let diffuse_texture = from.optional("diffuseTexture");
+        let specular_factor = from.sometimes("specularFactor");
+        let glossiness_factor = from.sometimes("glossinessFactor");
+        let specular_glossiness_texture = from.optional("specularGlossinessTexture");
+        let extras = from.optional("extras");
+        let others = from.others();
+        PbrSpecularGlossiness {
+            diffuse_factor: PbrDiffuseFactor(diffuse_factor),
+            diffuse_texture,
+            specular_factor: PbrSpecularFactor(specular_factor),
+            glossiness_factor: StrengthFactor(glossiness_factor),
+            specular_glossiness_texture,
+            extras,
+            others,
+        }
+    }
+
+    fn write_members<W: WriteRows>(&self, to: &mut W) {
+        to.others(&self.others);
+        to.optional("diffuseFactor", &self.diffuse_factor.0);
+        to.optional("diffuseTexture", &self.diffuse_texture);
+        to.optional("extras", &self.extras);
+        to.optional("glossinessFactor", &self.glossiness_factor.0);
+        to.optional("specularFactor", &self.specular_factor.0);
+        to.optional(
+            "specularGlossinessTexture",
+            &self.specular_glossiness_texture,
+        );
+    }
+}
+
+impl PbrDiffuseFactor {
+    /// The numbers as floats, or [`PbrDiffuseFactor::DEFAULT`] if they are absent.
+    pub fn values(&self) -> [f64; 4]
+        ensures { result ≡ floats_or Self.DEFAULT self.now.0 }
+    {
+        match &self.0 {
+            Some([r, g, b, a]) => [r.as_f64(), g.as_f64(), b.as_f64(), a.as_f64()],
+            None => PbrDiffuseFactor::DEFAULT,
+        }
+    }
+}
+
+impl Tabled for PbrDiffuseFactor {
+    ghost kind = { Numbers 4 };
+
+    ghost tree = { λ factor. tree_or_absent reals_tree factor.0 };
+}
+
+impl PbrSpecularFactor {
+    /// The numbers as floats, or [`PbrSpecularFactor::DEFAULT`] if they are absent.
+    pub fn values(&self) -> [f64; 3]
+        ensures { result ≡ floats_or Self.DEFAULT self.now.0 }
+    {
+        match &self.0 {
+            Some([r, g, b]) => [r.as_f64(), g.as_f64(), b.as_f64()],
+            None => PbrSpecularFactor::DEFAULT,
+        }
+    }
+}
+
+impl Tabled for PbrSpecularFactor {
+    ghost kind = { Numbers 3 };
+
+    ghost tree = { λ factor. tree_or_absent reals_tree factor.0 };
+}

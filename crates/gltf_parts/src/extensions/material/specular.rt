@@ -1,0 +1,73 @@
+//! The specular reflection (`KHR_materials_specular`).
+
+ghost use Rattle.std.specs.Prelude.{◌≡◌};
+ghost use Rattle.gltf_schema.specs.Defaults.{defaults};
+ghost use Rattle.gltf_parts.specs.MaterialExtension.{specular_rows, specular_members};
+
+use crate::extras::Extras;
+use crate::texture::Info;
+use gltf_base::Real;
+
+mod derived;
+
+/// The strength and the color of the specular reflection (`KHR_materials_specular`).
+#[derive(Clone, Debug)]
+pub struct Specular {
+    /// The strength of the specular reflection.
+    pub specular_factor: SpecularFactor,
+    /// The texture with the strength in its alpha channel.
+    pub specular_texture: Option<Info>,
+    /// The specular color factor.
+    pub specular_color_factor: SpecularColorFactor,
+    /// The specular color texture.
+    pub specular_color_texture: Option<Info>,
+    pub extras: Extras,
+}
+
+// Written by tools/derive.py: begin
+impl Drop for Specular {
+    fn drop(self) {
+        let Specular {
+            specular_factor: _,
+            specular_texture: _,
+            specular_color_factor: _,
+            specular_color_texture: _,
+            extras: _,
+        } = self;
+    }
+}
+// Written by tools/derive.py: end
+
+impl Specular {
+    /// Returns an object with every member at its default.
+    #[tactic(auto, unfolding(crate::specs::MaterialExtension::specular_rows, crate::specs::MaterialExtension::specular_members))]
+    pub fn new() -> Specular
+        ensures { specular_members result ≡ defaults specular_rows }
+    {
+        Specular {
+            specular_factor: SpecularFactor(None),
+            specular_texture: None,
+            specular_color_factor: SpecularColorFactor(None),
+            specular_color_texture: None,
+            extras: None,
+        }
+    }
+}
+
+/// The strength of a specular reflection, from 0 to 1; `None` means 1.
+#[derive(Clone, Debug, Default, Drop)]
+pub struct SpecularFactor(pub Option<Real>);
+
+impl SpecularFactor {
+    /// The number that an absent factor means.
+    pub const DEFAULT: f64 = 1.0;
+}
+
+/// A specular color factor: red, green, blue; `None` means ones.
+#[derive(Clone, Debug, Default, Drop)]
+pub struct SpecularColorFactor(pub Option<[Real; 3]>);
+
+impl SpecularColorFactor {
+    /// The numbers that an absent factor means.
+    pub const DEFAULT: [f64; 3] = [1.0; 3];
+}

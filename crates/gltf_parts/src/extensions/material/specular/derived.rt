@@ -1,0 +1,90 @@
+//! Written by tools/derive.py from crates/gltf_parts/src/extensions/material/specular.rt and
+//! crates/gltf_parts/specs/MaterialExtension.antt. Do not edit.
+
+ghost use Rattle.gltf_parts.specs.MaterialExtension.{specular_members, specular_rows};
+ghost use Rattle.gltf_parts.specs.MaterialExtensionDerived.{specular_height, specular_sound};
+ghost use Rattle.gltf_schema.specs.Fields.{real_tree, reals_tree};
+ghost use Rattle.gltf_schema.specs.Floats.{float_or, floats_or};
+ghost use Rattle.gltf_schema.specs.Kind.{Number, Numbers};
+ghost use Rattle.gltf_schema.specs.Tree.{tree_or_absent};
+ghost use Rattle.serde_json.specs.Data.{no_members};
+ghost use Rattle.std.proofs.Common.{lit≤};
+ghost use Rattle.std.specs.Prelude.{false, ◌≡◌};
+
+use super::{Specular, SpecularColorFactor, SpecularFactor};
+use gltf_schema::{Object, ReadRows, Tabled, WriteRows};
+
+impl Object for Specular {
+    ghost rows = { specular_rows };
+
+    ghost keeps = { false };
+
+    ghost members = { specular_members };
+
+    ghost unknown = { λ _. no_members };
+
+    ghost sound = { specular_sound };
+
+    ghost height = { 2 };
+
+    ghost low = { (specular_height.1, lit≤ tt) };
+
+    fn read_members<R: ReadRows>(from: &mut R) -> Specular {
+        let specular_factor = from.sometimes("specularFactor");
+        let specular_texture = from.optional("specularTexture");
+        let specular_color_factor = from.sometimes("specularColorFactor");
+        let specular_color_texture = from.optional("specularColorTexture");
+        let extras = from.optional("extras");
+        Specular {
+            specular_factor: SpecularFactor(specular_factor),
+            specular_texture,
+            specular_color_factor: SpecularColorFactor(specular_color_factor),
+            specular_color_texture,
+            extras,
+        }
+    }
+
+    fn write_members<W: WriteRows>(&self, to: &mut W) {
+        to.optional("extras", &self.extras);
+        to.optional("specularColorFactor", &self.specular_color_factor.0);
+        to.optional("specularColorTexture", &self.specular_color_texture);
+        to.optional("specularFactor", &self.specular_factor.0);
+        to.optional("specularTexture", &self.specular_texture);
+    }
+}
+
+impl SpecularFactor {
+    /// The number as a float, or [`SpecularFactor::DEFAULT`] if it is absent.
+    pub fn value(&self) -> f64
+        ensures { result ≡ float_or Self.DEFAULT self.now.0 }
+    {
+        match &self.0 {
+            Some(number) => number.as_f64(),
+            None => SpecularFactor::DEFAULT,
+        }
+    }
+}
+
+impl Tabled for SpecularFactor {
+    ghost kind = { Number };
+
+    ghost tree = { λ factor. tree_or_absent real_tree factor.0 };
+}
+
+impl SpecularColorFactor {
+    /// The numbers as floats, or [`SpecularColorFactor::DEFAULT`] if they are absent.
+    pub fn values(&self) -> [f64; 3]
+        ensures { result ≡ floats_or Self.DEFAULT self.now.0 }
+    {
+        match &self.0 {
+            Some([r, g, b]) => [r.as_f64(), g.as_f64(), b.as_f64()],
+            None => SpecularColorFactor::DEFAULT,
+        }
+    }
+}
+
+impl Tabled for SpecularColorFactor {
+    ghost kind = { Numbers 3 };
+
+    ghost tree = { λ factor. tree_or_absent reals_tree factor.0 };
+}

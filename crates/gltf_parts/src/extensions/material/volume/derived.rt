@@ -1,0 +1,96 @@
+//! Written by tools/derive.py from crates/gltf_parts/src/extensions/material/volume.rt and
+//! crates/gltf_parts/specs/MaterialExtension.antt. Do not edit.
+
+ghost use Rattle.gltf_parts.specs.MaterialExtension.{volume_members, volume_rows};
+ghost use Rattle.gltf_parts.specs.MaterialExtensionDerived.{volume_height, volume_sound};
+ghost use Rattle.gltf_schema.specs.Fields.{real_tree, reals_tree};
+ghost use Rattle.gltf_schema.specs.Floats.{float_or, floats_or};
+ghost use Rattle.gltf_schema.specs.Kind.{Number, Numbers};
+ghost use Rattle.gltf_schema.specs.Tree.{tree_or_absent};
+ghost use Rattle.serde_json.specs.Data.{no_members};
+ghost use Rattle.std.proofs.Common.{lit≤};
+ghost use Rattle.std.specs.Prelude.{false, ◌≡◌};
+
+use super::{AttenuationColor, AttenuationDistance, ThicknessFactor, Volume};
+use gltf_schema::{Object, ReadRows, Tabled, WriteRows};
+
+impl Object for Volume {
+    ghost rows = { volume_rows };
+
+    ghost keeps = { false };
+
+    ghost members = { volume_members };
+
+    ghost unknown = { λ _. no_members };
+
+    ghost sound = { volume_sound };
+
+    ghost height = { 2 };
+
+    ghost low = { (volume_height.1, lit≤ tt) };
+
+    fn read_members<R: ReadRows>(from: &mut R) -> Volume {
+        let thickness_factor = from.sometimes("thicknessFactor");
+        let thickness_texture = from.optional("thicknessTexture");
+        let attenuation_distance = from.sometimes("attenuationDistance");
+        let attenuation_color = from.sometimes("attenuationColor");
+        let extras = from.optional("extras");
+        Volume {
+            thickness_factor: ThicknessFactor(thickness_factor),
+            thickness_texture,
+            attenuation_distance: AttenuationDistance(attenuation_distance),
+            attenuation_color: AttenuationColor(attenuation_color),
+            extras,
+        }
+    }
+
+    fn write_members<W: WriteRows>(&self, to: &mut W) {
+        to.optional("attenuationColor", &self.attenuation_color.0);
+        to.optional("attenuationDistance", &self.attenuation_distance.0);
+        to.optional("extras", &self.extras);
+        to.optional("thicknessFactor", &self.thickness_factor.0);
+        to.optional("thicknessTexture", &self.thickness_texture);
+    }
+}
+
+impl ThicknessFactor {
+    /// The number as a float, or [`ThicknessFactor::DEFAULT`] if it is absent.
+    pub fn value(&self) -> f64
+        ensures { result ≡ float_or Self.DEFAULT self.now.0 }
+    {
+        match &self.0 {
+            Some(number) => number.as_f64(),
+            None => ThicknessFactor::DEFAULT,
+        }
+    }
+}
+
+impl Tabled for ThicknessFactor {
+    ghost kind = { Number };
+
+    ghost tree = { λ factor. tree_or_absent real_tree factor.0 };
+}
+
+impl Tabled for AttenuationDistance {
+    ghost kind = { Number };
+
+    ghost tree = { λ factor. tree_or_absent real_tree factor.0 };
+}
+
+impl AttenuationColor {
+    /// The numbers as floats, or [`AttenuationColor::DEFAULT`] if they are absent.
+    pub fn values(&self) -> [f64; 3]
+        ensures { result ≡ floats_or Self.DEFAULT self.now.0 }
+    {
+        match &self.0 {
+            Some([r, g, b]) => [r.as_f64(), g.as_f64(), b.as_f64()],
+            None => AttenuationColor::DEFAULT,
+        }
+    }
+}
+
+impl Tabled for AttenuationColor {
+    ghost kind = { Numbers 3 };
+
+    ghost tree = { λ factor. tree_or_absent reals_tree factor.0 };
+}

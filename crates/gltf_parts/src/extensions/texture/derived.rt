@@ -1,0 +1,141 @@
+//! Written by tools/derive.py from crates/gltf_parts/src/extensions/texture.rt and
+//! crates/gltf_parts/specs/Texture.antt. Do not edit.
+
+ghost use Rattle.gltf_parts.specs.Texture.{info_extension_members, info_extension_rows, texture_transform_members, texture_transform_rows};
+ghost use Rattle.gltf_parts.specs.TextureDerived.{info_extension_height, info_extension_sound, texture_transform_height, texture_transform_sound};
+ghost use Rattle.gltf_schema.specs.Fields.{real_tree, reals_tree};
+ghost use Rattle.gltf_schema.specs.Floats.{float_or, floats_or};
+ghost use Rattle.gltf_schema.specs.Kind.{Number, Numbers};
+ghost use Rattle.gltf_schema.specs.Tree.{tree_or_absent};
+ghost use Rattle.serde_json.specs.Data.{no_members};
+ghost use Rattle.serde_json.specs.View.{members_view};
+ghost use Rattle.std.proofs.Common.{lit≤};
+ghost use Rattle.std.specs.Prelude.{false, true, ◌≡◌};
+
+use super::{
+    Info, TextureTransform, TextureTransformOffset, TextureTransformRotation, TextureTransformScale,
+};
+use gltf_schema::{Object, ReadRows, Tabled, WriteRows};
+
+impl Object for TextureTransform {
+    ghost rows = { texture_transform_rows };
+
+    ghost keeps = { false };
+
+    ghost members = { texture_transform_members };
+
+    ghost unknown = { λ _. no_members };
+
+    ghost sound = { texture_transform_sound };
+
+    ghost height = { 0 };
+
+    ghost low = { (texture_transform_height.1, lit≤ tt) };
+
+    fn read_members<R: ReadRows>(from: &mut R) -> TextureTransform {
+        let offset = from.sometimes("offset");
+        let rotation = from.sometimes("rotation");
+        let scale = from.sometimes("scale");
+        let tex_coord = from.optional("texCoord");
+        let extras = from.optional("extras");
+        TextureTransform {
+            offset: TextureTransformOffset(offset),
+            rotation: TextureTransformRotation(rotation),
+            scale: TextureTransformScale(scale),
+            tex_coord,
+            extras,
+        }
+    }
+
+    fn write_members<W: WriteRows>(&self, to: &mut W) {
+        to.optional("extras", &self.extras);
+        to.optional("offset", &self.offset.0);
+        to.optional("rotation", &self.rotation.0);
+        to.optional("scale", &self.scale.0);
+        to.or_null("texCoord", &self.tex_coord);
+    }
+}
+
+impl Object for Info {
+    ghost rows = { info_extension_rows };
+
+    ghost keeps = { true };
+
+    ghost members = { info_extension_members };
+
+    ghost unknown = { λ e. members_view e.others.entries };
+
+    ghost sound = { info_extension_sound };
+
+    ghost height = { 0 };
+
+    ghost low = { (info_extension_height.1, lit≤ tt) };
+
+    fn read_members<R: ReadRows>(from: &mut R) -> Info {
+        let texture_transform = from.optional("KHR_texture_transform");
+        let others = from.others();
+        Info {
+            texture_transform,
+            others,
+        }
+    }
+
+    fn write_members<W: WriteRows>(&self, to: &mut W) {
+        to.others(&self.others);
+        to.optional("KHR_texture_transform", &self.texture_transform);
+    }
+}
+
+impl TextureTransformOffset {
+    /// The numbers as floats, or [`TextureTransformOffset::DEFAULT`] if they are absent.
+    pub fn values(&self) -> [f64; 2]
+        ensures { result ≡ floats_or Self.DEFAULT self.now.0 }
+    {
+        match &self.0 {
+            Some([x, y]) => [x.as_f64(), y.as_f64()],
+            None => TextureTransformOffset::DEFAULT,
+        }
+    }
+}
+
+impl Tabled for TextureTransformOffset {
+    ghost kind = { Numbers 2 };
+
+    ghost tree = { λ factor. tree_or_absent reals_tree factor.0 };
+}
+
+impl TextureTransformRotation {
+    /// The number as a float, or [`TextureTransformRotation::DEFAULT`] if it is absent.
+    pub fn value(&self) -> f64
+        ensures { result ≡ float_or Self.DEFAULT self.now.0 }
+    {
+        match &self.0 {
+            Some(number) => number.as_f64(),
+            None => TextureTransformRotation::DEFAULT,
+        }
+    }
+}
+
+impl Tabled for TextureTransformRotation {
+    ghost kind = { Number };
+
+    ghost tree = { λ factor. tree_or_absent real_tree factor.0 };
+}
+
+impl TextureTransformScale {
+    /// The numbers as floats, or [`TextureTransformScale::DEFAULT`] if they are absent.
+    pub fn values(&self) -> [f64; 2]
+        ensures { result ≡ floats_or Self.DEFAULT self.now.0 }
+    {
+        match &self.0 {
+            Some([x, y]) => [x.as_f64(), y.as_f64()],
+            None => TextureTransformScale::DEFAULT,
+        }
+    }
+}
+
+impl Tabled for TextureTransformScale {
+    ghost kind = { Numbers 2 };
+
+    ghost tree = { λ factor. tree_or_absent reals_tree factor.0 };
+}

@@ -1,5 +1,0 @@
-use Rattle.gltf_paths.proofs.Escapes.{unescape_escaped}
-use Rattle.gltf_paths.proofs.laws.names_are_read_back.Goals as goal
-
-pub returns : goal.returns
-returns c = unescape_escaped

@@ -1,0 +1,12 @@
+-- Written by tools/derive.py from crates/gltf_scene/src/extensions/mesh.rt and
+-- crates/gltf_scene/specs/Mesh.antt. Do not edit.
+-- Each row is written in the order of the names.
+use Rattle.gltf_schema.proofs.RowsWritten.{written_with_others, write_none, write_row}
+use Rattle.gltf_scene.specs.Mesh.{primitive_extension_rows, primitive_extension_members}
+use Rattle.gltf_scene.proofs.extensions.mesh.derived.PrimitiveObject.write_members.Goals as goal
+
+pub returns : goal.returns
+unfolding primitive_extension_rows primitive_extension_members
+returns g c =
+    written_with_others c.others.ensures
+    (write_row c.optional.ensures.optional write_none)

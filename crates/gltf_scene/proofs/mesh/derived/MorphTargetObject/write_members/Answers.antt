@@ -1,0 +1,14 @@
+-- Written by tools/derive.py from crates/gltf_scene/src/mesh.rt and
+-- crates/gltf_scene/specs/Mesh.antt. Do not edit.
+-- Each row is written in the order of the names.
+use Rattle.gltf_schema.proofs.RowsWritten.{all_written, write_none, write_row}
+use Rattle.gltf_scene.specs.Mesh.{morph_target_rows, morph_target_members}
+use Rattle.gltf_scene.proofs.mesh.derived.MorphTargetObject.write_members.Goals as goal
+
+pub returns : goal.returns
+unfolding morph_target_rows morph_target_members
+returns g c =
+    all_written
+    (write_row c.optional.ensures.optional
+    (write_row c.optional-2.ensures.optional
+    (write_row c.optional-3.ensures.optional write_none)))

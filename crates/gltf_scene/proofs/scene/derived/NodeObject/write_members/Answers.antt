@@ -1,0 +1,23 @@
+-- Written by tools/derive.py from crates/gltf_scene/src/scene.rt and
+-- crates/gltf_scene/specs/Scene.antt. Do not edit.
+-- Each row is written in the order of the names.
+use Rattle.gltf_schema.proofs.RowsWritten.{all_written, write_none, write_row}
+use Rattle.gltf_scene.specs.Scene.{node_rows, node_members}
+use Rattle.gltf_scene.proofs.scene.derived.NodeObject.write_members.Goals as goal
+
+pub returns : goal.returns
+unfolding node_rows node_members
+returns g c =
+    all_written
+    (write_row c.optional.ensures.optional
+    (write_row c.optional-2.ensures.optional
+    (write_row c.optional-3.ensures.optional
+    (write_row c.optional-4.ensures.optional
+    (write_row c.optional-5.ensures.optional
+    (write_row c.optional-6.ensures.optional
+    (write_row c.optional-7.ensures.optional
+    (write_row c.optional-8.ensures.optional
+    (write_row c.optional-9.ensures.optional
+    (write_row c.optional-10.ensures.optional
+    (write_row c.optional-11.ensures.optional
+    (write_row c.optional-12.ensures.optional write_none))))))))))))

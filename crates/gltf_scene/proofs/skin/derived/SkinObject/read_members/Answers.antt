@@ -1,0 +1,17 @@
+-- Written by tools/derive.py from crates/gltf_scene/src/skin.rt and
+-- crates/gltf_scene/specs/Scene.antt. Do not edit.
+-- Each row is read in the table's order.
+use Rattle.gltf_schema.proofs.RowByRow.{all_read, read_none, read_row}
+use Rattle.gltf_scene.specs.Scene.{skin_rows, skin_members}
+use Rattle.gltf_scene.proofs.skin.derived.SkinObject.read_members.Goals as goal
+
+pub returns : goal.returns
+unfolding skin_rows skin_members
+returns g c =
+    all_read
+    (read_row c.optional-extensions.ensures.left_out
+    (read_row c.optional-extras.ensures.left_out
+    (read_row c.optional-inverse_bind_matrices.ensures.left_out
+    (read_row c.list-joints.ensures
+    (read_row c.optional-name.ensures.left_out
+    (read_row c.optional-skeleton.ensures.left_out read_none))))))

@@ -1,0 +1,12 @@
+pub mod Mesh
+pub mod MeshDerived
+pub mod Camera
+pub mod Light
+pub mod Scene
+pub mod CameraDerived
+pub mod LightDerived
+pub mod SceneDerived
+pub mod Animation
+pub mod AnimationDerived
+pub mod Asset
+pub mod AssetDerived

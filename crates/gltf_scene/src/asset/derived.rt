@@ -1,0 +1,53 @@
+//! Written by tools/derive.py from crates/gltf_scene/src/asset.rt and
+//! crates/gltf_scene/specs/Asset.antt. Do not edit.
+
+ghost use Rattle.gltf_scene.specs.Asset.{asset_members, asset_rows};
+ghost use Rattle.gltf_scene.specs.AssetDerived.{asset_height, asset_sound};
+ghost use Rattle.serde_json.specs.Data.{no_members};
+ghost use Rattle.std.proofs.Common.{lit≤};
+ghost use Rattle.std.specs.Prelude.{false};
+
+use super::Asset;
+use gltf_schema::{Object, ReadRows, WriteRows};
+
+impl Object for Asset {
+    ghost rows = { asset_rows };
+
+    ghost keeps = { false };
+
+    ghost members = { asset_members };
+
+    ghost unknown = { λ _. no_members };
+
+    ghost sound = { asset_sound };
+
+    ghost height = { 0 };
+
+    ghost low = { (asset_height.1, lit≤ tt) };
+
+    fn read_members<R: ReadRows>(from: &mut R) -> Asset {
+        let copyright = from.optional("copyright");
+        let generator = from.optional("generator");
+        let min_version = from.optional("minVersion");
+        let version = from.required("version");
+        let extensions = from.optional("extensions");
+        let extras = from.optional("extras");
+        Asset {
+            copyright,
+            generator,
+            min_version,
+            version,
+            extensions,
+            extras,
+        }
+    }
+
+    fn write_members<W: WriteRows>(&self, to: &mut W) {
+        to.optional("copyright", &self.copyright);
+        to.optional("extensions", &self.extensions);
+        to.optional("extras", &self.extras);
+        to.optional("generator", &self.generator);
+        to.optional("minVersion", &self.min_version);
+        to.always("version", &self.version);
+    }
+}

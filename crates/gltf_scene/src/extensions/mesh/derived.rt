@@ -1,0 +1,94 @@
+//! Written by tools/derive.py from crates/gltf_scene/src/extensions/mesh.rt and
+//! crates/gltf_scene/specs/Mesh.antt. Do not edit.
+
+ghost use Rattle.gltf_scene.specs.Mesh.{primitive_extension_members, primitive_extension_rows, variant_mapping_members, variant_mapping_rows, variant_mappings_members, variant_mappings_rows};
+ghost use Rattle.gltf_scene.specs.MeshDerived.{primitive_extension_height, primitive_extension_sound, variant_mapping_height, variant_mapping_sound, variant_mappings_height, variant_mappings_sound};
+ghost use Rattle.serde_json.specs.Data.{no_members};
+ghost use Rattle.serde_json.specs.View.{members_view};
+ghost use Rattle.std.proofs.Common.{lit≤};
+ghost use Rattle.std.specs.Prelude.{false, true};
+
+use super::{KhrMaterialsVariants, Mapping, Primitive};
+use gltf_schema::{Object, ReadRows, WriteRows};
+
+impl Object for Mapping {
+    ghost rows = { variant_mapping_rows };
+
+    ghost keeps = { false };
+
+    ghost members = { variant_mapping_members };
+
+    ghost unknown = { λ _. no_members };
+
+    ghost sound = { variant_mapping_sound };
+
+    ghost height = { 0 };
+
+    ghost low = { (variant_mapping_height.1, lit≤ tt) };
+
+    fn read_members<R: ReadRows>(from: &mut R) -> Mapping {
+        let material = from.required("material");
+        let variants = from.required("variants");
+        Mapping { material, variants }
+    }
+
+    fn write_members<W: WriteRows>(&self, to: &mut W) {
+        to.always("material", &self.material);
+        to.always("variants", &self.variants);
+    }
+}
+
+impl Object for KhrMaterialsVariants {
+    ghost rows = { variant_mappings_rows };
+
+    ghost keeps = { false };
+
+    ghost members = { variant_mappings_members };
+
+    ghost unknown = { λ _. no_members };
+
+    ghost sound = { variant_mappings_sound };
+
+    ghost height = { 0 };
+
+    ghost low = { (variant_mappings_height.1, lit≤ tt) };
+
+    fn read_members<R: ReadRows>(from: &mut R) -> KhrMaterialsVariants {
+        let mappings = from.required("mappings");
+        KhrMaterialsVariants { mappings }
+    }
+
+    fn write_members<W: WriteRows>(&self, to: &mut W) {
+        to.always("mappings", &self.mappings);
+    }
+}
+
+impl Object for Primitive {
+    ghost rows = { primitive_extension_rows };
+
+    ghost keeps = { true };
+
+    ghost members = { primitive_extension_members };
+
+    ghost unknown = { λ e. members_view e.others.entries };
+
+    ghost sound = { primitive_extension_sound };
+
+    ghost height = { 0 };
+
+    ghost low = { (primitive_extension_height.1, lit≤ tt) };
+
+    fn read_members<R: ReadRows>(from: &mut R) -> Primitive {
+        let khr_materials_variants = from.optional("KHR_materials_variants");
+        let others = from.others();
+        Primitive {
+            khr_materials_variants,
+            others,
+        }
+    }
+
+    fn write_members<W: WriteRows>(&self, to: &mut W) {
+        to.others(&self.others);
+        to.optional("KHR_materials_variants", &self.khr_materials_variants);
+    }
+}

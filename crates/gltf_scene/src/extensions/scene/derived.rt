@@ -1,0 +1,41 @@
+//! Written by tools/derive.py from crates/gltf_scene/src/extensions/scene.rt and
+//! crates/gltf_scene/specs/Scene.antt. Do not edit.
+
+ghost use Rattle.gltf_scene.specs.Scene.{node_extension_members, node_extension_rows};
+ghost use Rattle.gltf_scene.specs.SceneDerived.{node_extension_height, node_extension_sound};
+ghost use Rattle.serde_json.specs.View.{members_view};
+ghost use Rattle.std.proofs.Common.{lit≤};
+ghost use Rattle.std.specs.Prelude.{true};
+
+use super::Node;
+use gltf_schema::{Object, ReadRows, WriteRows};
+
+impl Object for Node {
+    ghost rows = { node_extension_rows };
+
+    ghost keeps = { true };
+
+    ghost members = { node_extension_members };
+
+    ghost unknown = { λ e. members_view e.others.entries };
+
+    ghost sound = { node_extension_sound };
+
+    ghost height = { 2 };
+
+    ghost low = { (node_extension_height.1, lit≤ tt) };
+
+    fn read_members<R: ReadRows>(from: &mut R) -> Node {
+        let khr_lights_punctual = from.optional("KHR_lights_punctual");
+        let others = from.others();
+        Node {
+            khr_lights_punctual,
+            others,
+        }
+    }
+
+    fn write_members<W: WriteRows>(&self, to: &mut W) {
+        to.others(&self.others);
+        to.optional("KHR_lights_punctual", &self.khr_lights_punctual);
+    }
+}

@@ -1,0 +1,162 @@
+//! Written by tools/derive.py from crates/gltf_scene/src/extensions/scene/khr_lights_punctual.rt
+//! and crates/gltf_scene/specs/Light.antt. Do not edit.
+
+ghost use Rattle.gltf_scene.specs.Light.{light_members, light_of_node_members, light_of_node_rows, light_rows, spot_members, spot_rows};
+ghost use Rattle.gltf_scene.specs.LightDerived.{light_height, light_of_node_height, light_of_node_sound, light_sound, spot_height, spot_sound};
+ghost use Rattle.gltf_schema.specs.Floats.{float_or, floats_or};
+ghost use Rattle.gltf_schema.specs.Kind.{needs_cone};
+ghost use Rattle.serde_json.specs.Data.{no_members};
+ghost use Rattle.std.proofs.Common.{lit≤};
+ghost use Rattle.std.specs.Prelude.{false, ◌≡◌};
+
+use super::{KhrLightsPunctual, Light, Spot};
+use gltf_schema::{Object, ReadRows, WriteRows};
+
+impl Object for KhrLightsPunctual {
+    ghost rows = { light_of_node_rows };
+
+    ghost keeps = { false };
+
+    ghost members = { light_of_node_members };
+
+    ghost unknown = { λ _. no_members };
+
+    ghost sound = { light_of_node_sound };
+
+    ghost height = { 1 };
+
+    ghost low = { (light_of_node_height.1, lit≤ tt) };
+
+    fn read_members<R: ReadRows>(from: &mut R) -> KhrLightsPunctual {
+        let light = from.required("light");
+        KhrLightsPunctual { light }
+    }
+
+    fn write_members<W: WriteRows>(&self, to: &mut W) {
+        to.always("light", &self.light);
+    }
+}
+
+impl Object for Spot {
+    ghost rows = { spot_rows };
+
+    ghost keeps = { false };
+
+    ghost members = { spot_members };
+
+    ghost unknown = { λ _. no_members };
+
+    ghost sound = { spot_sound };
+
+    ghost height = { 0 };
+
+    ghost low = { (spot_height.1, lit≤ tt) };
+
+    fn read_members<R: ReadRows>(from: &mut R) -> Spot {
+        let inner_cone_angle = from.sometimes("innerConeAngle");
+        let outer_cone_angle = from.sometimes("outerConeAngle");
+        Spot {
+            inner_cone_angle,
+            outer_cone_angle,
+        }
+    }
+
+    fn write_members<W: WriteRows>(&self, to: &mut W) {
+        to.optional("innerConeAngle", &self.inner_cone_angle);
+        to.optional("outerConeAngle", &self.outer_cone_angle);
+    }
+}
+
+impl Spot {
+    /// The number as a float, or [`Spot::DEFAULT_INNER_CONE_ANGLE`] if it is absent.
+    pub fn inner_cone_angle_value(&self) -> f64
+        ensures { result ≡ float_or Self.DEFAULT_INNER_CONE_ANGLE self.now.inner_cone_angle }
+    {
+        match &self.inner_cone_angle {
+            Some(number) => number.as_f64(),
+            None => Spot::DEFAULT_INNER_CONE_ANGLE,
+        }
+    }
+
+    /// The number as a float, or [`Spot::DEFAULT_OUTER_CONE_ANGLE`] if it is absent.
+    pub fn outer_cone_angle_value(&self) -> f64
+        ensures { result ≡ float_or Self.DEFAULT_OUTER_CONE_ANGLE self.now.outer_cone_angle }
+    {
+        match &self.outer_cone_angle {
+            Some(number) => number.as_f64(),
+            None => Spot::DEFAULT_OUTER_CONE_ANGLE,
+        }
+    }
+}
+
+impl Object for Light {
+    ghost rule = { needs_cone };
+
+    ghost rows = { light_rows };
+
+    ghost keeps = { false };
+
+    ghost members = { light_members };
+
+    ghost unknown = { λ _. no_members };
+
+    ghost sound = { light_sound };
+
+    ghost height = { 1 };
+
+    ghost low = { (light_height.1, lit≤ tt) };
+
+    fn read_members<R: ReadRows>(from: &mut R) -> Light {
+        let color = from.sometimes("color");
+        let extensions = from.optional("extensions");
+        let extras = from.optional("extras");
+        let intensity = from.sometimes("intensity");
+        let name = from.optional("name");
+        let range = from.optional("range");
+        let spot = from.optional("spot");
+        let type_ = from.required("type");
+        Light {
+            color,
+            extensions,
+            extras,
+            intensity,
+            name,
+            range,
+            spot,
+            type_,
+        }
+    }
+
+    fn write_members<W: WriteRows>(&self, to: &mut W) {
+        to.optional("color", &self.color);
+        to.optional("extensions", &self.extensions);
+        to.optional("extras", &self.extras);
+        to.optional("intensity", &self.intensity);
+        to.optional("name", &self.name);
+        to.optional("range", &self.range);
+        to.optional("spot", &self.spot);
+        to.always("type", &self.type_);
+    }
+}
+
+impl Light {
+    /// The numbers as floats, or [`Light::DEFAULT_COLOR`] if they are absent.
+    pub fn color_values(&self) -> [f64; 3]
+        ensures { result ≡ floats_or Self.DEFAULT_COLOR self.now.color }
+    {
+        match &self.color {
+            Some([r, g, b]) => [r.as_f64(), g.as_f64(), b.as_f64()],
+            None => Light::DEFAULT_COLOR,
+        }
+    }
+
+    /// The number as a float, or [`Light::DEFAULT_INTENSITY`] if it is absent.
+    pub fn intensity_value(&self) -> f64
+        ensures { result ≡ float_or Self.DEFAULT_INTENSITY self.now.intensity }
+    {
+        match &self.intensity {
+            Some(number) => number.as_f64(),
+            None => Light::DEFAULT_INTENSITY,
+        }
+    }
+}

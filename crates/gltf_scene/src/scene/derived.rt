@@ -1,0 +1,130 @@
+//! Written by tools/derive.py from crates/gltf_scene/src/scene.rt and
+//! crates/gltf_scene/specs/Scene.antt. Do not edit.
+
+ghost use Rattle.gltf_scene.specs.Scene.{node_members, node_rows, scene_members, scene_rows};
+ghost use Rattle.gltf_scene.specs.SceneDerived.{node_height, node_sound, scene_height, scene_sound};
+ghost use Rattle.gltf_schema.specs.Floats.{floats_or};
+ghost use Rattle.serde_json.specs.Data.{no_members};
+ghost use Rattle.std.proofs.Common.{lit≤};
+ghost use Rattle.std.specs.Prelude.{false, ◌≡◌};
+
+use super::{Node, Scene};
+use gltf_schema::{Object, ReadRows, WriteRows};
+
+impl Object for Node {
+    ghost rows = { node_rows };
+
+    ghost keeps = { false };
+
+    ghost members = { node_members };
+
+    ghost unknown = { λ _. no_members };
+
+    ghost sound = { node_sound };
+
+    ghost height = { 3 };
+
+    ghost low = { (node_height.1, lit≤ tt) };
+
+    fn read_members<R: ReadRows>(from: &mut R) -> Node {
+        let camera = from.optional("camera");
+        let children = from.optional("children");
+        let extensions = from.optional("extensions");
+        let extras = from.optional("extras");
+        let matrix = from.optional("matrix");
+        let mesh = from.optional("mesh");
+        let name = from.optional("name");
+        let rotation = from.optional("rotation");
+        let scale = from.optional("scale");
+        let translation = from.optional("translation");
+        let skin = from.optional("skin");
+        let weights = from.optional("weights");
+        Node {
+            camera,
+            children,
+            extensions,
+            extras,
+            matrix,
+            mesh,
+            name,
+            rotation,
+            scale,
+            translation,
+            skin,
+            weights,
+        }
+    }
+
+    fn write_members<W: WriteRows>(&self, to: &mut W) {
+        to.optional("camera", &self.camera);
+        to.optional("children", &self.children);
+        to.optional("extensions", &self.extensions);
+        to.optional("extras", &self.extras);
+        to.optional("matrix", &self.matrix);
+        to.optional("mesh", &self.mesh);
+        to.optional("name", &self.name);
+        to.optional("rotation", &self.rotation);
+        to.optional("scale", &self.scale);
+        to.optional("skin", &self.skin);
+        to.optional("translation", &self.translation);
+        to.optional("weights", &self.weights);
+    }
+}
+
+impl Node {
+    /// The numbers as floats, or [`Node::DEFAULT_SCALE`] if they are absent.
+    pub fn scale_values(&self) -> [f64; 3]
+        ensures { result ≡ floats_or Self.DEFAULT_SCALE self.now.scale }
+    {
+        match &self.scale {
+            Some([x, y, z]) => [x.as_f64(), y.as_f64(), z.as_f64()],
+            None => Node::DEFAULT_SCALE,
+        }
+    }
+
+    /// The numbers as floats, or [`Node::DEFAULT_TRANSLATION`] if they are absent.
+    pub fn translation_values(&self) -> [f64; 3]
+        ensures { result ≡ floats_or Self.DEFAULT_TRANSLATION self.now.translation }
+    {
+        match &self.translation {
+            Some([x, y, z]) => [x.as_f64(), y.as_f64(), z.as_f64()],
+            None => Node::DEFAULT_TRANSLATION,
+        }
+    }
+}
+
+impl Object for Scene {
+    ghost rows = { scene_rows };
+
+    ghost keeps = { false };
+
+    ghost members = { scene_members };
+
+    ghost unknown = { λ _. no_members };
+
+    ghost sound = { scene_sound };
+
+    ghost height = { 2 };
+
+    ghost low = { (scene_height.1, lit≤ tt) };
+
+    fn read_members<R: ReadRows>(from: &mut R) -> Scene {
+        let extensions = from.optional("extensions");
+        let extras = from.optional("extras");
+        let name = from.optional("name");
+        let nodes = from.list("nodes");
+        Scene {
+            extensions,
+            extras,
+            name,
+            nodes,
+        }
+    }
+
+    fn write_members<W: WriteRows>(&self, to: &mut W) {
+        to.optional("extensions", &self.extensions);
+        to.optional("extras", &self.extras);
+        to.optional("name", &self.name);
+        to.list("nodes", &self.nodes);
+    }
+}

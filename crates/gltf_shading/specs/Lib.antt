@@ -1,2 +1,0 @@
-pub mod MaterialExtension
-pub mod MaterialExtensionDerived

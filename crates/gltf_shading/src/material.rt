@@ -1,5 +1,0 @@
-//! What materials and their extensions share.
-
-mod strength;
-
-pub use strength::StrengthFactor;

@@ -1,2 +1,0 @@
-pub mod Texture
-pub mod TextureDerived

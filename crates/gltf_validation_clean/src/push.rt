@@ -1,0 +1,125 @@
+//! Roots without reports, and pushes that leave them so.
+
+ghost use Rattle.std.specs.Prelude.{◌≡◌, [], ◌∷◌, ◌++◌, None, Some, IfOk};
+ghost use Rattle.std.specs.List.{last_or};
+ghost use Rattle.gltf_root.specs.Root.{root_tree};
+ghost use Rattle.gltf_root.specs.Undone.{undone};
+ghost use Rattle.gltf_validation_rules.specs.Context.{rules_of};
+ghost use Rattle.gltf_validation_clean.specs.Clean.{IsClean, IsPushed};
+ghost use Rattle.gltf_validation_clean.specs.Held.{rules_held, root_held, tree_held, IsHeld};
+
+use crate::clean::Clean;
+use crate::fault::{fault_of_last, first_fault};
+use crate::item::Item;
+use gltf_base::validation::Error;
+use gltf_base::{Index, PushError};
+use gltf_root::root::{Mark, Root};
+use gltf_validation_rules::Rules;
+use std::fmt::{self, Debug, Display, Formatter, Write};
+
+/// Why an item was not pushed; each case hands it back.
+#[derive(Debug, Drop)]
+pub enum CleanError<T> {
+    /// The list has 4294967295 items or more.
+    Full(T),
+    /// Out of memory.
+    Memory(T),
+    /// The item has a report in the list: its first fault.
+    Faulty(T, Error),
+}
+
+impl<T> Display for CleanError<T> {
+    ghost use Rattle.gltf_validation_clean.specs.ErrorText.{clean_error_text};
+
+    ghost output = { λ error. Some (clean_error_text error) };
+
+    fn fmt<W: Write>(&self, f: &mut Formatter<W>) -> fmt::Result {
+        match self {
+            CleanError::Full(_) => Display::fmt(&PushError::Full(()), f),
+            CleanError::Memory(_) => Display::fmt(&PushError::Memory(()), f),
+            CleanError::Faulty(_, error) => Display::fmt(error, f),
+        }
+    }
+}
+
+impl<T: Debug + Drop> std::error::Error for CleanError<T> {}
+
+impl<'a> Clean<'a> {
+    /// Returns a `Clean` of the root if it has no report by the rules. If not, it hands the root
+    /// back. It takes no memory.
+    pub fn of(rules: Rules<'a>, root: Root) -> Result<Clean<'a>, Root>
+        ensures { IsHeld (rules_of rules.entry) root result }
+    {
+        match first_fault(&root, &rules, &root) {
+            None => Ok(Clean { rules, root }),
+            Some(_) => Err(root),
+        }
+    }
+
+    /// Returns the root. It takes no memory.
+    pub fn root(&self) -> &Root
+        ensures held { result.now ≡ root_held self.now }
+        ensures clean { IsClean (rules_held self.now) (root_tree result.now) }
+    {
+        &self.root
+    }
+
+    /// Returns the root without its rules. It takes no memory.
+    pub fn into_root(self) -> Root
+        ensures held { result ≡ root_held self.entry }
+        ensures clean { IsClean (rules_held self.entry) (root_tree result) }
+    {
+        self.root
+    }
+
+    /// Appends an item to its list if it has no report there, and returns its index. The item may
+    /// name items of the root and itself. Extension objects that are missing are made, as in
+    /// `Get::push`.
+    ///
+    /// Fails with `Full` before any memory is taken, with `Memory` before the item is looked at,
+    /// and with `Faulty` if the item has a report. Such an item is in the list while it is looked
+    /// at, and is taken out again. Each refusal leaves the root as it was.
+    pub fn push<T: Item>(&mut self, item: T) -> Result<Index<T>, CleanError<T>>
+        ensures rules { rules_held self.new ≡ rules_held self.old }
+        ensures pushed { IsPushed (rules_held self.old) T.list item (T.RootItem.tree item)
+            (tree_held self.old) result (tree_held self.new) }
+        ensures appended { IfOk result (λ _. T.items (root_held self.new)
+            ≡ T.items (root_held self.old) ++ item ∷ []) }
+    {
+        push_clean(&self.rules, &mut self.root, item)
+    }
+}
+
+/// Appends an item to its list in a root if it has no report there.
+fn push_clean<T: Item>(
+    rules: &Rules<'_>,
+    root: &mut Root,
+    item: T,
+) -> Result<Index<T>, CleanError<T>>
+    ensures pushed { IsPushed (rules_of rules.now) T.list item (T.RootItem.tree item)
+        (root_tree root.old) result (root_tree root.new) }
+    ensures appended { IfOk result (λ _. T.items root.new ≡ T.items root.old ++ item ∷ []) }
+{
+    let mark = T::mark_of(root);
+    match T::push_onto(root, item) {
+        Ok(index) => match fault_of_last::<T>(rules, root) {
+            None => Ok(index),
+            Some(error) => Err(CleanError::Faulty(taken_back(root, mark), error)),
+        },
+        Err(PushError::Full(item)) => Err(CleanError::Full(item)),
+        Err(PushError::Memory(item)) => Err(CleanError::Memory(item)),
+    }
+}
+
+/// Takes the last item out of its list again, and with it what was missing by the mark.
+pub(crate) fn taken_back<T: Item>(root: &mut Root, mark: Mark) -> T
+    requires { (T.items root.old ≡ []) → ⊥ }
+    ensures item { last_or None (T.items root.old) ≡ Some result }
+    ensures document { root_tree root.new ≡ undone T.list mark (root_tree root.old) }
+{
+    match T::undo_push_from(root, mark) {
+        Some(item) => item,
+        // An item was pushed.
+        None => unreachable!(),
+    }
+}

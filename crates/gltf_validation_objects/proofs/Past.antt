@@ -1,0 +1,22 @@
+-- Past its last move an outline is over.
+use Rattle.std.proofs.Common.{◌≡◌, ℕ, zero, suc, ◌+◌, ◌≤◌, List, [], ◌∷◌, length, Option, Some, None, refl, arith}
+use Rattle.gltf_base.specs.declared.validation.Error.{Error}
+use Rattle.gltf_validation_objects.specs.Outline.{Outlines, place, nothing, below, errors, move_at, over}
+
+-- how many steps down an outline has
+abbrev pub counts : Outlines → ℕ
+counts nothing = 0
+counts (below s p ps) = suc (counts ps)
+
+pub past : (ps : Outlines) (es : List Error) (n : ℕ) → counts ps + length es ≤ n → over ≡ move_at (place ps es) n
+past nothing [] zero l = refl
+past nothing [] (suc n) l = past nothing [] n (omega arith)
+past nothing (e ∷ es) zero l = absurd (omega arith)
+past nothing (e ∷ es) (suc n) l = past nothing es n (omega arith)
+past (below s p ps) es zero l = absurd (omega arith)
+past (below s p ps) es (suc n) l = past ps es n (omega arith)
+
+-- one thing at most was found
+pub one_error : (e : Option Error) → length (errors e) ≤ 1
+one_error None = omega arith
+one_error (Some error) = omega arith

@@ -1,0 +1,114 @@
+-- The outline of a tree of the table.
+use Rattle.std.specs.Prelude.{ℕ, suc, List, [], ◌∷◌, ◌++◌, Bool, true, false, cond, ◌&&◌, codes, Option, Some, None}
+use Rattle.std.specs.Map.{lookup}
+use Rattle.gltf_base.specs.Keys.{Key, key_text}
+use Rattle.gltf_base.specs.Lists.{ListName}
+use Rattle.gltf_base.specs.Steps.{Step, field, item, key, value}
+use Rattle.gltf_base.specs.declared.validation.Error.{Error}
+use Rattle.gltf_schema.specs.Tree.{Tree, text, object, Trees, end, with_tree, items_in, members_in, entries_in}
+use Rattle.gltf_schema.specs.Kind.{Kind, IndexInto, SourceImage, ChannelSampler, Stride, Choice, Attributes, ListOf, Object, Rows, no_rows, row, Rule, needs_data, needs_projection, needs_cone, needs_positions, requires_enabled}
+use Rattle.gltf_root.specs.Lists.{count_in, sampler_count}
+use Rattle.gltf_sinks.specs.Report.{Report, From, first_error}
+use Rattle.gltf_validation_rules.specs.Context.{Context}
+use Rattle.gltf_validation_rules.specs.Faults.{index_faults, source_faults, stride_faults, choice_faults, key_faults, number_faults}
+use Rattle.gltf_validation_rules.specs.Reports.{animation_below}
+use Rattle.gltf_validation_rules.specs.Rules.{accessor_rule, camera_rule, light_rule, positions_faults, is_positions, primitive_attributes, root_extensions_required, extension_faults}
+use Rattle.gltf_schema.specs.Silence.{is_silent}
+use Rattle.gltf_validation_rules.specs.Standing.{same_step}
+use Rattle.gltf_validation_rules.specs.declared.primitive.PositionFaults.{PositionFaults}
+use Rattle.gltf_validation_objects.specs.Outline.{Outline, place, Outlines, nothing, below, errors, leaf, also}
+
+-- ---- what is wrong at one place
+
+abbrev pub same_steps : List Step → List Step → Bool
+same_steps [] [] = true
+same_steps (s ∷ ss) (u ∷ us) = same_step s u && same_steps ss us
+same_steps _ _ = false
+
+-- the fault of the first report at the steps
+abbrev pub error_among : List Step → List Report → Option Error
+error_among steps [] = None
+error_among steps (r ∷ rs) = cond (same_steps steps r.steps) (Some r.error) (error_among steps rs)
+
+-- the fault of the first report, at any place
+abbrev pub error_of : From → Option Error
+error_of f = first_error (f [])
+
+-- a place with nothing below and the first of these faults
+abbrev pub leaf_of : From → Outline
+leaf_of f = leaf (error_of f)
+
+-- ---- attributes and lists
+
+-- an attribute: what is wrong with its key, then what is wrong with its index
+abbrev pub entry_outline : Option Error → Option Error → Outline
+entry_outline in_key in_index = place nothing (errors in_key ++ errors in_index)
+
+-- each attribute, at its key
+abbrev pub entry_outlines : ℕ → List (Key × ℕ) → Outlines
+entry_outlines count [] = nothing
+entry_outlines count (e ∷ es) =
+    below (key (key_text e.0)) (entry_outline (error_of (key_faults e.0)) (error_of (number_faults count e.1))) (entry_outlines count es)
+
+abbrev pub item_outlines : (Tree → Outline) → ℕ → Trees → Outlines
+item_outlines f i end = nothing
+item_outlines f i (with_tree t ts) = below (item i) (f t) (item_outlines f (suc i) ts)
+
+-- ---- the rules of objects, for places below the object
+
+-- the faults at the positions and at the bounds of their accessor
+abbrev pub bounds_outline : Option Error → Option Error → Option Error → Outline
+bounds_outline positions min max = place (below (field (codes "min")) (leaf min) (below (field (codes "max")) (leaf max) nothing)) (errors positions)
+
+abbrev pub faults_outline : PositionFaults → Outline
+faults_outline f = bounds_outline f.positions f.min f.max
+
+abbrev pub positions_outline : From → Outline
+positions_outline f =
+    bounds_outline (error_among [] (f [])) (error_among (field (codes "min") ∷ []) (f [])) (error_among (field (codes "max") ∷ []) (f []))
+
+abbrev pub at_positions : Outline → Outline
+at_positions p = place (below (key (codes "POSITION")) p nothing) []
+
+abbrev pub name_outline : List (List ℕ) → Tree → Outline
+name_outline enabled (text s) = place (below (value s) (leaf_of (extension_faults enabled (text s))) nothing) []
+name_outline enabled _ = leaf None
+
+abbrev pub rule_outlines : Rule → Tree → Context → Outlines
+rule_outlines needs_data (object ts others) context = below (field (codes "bufferView")) (leaf_of (accessor_rule ts)) nothing
+rule_outlines needs_cone (object ts others) context = below (field (codes "spot")) (leaf_of (light_rule ts)) nothing
+rule_outlines needs_positions (object ts others) context =
+    below (field (codes "attributes")) (at_positions (positions_outline (positions_faults (lookup is_positions (entries_in (primitive_attributes ts))) context.root))) nothing
+rule_outlines requires_enabled (object ts others) context =
+    below (field (codes "extensionsRequired")) (place (item_outlines (name_outline context.rules.enabled) 0 (items_in (root_extensions_required ts))) []) nothing
+rule_outlines _ _ context = nothing
+
+-- the rule of an object, for the object's own place
+abbrev pub own_error : Rule → Tree → Option Error
+own_error needs_projection (object ts others) = error_of (camera_rule ts)
+own_error _ _ = None
+
+-- ---- kinds
+
+abbrev pub unless_silent : Bool → List ℕ → Outline → Outlines → Outlines
+unless_silent is_silent n p ps = cond is_silent ps (below (field n) p ps)
+
+abbrev mutual
+  -- the outline of a tree of a kind, in a context, below an animation or none; members that cannot be wrong are left out
+  pub outline : Kind → Tree → Context → Tree → Outline
+  outline (IndexInto named) t context animation = leaf_of (index_faults (count_in named context.root) t)
+  outline SourceImage t context animation = leaf_of (source_faults context.rules.empty_texture (count_in ListName.images context.root) t)
+  outline ChannelSampler t context animation = leaf_of (index_faults (sampler_count animation) t)
+  outline Stride t context animation = leaf_of (stride_faults t)
+  outline (Choice form listed) t context animation = leaf_of (choice_faults t)
+  outline (Attributes named) t context animation = place (entry_outlines (count_in named context.root) (entries_in t)) []
+  outline (ListOf kind) t context animation = place (item_outlines (λ x. outline kind x context animation) 0 (items_in t)) []
+  outline (Object rule rows keeps) t context animation =
+      place (also (member_outlines (members_in t) rows context (animation_below rule t animation)) (rule_outlines rule t context)) (errors (own_error rule t))
+  outline _ t context animation = leaf None
+
+  pub member_outlines : Trees → Rows → Context → Tree → Outlines
+  member_outlines end rows context animation = nothing
+  member_outlines (with_tree t ts) no_rows context animation = nothing
+  member_outlines (with_tree t ts) (row n mark kind rows) context animation =
+      unless_silent (is_silent kind) n (outline kind t context animation) (member_outlines ts rows context animation)

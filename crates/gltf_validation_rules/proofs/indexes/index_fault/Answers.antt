@@ -1,0 +1,19 @@
+-- The list that a document holds is the list of its tree.
+use Rattle.std.proofs.Common.{◌∙◌, ap, sym, slice_get}
+use Rattle.gltf_root.specs.Root.{root_tree}
+use Rattle.gltf_validation_rules.proofs.Resolving.{count_in-items, index_there, index_past}
+use Rattle.gltf_validation_rules.proofs.indexes.index_fault.Goals as goal
+
+pub returns-in-Some : goal.returns-in-Some
+returns-in-Some g c =
+    let listed = g.P.Item.RootItem.items c.args.root.now in
+    let count = count_in-items g.P.Item.Listed.list (root_tree c.args.root.now) _ listed (g.met.P.Item.RootItem.lists c.args.root.now) in
+    λ base. sym (index_there listed _ _ c.in-Some.field-0.now count
+    (c.in-Some.ensures ∙ ap (slice_get listed) (c.new.ensures ∙ c.number.ensures)) base)
+
+pub returns-in-None : goal.returns-in-None
+returns-in-None g c =
+    let listed = g.P.Item.RootItem.items c.args.root.now in
+    let count = count_in-items g.P.Item.Listed.list (root_tree c.args.root.now) _ listed (g.met.P.Item.RootItem.lists c.args.root.now) in
+    λ base. sym (index_past listed _ _ count
+    (c.in-None.ensures ∙ ap (slice_get listed) (c.new.ensures ∙ c.number.ensures)) base)

@@ -124,9 +124,9 @@ class CrateTexts:
             ("keeps", "false" if self.is_plain else "true"),
             ("members", f"{made.base}_members"),
             ("unknown", unknown),
-            ("sound", f"{made.base}_sound"),
+            ("kind_is_sound", f"{made.base}_sound"),
             ("height", str(self.table.height(made))),
-            ("low", f"({made.base}_height.1, lit≤ tt)"),
+            ("height_bounds_kind", f"({made.base}_height.1, lit≤ tt)"),
         ])
         return block(f"impl Object for {made.name}",
                      [*members, *self.read_members(), "", *self.write_members()])

@@ -56,7 +56,7 @@ BY_HAND = {
         "a channel is visited by its animation, whose samplers it names",
     ("animation_channel", "ListItem"):
         "the channels are visited with their animation",
-    ("animation_channel", "TableObject"):
+    ("animation_channel", "SchemaObject"):
         "a channel is validated by its animation alone",
     ("AttenuationDistance", "value"):
         "a distance that is absent has no end, and is no number",

@@ -41,7 +41,7 @@ class Walk:
         for path, (_, base) in self.table.factors.items():
             self.made = self.table.objects[base]
             self.group = self.group_of(self.made)
-            self.add("AlwaysValid", ghosts([("silent", "λ _ _. refl")]), path)
+            self.add("AlwaysValid", ghosts([("outline_is_quiet", "λ _ _. refl")]), path)
         for group in self.groups.values():
             self.write_group(group)
         names = [f"mod {group.name};" for group in self.groups.values() if group.blocks]
@@ -127,7 +127,7 @@ class Walk:
         made = self.made
         rows = [f"{one.base}_rows" for one in [made, *self.deciding()]]
         return ghosts([*self.kind_and_tree(),
-                       ("silent", f"λ _ _. unfold {' '.join(rows)} {made.base}_members in refl")])
+                       ("outline_is_quiet", f"λ _ _. unfold {' '.join(rows)} {made.base}_members in refl")])
 
     def kind_and_tree(self):
         return [("kind", self.made.kind), ("tree", self.made.tree_function("v"))]
@@ -252,21 +252,21 @@ class Walk:
     def write_table(self):
         """What is validated by itself."""
         objects = [made for made in self.table.objects.values()
-                   if (made.base, "TableObject") not in BY_HAND]
+                   if (made.base, "SchemaObject") not in BY_HAND]
         paths = [*(made.path() for made in objects), *self.table.factors]
         names, used = self.local_names(paths, VALIDATION)
         lines = []
         for made in objects:
-            part = block(f"impl TableObject for {names[made.path()]}", ghosts(
+            part = block(f"impl SchemaObject for {names[made.path()]}", ghosts(
                 [("same_kind", "refl"), ("same_tree", "λ _. refl")]))
             lines += ["", *part]
             self.files.count(made, part)
         for path, (_, base) in self.table.factors.items():
-            part = block(f"impl InTable for {names[path]}", ghosts(
-                [("shallow", "(lit≤ tt, lit≤ tt)")]))
+            part = block(f"impl SchemaType for {names[path]}", ghosts(
+                [("depth_bounds_kind", "(lit≤ tt, lit≤ tt)")]))
             lines += ["", *part]
             self.files.count(self.table.objects[base], part)
-        traits = {"TableObject": "super", "InTable": "super"}
+        traits = {"SchemaObject": "super", "SchemaType": "super"}
         self.files.whole(CRATES / VALIDATION / "src/validation/table/derived.rt", [
             *header(["the rows and the structs of all objects"], "//!"), "",
             *rust_uses(lines, self.ghosts, {**used, **traits}), *lines[1:]])
@@ -299,11 +299,11 @@ def top_level(field, name):
         *ghosts([
             ("held", f"λ r. r.{field}"),
             ("put", f"λ list r. record r {{ {field} = list }}"),
-            ("kinded", "refl"),
-            ("stands", "λ r. unfold root_rows root_members in refl"),
-            ("puts", "λ r list. unfold root_rows root_members in (refl, refl)"),
-            ("same", "λ r. refl"),
-            ("itself", "λ root mark. (refl, refl, refl)"),
+            ("kind_is_item_kind", "refl"),
+            ("tree_lists_items", "λ r. unfold root_rows root_members in refl"),
+            ("put_replaces_list", "λ r list. unfold root_rows root_members in (refl, refl)"),
+            ("put_held_changes_nothing", "λ r. refl"),
+            ("needs_no_extension", "λ root mark. (refl, refl, refl)"),
         ]),
         f"fn list_in(root: &Root) -> &Vec<{name}> {{",
         f"    &root.{field}",

@@ -8,8 +8,8 @@ ghost use Rattle.std.specs.declared.cmp.Ordering.TheVariants.{Less, Equal, Great
 ghost use Rattle.gltf_base.specs.Keys.{key_cmp, key_eq, extras, tex_coords, joints, colors, unknown, key_text};
 ghost use Rattle.gltf_base.specs.Names.{key_named};
 ghost use Rattle.gltf_base.specs.Semantics.{checked_key};
-ghost use Rattle.gltf_base.specs.declared.mesh.Semantic.{Semantic as Meaning};
-ghost use Rattle.gltf_base.specs.declared.validation.Checked.{Checked as Either};
+ghost use Rattle.gltf_base.specs.declared.mesh.Semantic.{Semantic as SpecSemantic};
+ghost use Rattle.gltf_base.specs.declared.validation.Checked.{Checked as SpecChecked};
 ghost use Rattle.gltf_base.specs.declared.validation.Checked.TheVariants.{Valid, Invalid};
 ghost use Rattle.gltf_base.specs.Spelling.{by_number, is_spelled, item_spelled};
 ghost use Rattle.gltf_base.specs.Choices.{component_type_spelling, generic_component_type_spelling, generic_component_types, index_component_type_spelling, index_component_types, accessor_type_spelling, target_spelling, mode_spelling};
@@ -76,9 +76,9 @@ pub fn items_are_before_invalid<T: Ord>()
 
 /// Keys of attributes are ordered and equal as what they mean.
 pub fn semantics_are_ordered_as_keys()
-    ensures order { (a b : Either Meaning)
+    ensures order { (a b : SpecChecked SpecSemantic)
         → ⟦<Checked<Semantic> as Ord>⟧.cmp a b ≡ key_cmp (checked_key a) (checked_key b) }
-    ensures equality { (a b : Either Meaning)
+    ensures equality { (a b : SpecChecked SpecSemantic)
         → ⟦<Checked<Semantic> as PartialEq>⟧.eq a b ≡ key_eq (checked_key a) (checked_key b) }
 {}
 

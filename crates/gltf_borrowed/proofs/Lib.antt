@@ -1,7 +1,7 @@
 pub mod Levels
 mod Turns
 mod Ordered
-mod Listed
+mod NamedEntries
 mod Parted
 mod Named
 pub mod RowsApart

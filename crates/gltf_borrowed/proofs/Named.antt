@@ -9,7 +9,7 @@ use Rattle.gltf_schema.specs.Tree.{Tree, list, end}
 use Rattle.gltf_borrowed.specs.Slots.{is_among, HoldsMember, IsRest}
 use Rattle.gltf_borrowed.specs.Kept.{distinct}
 use Rattle.gltf_borrowed.proofs.Ordered.{same}
-use Rattle.gltf_borrowed.proofs.Listed.{or_else, found_after_put}
+use Rattle.gltf_borrowed.proofs.NamedEntries.{or_else, found_after_put}
 
 -- the list that the member was read into is what the table reads of it
 pub put_here : (kind : Kind) (name : List ℕ) (t : Option Tree) (before : List (List ℕ)) (n : List ℕ) (d : Data) (ms : Members)
@@ -18,13 +18,13 @@ put_here kind name t before n d ms is e new =
     subst (λ k. read_member (unless (list end)) (read (ListOf kind)) (get_member name (put k d ms)) ≡ t) (sym (same n name is))
     (ap (read_member (unless (list end)) (read (ListOf kind))) (get_member-put name d ms) ∙ e)
 
-listed_at : (t : Bool) (n k : List ℕ) (d : Data) (ms : Members) (o : Option Data) → (t ≡ false → n ≡ k → ⊥) → o ≡ cond t None (get_member n ms) → o ≡ cond t None (get_member n (put k d ms))
-listed_at true n k d ms o apart e = e
-listed_at false n k d ms o apart e = e ∙ sym (get_member-put_other n k d ms (apart refl))
+among_at : (t : Bool) (n k : List ℕ) (d : Data) (ms : Members) (o : Option Data) → (t ≡ false → n ≡ k → ⊥) → o ≡ cond t None (get_member n ms) → o ≡ cond t None (get_member n (put k d ms))
+among_at true n k d ms o apart e = e
+among_at false n k d ms o apart e = e ∙ sym (get_member-put_other n k d ms (apart refl))
 
 -- a member of a list is none of the rest
-pub IsRest-put_listed : (names : List (List ℕ)) (k : List ℕ) (d : Data) (ms rest : Members) → is_among k names ≡ true → IsRest names ms rest → IsRest names (put k d ms) rest
-IsRest-put_listed names k d ms rest listed h n = listed_at (is_among n names) n k d ms (get_member n rest) (distinct k n names listed) (h n)
+pub IsRest-put_among : (names : List (List ℕ)) (k : List ℕ) (d : Data) (ms rest : Members) → is_among k names ≡ true → IsRest names ms rest → IsRest names (put k d ms) rest
+IsRest-put_among names k d ms rest among h n = among_at (is_among n names) n k d ms (get_member n rest) (distinct k n names among) (h n)
 
 put_at : (t : Bool) (n k : List ℕ) (d : Data) (ms rest : Members) → (t ≡ true → n ≡ k → ⊥) → get_member n rest ≡ cond t None (get_member n ms)
     → get_member n (put k d rest) ≡ cond t None (get_member n (put k d ms))

@@ -3,8 +3,8 @@ use Rattle.std.proofs.Common.{◌≡◌, ◌+◌, ◌≤◌, ◌<◌, ℕ, lengt
 use Rattle.std.proofs.lemmas.List.{take_more, take-set-le, drop-set-lt, length-set, get_or-drop}
 use Rattle.std.proofs.lemmas.List.Filters.{FiltersInPlace, FiltersInPlace-more_no}
 use Rattle.gltf_borrowed.specs.Borrowed.{Entry, data_of}
-use Rattle.gltf_borrowed.specs.Untaken.{has_named}
-use Rattle.gltf_borrowed.proofs.Listed.{last_named, without_named, or_else, or_assoc, or_none, none_named}
+use Rattle.gltf_borrowed.specs.RemainingMembers.{has_named}
+use Rattle.gltf_borrowed.proofs.NamedEntries.{last_named, without_named, or_else, or_assoc, or_none, none_named}
 
 -- the entry has another name
 abbrev pub apart : List ℕ → Entry → Bool

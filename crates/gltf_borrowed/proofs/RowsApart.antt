@@ -12,7 +12,7 @@ use Rattle.gltf_schema.specs.Fields.{closed_object}
 use Rattle.gltf_schema.specs.Kind.{Mark, Kind, unless, ListOf, Rows, no_rows, row, Rule, Object}
 use Rattle.gltf_schema.specs.Read.{read, read_rows, read_member}
 use Rattle.gltf_borrowed.specs.Slots.{is_among, HoldsMember, IsRest}
-use Rattle.gltf_borrowed.specs.Apart.{Listed, Named, found, is_read, are_read, tree_or, in_place, filled, with_lists}
+use Rattle.gltf_borrowed.specs.Apart.{ReadList, Named, found, is_read, are_read, tree_or, in_place, filled, with_lists}
 use Rattle.gltf_borrowed.proofs.Ordered.{same}
 
 -- the lists hold the members of their names; the names before these are listed first
@@ -23,11 +23,11 @@ HoldAll (e ∷ es) before ms = HoldsMember e.1.0 e.0 e.1.1 before ms × HoldAll 
 
 -- ---- rows that are marked as lists are
 
-abbrev pub mark_or : Mark → Option Listed → Mark
+abbrev pub mark_or : Mark → Option ReadList → Mark
 mark_or mark None = mark
 mark_or mark (Some l) = unless (list end)
 
-abbrev pub kind_or : Kind → Option Listed → Kind
+abbrev pub kind_or : Kind → Option ReadList → Kind
 kind_or kind None = kind
 kind_or kind (Some l) = ListOf l.0
 
@@ -42,7 +42,7 @@ among_found : (n : List ℕ) (es : List Named) → is_among n (map (λ e. e.0) e
 among_found n [] = refl
 among_found n (e ∷ es) = step (bytes_eq n e.0) e.1 (found n es) (among_found n es)
   where
-    step : (b : Bool) (l : Listed) (o : Option Listed) {c : Bool} → c ≡ is_some o → b || c ≡ is_some (cond b (Some l) o)
+    step : (b : Bool) (l : ReadList) (o : Option ReadList) {c : Bool} → c ≡ is_some o → b || c ≡ is_some (cond b (Some l) o)
     step true l o h = refl
     step false l o h = h
 
@@ -52,11 +52,11 @@ parts e [] before ms h = (h, tt)
 parts e (f ∷ es) before ms h = h
 
 -- what is read of the member of a list is in that list
-abbrev pub IsHeld : List ℕ → Listed → Members → Type 0
+abbrev pub IsHeld : List ℕ → ReadList → Members → Type 0
 IsHeld n l ms = read_member (unless (list end)) (read (ListOf l.0)) (get_member n ms) ≡ l.1
 
 -- the first list of a name holds the member
-found_held : (n : List ℕ) (l : Listed) (ms : Members) (es : List Named) (before : List (List ℕ)) → HoldAll es before ms → is_among n before ≡ false → found n es ≡ Some l → IsHeld n l ms
+found_held : (n : List ℕ) (l : ReadList) (ms : Members) (es : List Named) (before : List (List ℕ)) → HoldAll es before ms → is_among n before ≡ false → found n es ≡ Some l → IsHeld n l ms
 found_held n l ms [] before h new is = absurd cc
 found_held n l ms (e ∷ es) before h new is =
     let two = parts e es before ms h in
@@ -98,7 +98,7 @@ only_list (Some t) = refl
 
 module _ (es : List Named) (ms left : Members) (held : HoldAll es [] ms) (rest : IsRest (map (λ e. e.0) es) ms left) where
   -- what is read of a row's member, from the same without the lists
-  row_apart : (n : List ℕ) (mark : Mark) (kind : Kind) (o : Option Listed) → found n es ≡ o
+  row_apart : (n : List ℕ) (mark : Mark) (kind : Kind) (o : Option ReadList) → found n es ≡ o
       → Gives (is_read o) (in_place o) (read_member (mark_or mark o) (read (kind_or kind o)) (get_member n left)) (read_member (mark_or mark o) (read (kind_or kind o)) (get_member n ms))
   row_apart n mark kind None is = rw (rest n, among_found n es, is) (no_change _)
   row_apart n mark kind (Some l) is = rw (rest n, among_found n es, is, found_held n l ms es [] held refl is) (only_list l.1)

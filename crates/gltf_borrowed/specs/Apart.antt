@@ -6,20 +6,20 @@ use Rattle.gltf_schema.specs.Fields.{closed_object}
 use Rattle.gltf_schema.specs.Kind.{Kind, Rows, no_rows, row}
 
 -- the kind of a list's items, and its tree, None if the table refuses it
-abbrev pub Listed : Type 0
-Listed = Kind × Option Tree
+abbrev pub ReadList : Type 0
+ReadList = Kind × Option Tree
 
 -- the name of a list's member, and the list
 abbrev pub Named : Type 0
-Named = List ℕ × Listed
+Named = List ℕ × ReadList
 
 -- the list of a name
-abbrev pub found : List ℕ → List Named → Option Listed
+abbrev pub found : List ℕ → List Named → Option ReadList
 found n [] = None
 found n (e ∷ es) = if bytes_eq n e.0 then Some e.1 else found n es
 
 -- no list, or one that is not refused
-abbrev pub is_read : Option Listed → Bool
+abbrev pub is_read : Option ReadList → Bool
 is_read None = true
 is_read (Some l) = is_some l.1
 
@@ -32,7 +32,7 @@ abbrev pub tree_or : Tree → Option Tree → Tree
 tree_or t None = t
 tree_or t (Some u) = u
 
-abbrev pub in_place : Option Listed → Tree → Tree
+abbrev pub in_place : Option ReadList → Tree → Tree
 in_place None t = t
 in_place (Some l) t = tree_or t l.1
 

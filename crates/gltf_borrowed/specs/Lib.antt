@@ -4,4 +4,4 @@ pub mod Slots
 pub mod Apart
 pub mod Kept
 pub mod Place
-pub mod Untaken
+pub mod RemainingMembers

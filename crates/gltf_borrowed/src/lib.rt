@@ -7,8 +7,8 @@ mod numeral;
 mod owned;
 mod place;
 mod reading;
+mod remaining_members;
 mod source;
-mod untaken;
 mod value;
 mod whole;
 

@@ -10,7 +10,7 @@ ghost use Rattle.gltf_schema.specs.Kind.{ListOf};
 ghost use Rattle.gltf_schema.specs.Read.{read};
 ghost use Rattle.gltf_schema.specs.Tree.{list, end};
 ghost use Rattle.gltf_borrowed.specs.Borrowed.{data_of, members_data};
-ghost use Rattle.gltf_borrowed.specs.Apart.{Listed};
+ghost use Rattle.gltf_borrowed.specs.Apart.{ReadList};
 ghost use Rattle.gltf_borrowed.specs.Slots.{items_tree, is_among, HoldsMember, IsRest};
 
 use crate::reading::{NoValue, read_after, read_value};
@@ -26,12 +26,12 @@ pub trait Slots: Drop {
     ghost names: { Self → List (List ℕ) };
 
     /// What was read into each list, as the table sees it.
-    ghost listed: { Self → List Listed };
+    ghost read_lists: { Self → List ReadList };
 
     /// Whether each list has the items of the member of its name, none if there is no such member,
     /// and is refused if the table refuses that member. Nothing is said of a list whose name is
     /// among those that come before.
-    ghost hold: { Self → List (List ℕ) → Members → Type 0 };
+    ghost hold_members: { Self → List (List ℕ) → Members → Type 0 };
 
     /// Reads the next value of the text into the list of that name, with arrays and objects nested
     /// no deeper than `depth`. Returns `false`, and reads nothing, if no list has the name. Fails
@@ -47,8 +47,8 @@ pub trait Slots: Drop {
         ensures named { OnOk result (names self.new ≡ names self.old) }
         ensures taken { result ≡ Ok true → (is_among name.now (names self.old) ≡ true)
             × ((d : Data) × (converted of_json (value depth reader.old) ≡ Some (d, reader.new))
-            × ((before : List (List ℕ)) (ms : Members) → hold self.old before ms
-            → hold self.new before (put name.now d ms))) }
+            × ((before : List (List ℕ)) (ms : Members) → hold_members self.old before ms
+            → hold_members self.new before (put name.now d ms))) }
         ensures other { result ≡ Ok false → (is_among name.now (names self.old) ≡ false)
             × (self.new ≡ self.old) × (reader.new ≡ reader.old) }
         ensures shorter { OnOk result (length reader.new ≤ length reader.old) }
@@ -56,12 +56,16 @@ pub trait Slots: Drop {
             × (converted of_json (value depth reader.old) ≡ None) };
 
     // A member of another name changes nothing.
-    ghost apart: { (s : Self) (before : List (List ℕ)) (n : List ℕ) (d : Data) (ms : Members)
-        → is_among n (names s) ≡ false → hold s before ms → hold s before (put n d ms) };
+    ghost other_names_change_nothing: { (s : Self) (before : List (List ℕ)) (n : List ℕ) (d : Data)
+        (ms : Members)
+        → is_among n (names s) ≡ false → hold_members s before ms
+        → hold_members s before (put n d ms) };
 
     // Nor does one whose name comes before.
-    ghost passed: { (s : Self) (before : List (List ℕ)) (n : List ℕ) (d : Data) (ms : Members)
-        → is_among n before ≡ true → hold s before ms → hold s before (put n d ms) };
+    ghost earlier_names_change_nothing: { (s : Self) (before : List (List ℕ)) (n : List ℕ)
+        (d : Data) (ms : Members)
+        → is_among n before ≡ true → hold_members s before ms
+        → hold_members s before (put n d ms) };
 }
 
 /// A list, and the name of the member that it is read from.
@@ -98,13 +102,15 @@ impl<T: Schema> Slots for Slot<T> {
 
     ghost names = { λ s. s.name.now ∷ [] };
 
-    ghost listed = { λ s. (T.kind, items_tree T.tree s.items) ∷ [] };
+    ghost read_lists = { λ s. (T.kind, items_tree T.tree s.items) ∷ [] };
 
-    ghost hold = { λ s. HoldsMember T.kind s.name.now (items_tree T.tree s.items) };
+    ghost hold_members = { λ s. HoldsMember T.kind s.name.now (items_tree T.tree s.items) };
 
-    ghost apart = { λ s. put_apart T.kind s.name.now (items_tree T.tree s.items) };
+    ghost other_names_change_nothing = { λ s. put_apart T.kind s.name.now
+        (items_tree T.tree s.items) };
 
-    ghost passed = { λ s. put_passed T.kind s.name.now (items_tree T.tree s.items) };
+    ghost earlier_names_change_nothing = { λ s. put_passed T.kind s.name.now
+        (items_tree T.tree s.items) };
 
     fn read(
         &mut self,
@@ -126,19 +132,23 @@ impl<A: Slots, B: Slots> Slots for (A, B) {
 
     ghost names = { λ s. A.names s.0 ++ B.names s.1 };
 
-    ghost listed = { λ s. A.listed s.0 ++ B.listed s.1 };
+    ghost read_lists = { λ s. A.read_lists s.0 ++ B.read_lists s.1 };
 
-    ghost hold = { λ s before ms. A.hold s.0 before ms × B.hold s.1 (A.names s.0 ++ before) ms };
+    ghost hold_members = { λ s before ms. A.hold_members s.0 before ms
+        × B.hold_members s.1 (A.names s.0 ++ before) ms };
 
-    ghost apart = { λ s before n d ms e h. (
-      A.apart s.0 before n d ms (among_left n (A.names s.0) (B.names s.1) e) h.0,
-      B.apart s.1 (A.names s.0 ++ before) n d ms (among_right n (A.names s.0) (B.names s.1) e)
+    ghost other_names_change_nothing = { λ s before n d ms e h. (
+      A.other_names_change_nothing s.0 before n d ms
+          (among_left n (A.names s.0) (B.names s.1) e) h.0,
+      B.other_names_change_nothing s.1 (A.names s.0 ++ before) n d ms
+          (among_right n (A.names s.0) (B.names s.1) e)
           h.1,
     ) };
 
-    ghost passed = { λ s before n d ms e h. (
-      A.passed s.0 before n d ms e h.0,
-      B.passed s.1 (A.names s.0 ++ before) n d ms (among_later n (A.names s.0) before e) h.1,
+    ghost earlier_names_change_nothing = { λ s before n d ms e h. (
+      A.earlier_names_change_nothing s.0 before n d ms e h.0,
+      B.earlier_names_change_nothing s.1 (A.names s.0 ++ before) n d ms
+          (among_later n (A.names s.0) before e) h.1,
     ) };
 
     fn read(
@@ -216,7 +226,7 @@ fn read_rest<'a, L: Slots>(
     ensures named { OnOk result (L.names lists.new ≡ L.names lists.old) }
     ensures read { IfOk result (λ rest. (ms : Members) × (converted (λ ms. of_members ms no_members)
         (members (value depth) (length reader.old) reader.old) ≡ Some (ms, reader.new))
-        × (L.hold lists.old [] no_members → L.hold lists.new [] ms)
+        × (L.hold_members lists.old [] no_members → L.hold_members lists.new [] ms)
         × IsRest (L.names lists.old) ms (members_data rest.items)) }
     ensures refused { result ≡ Err NoValue.Refused → converted (λ ms. of_members ms no_members)
         (members (value depth) (length reader.old) reader.old) ≡ None }
@@ -245,9 +255,10 @@ pub fn read_object<'a, L: Slots>(
     lists: &mut L,
 ) -> Result<Vec<(&'a str, Borrowed<'a>)>, NoValue>
     ensures named { OnOk result (L.names lists.new ≡ L.names lists.old) }
-    ensures read { IfOk result (λ rest. L.hold lists.old [] no_members → (ms : Members)
+    ensures read { IfOk result (λ rest. L.hold_members lists.old [] no_members → (ms : Members)
         × (read_json text.now ≡ Some (object ms))
-        × L.hold lists.new [] ms × IsRest (L.names lists.old) ms (members_data rest.items)) }
+        × L.hold_members lists.new [] ms
+        × IsRest (L.names lists.old) ms (members_data rest.items)) }
     ensures refused { result ≡ Err NoValue.Refused
         → option_and_then as_object (read_json text.now) ≡ None }
 {

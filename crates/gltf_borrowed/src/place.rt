@@ -2,7 +2,7 @@
 
 ghost use Rattle.std.specs.Prelude.{◌≡◌, IfOk, map};
 ghost use Rattle.gltf_base.specs.Steps.{step_of};
-ghost use Rattle.gltf_schema.specs.Placings.{owned_step};
+ghost use Rattle.gltf_schema.specs.RowPlacing.{owned_step};
 ghost use Rattle.gltf_borrowed.specs.Place.{IsAtEnd, IsPlaceIn};
 
 use crate::reading::NoValue;

@@ -5,7 +5,7 @@ ghost use Rattle.std.specs.Vec.Iter.{into_iter_items};
 ghost use Rattle.gltf_borrowed.specs.Borrowed.{data_of, items_data, members_data};
 
 use crate::owned::{owned, owned_members};
-use crate::untaken::Untaken;
+use crate::remaining_members::RemainingMembers;
 use crate::value::Borrowed;
 use gltf_schema::Source;
 use serde_json::{Map, Value};
@@ -13,7 +13,7 @@ use std::alloc::{AllocError, Global};
 use std::vec::IntoIter;
 
 impl<'a> Source for Borrowed<'a> {
-    type Fields = Untaken<'a>;
+    type Fields = RemainingMembers<'a>;
 
     type Items = IntoIter<Borrowed<'a>>;
 
@@ -64,9 +64,9 @@ impl<'a> Source for Borrowed<'a> {
         }
     }
 
-    fn into_fields(self) -> Option<Untaken<'a>> {
+    fn into_fields(self) -> Option<RemainingMembers<'a>> {
         match self {
-            Borrowed::Object(entries) => Some(Untaken::new(entries)),
+            Borrowed::Object(entries) => Some(RemainingMembers::new(entries)),
             _ => None,
         }
     }
@@ -78,18 +78,21 @@ impl<'a> Source for Borrowed<'a> {
         }
     }
 
-    fn no_fields(alloc: Global) -> Untaken<'a> {
-        Untaken::new(Vec::new(alloc))
+    fn no_fields(alloc: Global) -> RemainingMembers<'a> {
+        RemainingMembers::new(Vec::new(alloc))
     }
 
     // A text may have a name more than once.
     #[inline(always)]
-    fn take(fields: &mut Untaken<'a>, name: &str) -> Option<Borrowed<'a>> {
+    fn take(fields: &mut RemainingMembers<'a>, name: &str) -> Option<Borrowed<'a>> {
         let first = fields.find(name, 0)?;
         Some(fields.take_all(name, first))
     }
 
-    fn into_others(fields: Untaken<'a>, alloc: Global) -> Result<Map<String, Value>, AllocError> {
+    fn into_others(
+        fields: RemainingMembers<'a>,
+        alloc: Global,
+    ) -> Result<Map<String, Value>, AllocError> {
         owned_members(alloc, fields.left())
     }
 

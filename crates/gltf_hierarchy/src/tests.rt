@@ -8,9 +8,9 @@ use std::test::Fail;
 
 /// The children of each node.
 #[derive(Clone, Copy)]
-struct Listed<'a>(&'a [Vec<u32>]);
+struct ChildLists<'a>(&'a [Vec<u32>]);
 
-impl Hierarchy for Listed<'_> {
+impl Hierarchy for ChildLists<'_> {
     ghost children = { λ s. map (λ v. v.items) s.0.now };
 
     fn node_count(&self) -> usize {
@@ -36,7 +36,7 @@ fn trees_are_a_forest(rt: HostRuntime) -> Result<(), Fail> {
         vec![in alloc; 4]?,
         Vec::new(alloc),
     ];
-    let forest = Forest::of(alloc, &Listed(&nodes))?;
+    let forest = Forest::of(alloc, &ChildLists(&nodes))?;
     assert!(rt; forest.order() == [1, 0, 2, 3, 4].as_slice());
     assert_eq!(rt; forest.parent(4), Some(3));
     assert_eq!(rt; forest.parent(2), None);
@@ -58,7 +58,7 @@ fn chain(alloc: Global, count: u32, child: u32) -> Result<Vec<Vec<u32>>, AllocEr
 
 /// The node at which a cycle is found.
 fn cycle_in(alloc: Global, nodes: &[Vec<u32>]) -> Option<u32> {
-    match Forest::of(alloc, &Listed(nodes)) {
+    match Forest::of(alloc, &ChildLists(nodes)) {
         Err(HierarchyFault::Cycle { node }) => Some(node),
         _ => None,
     }
@@ -77,7 +77,7 @@ fn rings_are_cycles(rt: HostRuntime) -> Result<(), Fail> {
 fn a_long_chain_is_a_forest(rt: HostRuntime) -> Result<(), Fail> {
     let mut nodes = chain(rt.alloc(), 1000000, 1000000)?;
     nodes.push(Vec::new(rt.alloc()))?;
-    let forest = Forest::of(rt.alloc(), &Listed(&nodes))?;
+    let forest = Forest::of(rt.alloc(), &ChildLists(&nodes))?;
     assert_eq!(rt; forest.depth(1000000), Some(1000000));
     Ok(())
 }
@@ -86,7 +86,7 @@ fn a_long_chain_is_a_forest(rt: HostRuntime) -> Result<(), Fail> {
 fn a_second_parent_is_found(rt: HostRuntime) -> Result<(), Fail> {
     let alloc = rt.alloc();
     let nodes = [vec![in alloc; 2]?, vec![in alloc; 2]?, Vec::new(alloc)];
-    match Forest::of(alloc, &Listed(&nodes)) {
+    match Forest::of(alloc, &ChildLists(&nodes)) {
         Err(
             HierarchyFault::TwoParents {
                 child: 2,

@@ -4,7 +4,7 @@ ghost use Rattle.std.specs.Prelude.{◌≡◌, [], ◌∷◌, false, codes};
 ghost use Rattle.gltf_base.specs.Lists.{accessors};
 ghost use Rattle.gltf_base.specs.Choices.{component_type_spelling, accessor_type_spelling};
 ghost use Rattle.gltf_schema.specs.Tree.{whole, chosen};
-ghost use Rattle.gltf_schema.specs.Given.{made};
+ghost use Rattle.gltf_schema.specs.WithDefaults.{with_defaults};
 ghost use Rattle.gltf_parts.specs.Accessor.{accessor_rows, accessor_members};
 
 use crate::buffer::View;
@@ -75,7 +75,7 @@ impl Accessor {
     /// until `buffer_view` or `sparse` is set.
     #[tactic(auto, unfolding(crate::specs::Accessor::accessor_rows, crate::specs::Accessor::accessor_members))]
     pub fn new(count: u64, component_type: ComponentType, type_: AccessorType) -> Accessor
-        ensures { accessor_members result ≡ made accessor_rows (
+        ensures { accessor_members result ≡ with_defaults accessor_rows (
             (codes "count", whole count)
             ∷ (codes "componentType", chosen (component_type_spelling component_type))
             ∷ (codes "type", chosen (accessor_type_spelling type_))

@@ -4,7 +4,7 @@ ghost use Rattle.std.specs.Prelude.{◌≡◌, [], ◌∷◌, refl, codes};
 ghost use Rattle.gltf_base.specs.Lists.{buffers, buffer_views};
 ghost use Rattle.gltf_schema.specs.Kind.{Stride as stride_kind};
 ghost use Rattle.gltf_schema.specs.Tree.{whole};
-ghost use Rattle.gltf_schema.specs.Given.{made};
+ghost use Rattle.gltf_schema.specs.WithDefaults.{with_defaults};
 ghost use Rattle.gltf_schema.specs.Fields.{index_tree};
 ghost use Rattle.gltf_parts.specs.Buffer.{buffer_rows, view_rows, buffer_members, view_members, stride_tree};
 
@@ -32,7 +32,7 @@ impl Tabled for Stride {
 }
 
 impl Schema for Stride {
-    ghost present = { λ _. refl };
+    ghost is_never_absent = { λ _. refl };
 
     fn decode_from<S: Source>(_alloc: Global, source: S) -> Result<Stride, Error> {
         Ok(Stride(source.whole().ok_or(Error::Schema)? as usize))
@@ -78,7 +78,7 @@ impl Buffer {
     #[tactic(auto, unfolding(crate::specs::Buffer::buffer_rows, crate::specs::Buffer::buffer_members))]
     pub fn new(byte_length: u64) -> Buffer
         ensures { buffer_members result
-            ≡ made buffer_rows ((codes "byteLength", whole byte_length) ∷ []) }
+            ≡ with_defaults buffer_rows ((codes "byteLength", whole byte_length) ∷ []) }
     {
         Buffer {
             byte_length: USize64(byte_length),
@@ -136,7 +136,7 @@ impl View {
     /// its default.
     #[tactic(auto, unfolding(crate::specs::Buffer::view_rows, crate::specs::Buffer::view_members))]
     pub fn new(buffer: Index<Buffer>, byte_length: u64) -> View
-        ensures { view_members result ≡ made view_rows (
+        ensures { view_members result ≡ with_defaults view_rows (
             (codes "buffer", index_tree buffer)
             ∷ (codes "byteLength", whole byte_length)
             ∷ []) }

@@ -4,7 +4,7 @@ ghost use Rattle.std.specs.Prelude.{◌≡◌, [], ◌∷◌, refl, codes};
 ghost use Rattle.gltf_base.specs.Lists.{images};
 ghost use Rattle.gltf_schema.specs.Kind.{Text};
 ghost use Rattle.gltf_schema.specs.Defaults.{defaults};
-ghost use Rattle.gltf_schema.specs.Given.{made};
+ghost use Rattle.gltf_schema.specs.WithDefaults.{with_defaults};
 ghost use Rattle.gltf_schema.specs.Fields.{index_tree, text_tree};
 ghost use Rattle.gltf_parts.specs.Image.{image_rows, image_members, mime_type_tree};
 
@@ -30,7 +30,7 @@ impl Tabled for MimeType {
 }
 
 impl Schema for MimeType {
-    ghost present = { λ _. refl };
+    ghost is_never_absent = { λ _. refl };
 
     fn decode_from<S: Source>(alloc: Global, source: S) -> Result<MimeType, Error> {
         Ok(MimeType(String::decode_from(alloc, source)?))
@@ -93,7 +93,7 @@ impl Image {
     /// Returns an image with its data at a URI.
     #[tactic(auto, unfolding(crate::specs::Image::image_rows, crate::specs::Image::image_members))]
     pub fn from_uri(uri: String) -> Image
-        ensures { image_members result ≡ made image_rows (
+        ensures { image_members result ≡ with_defaults image_rows (
             (codes "uri", text_tree uri)
             ∷ []) }
     {
@@ -110,7 +110,7 @@ impl Image {
     /// Returns an image with its data in a buffer view, of a media type such as `image/png`.
     #[tactic(auto, unfolding(crate::specs::Image::image_rows, crate::specs::Image::image_members))]
     pub fn from_view(buffer_view: Index<View>, mime_type: MimeType) -> Image
-        ensures { image_members result ≡ made image_rows (
+        ensures { image_members result ≡ with_defaults image_rows (
             (codes "bufferView", index_tree buffer_view)
             ∷ (codes "mimeType", mime_type_tree mime_type)
             ∷ []) }

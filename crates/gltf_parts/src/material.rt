@@ -4,7 +4,7 @@ ghost use Rattle.std.specs.Prelude.{◌≡◌, [], ◌∷◌, false, refl, codes
 ghost use Rattle.gltf_base.specs.Lists.{materials};
 ghost use Rattle.gltf_schema.specs.Kind.{Number};
 ghost use Rattle.gltf_schema.specs.Defaults.{defaults};
-ghost use Rattle.gltf_schema.specs.Given.{made};
+ghost use Rattle.gltf_schema.specs.WithDefaults.{with_defaults};
 ghost use Rattle.gltf_parts.specs.Material.{material_rows, pbr_metallic_roughness_rows, normal_texture_rows, occlusion_texture_rows, alpha_cutoff_tree, material_members, pbr_metallic_roughness_members, normal_texture_members, occlusion_texture_members};
 ghost use Rattle.gltf_schema.specs.Floats.{real_float, float_or};
 ghost use Rattle.gltf_schema.specs.Fields.{index_tree};
@@ -190,7 +190,7 @@ impl NormalTexture {
     /// Returns a reference to a texture, with the first set of texture coordinates.
     #[tactic(auto, unfolding(crate::specs::Material::normal_texture_rows, crate::specs::Material::normal_texture_members))]
     pub fn new(index: Index<Texture>) -> NormalTexture
-        ensures { normal_texture_members result ≡ made normal_texture_rows (
+        ensures { normal_texture_members result ≡ with_defaults normal_texture_rows (
             (codes "index", index_tree index)
             ∷ []) }
     {
@@ -238,7 +238,7 @@ impl OcclusionTexture {
     /// Returns a reference to a texture, with the first set of texture coordinates.
     #[tactic(auto, unfolding(crate::specs::Material::occlusion_texture_rows, crate::specs::Material::occlusion_texture_members))]
     pub fn new(index: Index<Texture>) -> OcclusionTexture
-        ensures { occlusion_texture_members result ≡ made occlusion_texture_rows (
+        ensures { occlusion_texture_members result ≡ with_defaults occlusion_texture_rows (
             (codes "index", index_tree index)
             ∷ []) }
     {
@@ -275,7 +275,7 @@ impl Tabled for AlphaCutoff {
 }
 
 impl Schema for AlphaCutoff {
-    ghost present = { λ _. refl };
+    ghost is_never_absent = { λ _. refl };
 
     fn decode_from<S: Source>(alloc: Global, source: S) -> Result<AlphaCutoff, Error> {
         Ok(AlphaCutoff(Real::decode_from(alloc, source)?))

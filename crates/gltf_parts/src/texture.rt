@@ -4,7 +4,7 @@
 ghost use Rattle.std.specs.Prelude.{◌≡◌, [], ◌∷◌, codes};
 ghost use Rattle.gltf_base.specs.Lists.{samplers, textures};
 ghost use Rattle.gltf_schema.specs.Defaults.{defaults};
-ghost use Rattle.gltf_schema.specs.Given.{made};
+ghost use Rattle.gltf_schema.specs.WithDefaults.{with_defaults};
 ghost use Rattle.gltf_schema.specs.Fields.{index_tree};
 ghost use Rattle.gltf_parts.specs.Texture.{sampler_rows, texture_rows, info_rows, sampler_members, texture_members, info_members};
 
@@ -111,7 +111,7 @@ impl Texture {
     /// Returns a texture without a sampler; `Index::new(NO_IMAGE)` stands for no image.
     #[tactic(auto, unfolding(crate::specs::Texture::texture_rows, crate::specs::Texture::texture_members))]
     pub fn new(source: Index<Image>) -> Texture
-        ensures { texture_members result ≡ made texture_rows (
+        ensures { texture_members result ≡ with_defaults texture_rows (
             (codes "source", index_tree source)
             ∷ []) }
     {
@@ -157,7 +157,7 @@ impl Info {
     /// Returns a reference to a texture, with the first set of texture coordinates.
     #[tactic(auto, unfolding(crate::specs::Texture::info_rows, crate::specs::Texture::info_members))]
     pub fn new(index: Index<Texture>) -> Info
-        ensures { info_members result ≡ made info_rows (
+        ensures { info_members result ≡ with_defaults info_rows (
             (codes "index", index_tree index)
             ∷ []) }
     {

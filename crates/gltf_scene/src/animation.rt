@@ -4,7 +4,7 @@ ghost use Rattle.std.specs.Prelude.{◌≡◌, [], ◌∷◌, codes};
 ghost use Rattle.gltf_base.specs.Lists.{animations};
 ghost use Rattle.gltf_base.specs.SceneChoices.{property_spelling};
 ghost use Rattle.gltf_schema.specs.Tree.{chosen};
-ghost use Rattle.gltf_schema.specs.Given.{made};
+ghost use Rattle.gltf_schema.specs.WithDefaults.{with_defaults};
 ghost use Rattle.gltf_schema.specs.Fields.{index_tree, list_tree, closed_object};
 ghost use Rattle.gltf_scene.specs.Animation.{animation_rows, animation_channel_rows, animation_target_rows, animation_sampler_rows, animation_members, animation_channel_members, animation_target_members, animation_sampler_members};
 
@@ -50,7 +50,7 @@ impl Animation {
     /// Returns an animation of these channels, which refer to the samplers by index.
     #[tactic(auto, unfolding(crate::specs::Animation::animation_rows, crate::specs::Animation::animation_members))]
     pub fn new(samplers: Vec<Sampler>, channels: Vec<Channel>) -> Animation
-        ensures { animation_members result ≡ made animation_rows ((
+        ensures { animation_members result ≡ with_defaults animation_rows ((
           codes "samplers",
           list_tree (λ s. closed_object (animation_sampler_members s)) samplers.items,
         )
@@ -89,7 +89,7 @@ impl Channel {
     /// Returns a channel that animates a property by a sampler of the same animation.
     #[tactic(auto, unfolding(crate::specs::Animation::animation_channel_rows, crate::specs::Animation::animation_channel_members))]
     pub fn new(sampler: Index<Sampler>, target: Target) -> Channel
-        ensures { animation_channel_members result ≡ made animation_channel_rows (
+        ensures { animation_channel_members result ≡ with_defaults animation_channel_rows (
             (codes "sampler", index_tree sampler)
             ∷ (codes "target", closed_object (animation_target_members target))
             ∷ []) }
@@ -117,7 +117,7 @@ impl Target {
     /// Returns a target: a property of a node.
     #[tactic(auto, unfolding(crate::specs::Animation::animation_target_rows, crate::specs::Animation::animation_target_members))]
     pub fn new(node: Index<Node>, path: Property) -> Target
-        ensures { animation_target_members result ≡ made animation_target_rows (
+        ensures { animation_target_members result ≡ with_defaults animation_target_rows (
             (codes "node", index_tree node)
             ∷ (codes "path", chosen (property_spelling path))
             ∷ []) }
@@ -159,7 +159,7 @@ impl Sampler {
     /// Returns a sampler with linear interpolation.
     #[tactic(auto, unfolding(crate::specs::Animation::animation_sampler_rows, crate::specs::Animation::animation_sampler_members))]
     pub fn new(input: Index<Accessor>, output: Index<Accessor>) -> Sampler
-        ensures { animation_sampler_members result ≡ made animation_sampler_rows (
+        ensures { animation_sampler_members result ≡ with_defaults animation_sampler_rows (
             (codes "input", index_tree input)
             ∷ (codes "output", index_tree output)
             ∷ []) }

@@ -4,7 +4,7 @@ ghost use Rattle.std.specs.Prelude.{◌≡◌, [], ◌∷◌, codes};
 ghost use Rattle.gltf_base.specs.Lists.{cameras};
 ghost use Rattle.gltf_base.specs.Spelling.{by_name};
 ghost use Rattle.gltf_schema.specs.Tree.{chosen};
-ghost use Rattle.gltf_schema.specs.Given.{made};
+ghost use Rattle.gltf_schema.specs.WithDefaults.{with_defaults};
 ghost use Rattle.gltf_schema.specs.Fields.{real_tree, closed_object};
 ghost use Rattle.gltf_scene.specs.Camera.{camera_rows, orthographic_rows, perspective_rows, camera_members, orthographic_members, perspective_members};
 
@@ -50,7 +50,7 @@ impl Camera {
     /// Returns a camera with a perspective projection.
     #[tactic(auto, unfolding(crate::specs::Camera::camera_rows, crate::specs::Camera::camera_members))]
     pub fn perspective(projection: Perspective) -> Camera
-        ensures { camera_members result ≡ made camera_rows (
+        ensures { camera_members result ≡ with_defaults camera_rows (
             (codes "type", chosen (by_name (codes "perspective")))
             ∷ (codes "perspective", closed_object (perspective_members projection))
             ∷ []) }
@@ -68,7 +68,7 @@ impl Camera {
     /// Returns a camera with an orthographic projection.
     #[tactic(auto, unfolding(crate::specs::Camera::camera_rows, crate::specs::Camera::camera_members))]
     pub fn orthographic(projection: Orthographic) -> Camera
-        ensures { camera_members result ≡ made camera_rows (
+        ensures { camera_members result ≡ with_defaults camera_rows (
             (codes "type", chosen (by_name (codes "orthographic")))
             ∷ (codes "orthographic", closed_object (orthographic_members projection))
             ∷ []) }
@@ -107,7 +107,7 @@ impl Orthographic {
     /// Returns a projection with these magnifications and clipping planes.
     #[tactic(auto, unfolding(crate::specs::Camera::orthographic_rows, crate::specs::Camera::orthographic_members))]
     pub fn new(xmag: Real, ymag: Real, zfar: Real, znear: Real) -> Orthographic
-        ensures { orthographic_members result ≡ made orthographic_rows (
+        ensures { orthographic_members result ≡ with_defaults orthographic_rows (
             (codes "xmag", real_tree xmag)
             ∷ (codes "ymag", real_tree ymag)
             ∷ (codes "zfar", real_tree zfar)
@@ -144,7 +144,7 @@ impl Perspective {
     /// Returns a projection with an infinite far distance.
     #[tactic(auto, unfolding(crate::specs::Camera::perspective_rows, crate::specs::Camera::perspective_members))]
     pub fn new(yfov: Real, znear: Real) -> Perspective
-        ensures { perspective_members result ≡ made perspective_rows (
+        ensures { perspective_members result ≡ with_defaults perspective_rows (
             (codes "yfov", real_tree yfov)
             ∷ (codes "znear", real_tree znear)
             ∷ []) }

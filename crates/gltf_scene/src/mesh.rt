@@ -3,7 +3,7 @@
 ghost use Rattle.std.specs.Prelude.{◌≡◌, [], ◌∷◌, codes};
 ghost use Rattle.gltf_base.specs.Lists.{meshes};
 ghost use Rattle.gltf_schema.specs.Defaults.{defaults};
-ghost use Rattle.gltf_schema.specs.Given.{made};
+ghost use Rattle.gltf_schema.specs.WithDefaults.{with_defaults};
 ghost use Rattle.gltf_schema.specs.Fields.{list_tree, attributes_tree, closed_object};
 ghost use Rattle.gltf_scene.specs.Mesh.{mesh_rows, primitive_rows, morph_target_rows, mesh_members, primitive_members, morph_target_members};
 
@@ -52,7 +52,7 @@ impl Mesh {
     /// Returns a mesh of these primitives.
     #[tactic(auto, unfolding(crate::specs::Mesh::mesh_rows, crate::specs::Mesh::mesh_members))]
     pub fn new(primitives: Vec<Primitive>) -> Mesh
-        ensures { mesh_members result ≡ made mesh_rows ((
+        ensures { mesh_members result ≡ with_defaults mesh_rows ((
           codes "primitives",
           list_tree (λ p. closed_object (primitive_members p)) primitives.items,
         )
@@ -93,7 +93,7 @@ impl Primitive {
     /// Returns a primitive of triangles with these attributes.
     #[tactic(auto, unfolding(crate::specs::Mesh::primitive_rows, crate::specs::Mesh::primitive_members))]
     pub fn new(attributes: BTreeMap<Checked<Semantic>, Index<Accessor>>) -> Primitive
-        ensures { primitive_members result ≡ made primitive_rows (
+        ensures { primitive_members result ≡ with_defaults primitive_rows (
             (codes "attributes", attributes_tree attributes)
             ∷ []) }
     {

@@ -4,7 +4,7 @@ ghost use Rattle.std.specs.Prelude.{◌≡◌, [], ◌∷◌, refl, codes, map, 
 ghost use Rattle.gltf_base.specs.Lists.{nodes, scenes};
 ghost use Rattle.gltf_schema.specs.Kind.{Numbers};
 ghost use Rattle.gltf_schema.specs.Defaults.{defaults};
-ghost use Rattle.gltf_schema.specs.Given.{made};
+ghost use Rattle.gltf_schema.specs.WithDefaults.{with_defaults};
 ghost use Rattle.gltf_schema.specs.Floats.{real_float, floats_or};
 ghost use Rattle.gltf_schema.specs.Fields.{index_tree, list_tree};
 ghost use Rattle.gltf_scene.specs.Scene.{node_rows, scene_rows, node_members, scene_members, unit_quaternion_tree, no_rotation};
@@ -142,7 +142,7 @@ impl Scene {
     /// Returns a scene with these root nodes.
     #[tactic(auto, unfolding(crate::specs::Scene::scene_rows, crate::specs::Scene::scene_members))]
     pub fn new(nodes: Vec<Index<Node>>) -> Scene
-        ensures { scene_members result ≡ made scene_rows (
+        ensures { scene_members result ≡ with_defaults scene_rows (
             (codes "nodes", list_tree index_tree nodes.items)
             ∷ []) }
     {
@@ -194,7 +194,7 @@ impl Tabled for UnitQuaternion {
 }
 
 impl Schema for UnitQuaternion {
-    ghost present = { λ _. refl };
+    ghost is_never_absent = { λ _. refl };
 
     fn decode_from<S: Source>(alloc: Global, source: S) -> Result<UnitQuaternion, Error> {
         Ok(UnitQuaternion(Schema::decode_from(alloc, source)?))

@@ -2,7 +2,7 @@
 
 ghost use Rattle.std.specs.Prelude.{◌≡◌, [], ◌∷◌, codes};
 ghost use Rattle.gltf_base.specs.Lists.{skins};
-ghost use Rattle.gltf_schema.specs.Given.{made};
+ghost use Rattle.gltf_schema.specs.WithDefaults.{with_defaults};
 ghost use Rattle.gltf_schema.specs.Fields.{index_tree, list_tree};
 ghost use Rattle.gltf_scene.specs.Scene.{skin_rows, skin_members};
 
@@ -48,7 +48,7 @@ impl Skin {
     /// Returns a skin with these joints.
     #[tactic(auto, unfolding(crate::specs::Scene::skin_rows, crate::specs::Scene::skin_members))]
     pub fn new(joints: Vec<Index<Node>>) -> Skin
-        ensures { skin_members result ≡ made skin_rows (
+        ensures { skin_members result ≡ with_defaults skin_rows (
             (codes "joints", list_tree index_tree joints.items)
             ∷ []) }
     {

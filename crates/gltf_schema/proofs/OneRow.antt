@@ -8,7 +8,7 @@ use Rattle.gltf_schema.specs.Tree.{Tree, absent, tree_or_absent}
 use Rattle.gltf_schema.specs.Kind.{Mark, required, optional, Kind}
 use Rattle.gltf_schema.specs.Read.{read, read_member}
 use Rattle.gltf_schema.specs.Taken.{take_member}
-use Rattle.gltf_schema.specs.Readings.{ReadsRow, TakesMember, FoundIn, TakesOut, ReadFrom, ReadsValue, refused_by}
+use Rattle.gltf_schema.specs.RowReading.{ReadsRow, TakesMember, FoundIn, TakesOut, ReadFrom, ReadsValue, refused_by}
 use Rattle.gltf_schema.proofs.TakingOut.{refused}
 
 read_from : {V X : Type 0} (given : V → Data) (view : X → Tree) (old mid new : Result Members Error) (n : List ℕ) (mark : Mark) (kind : Kind) (v : V) (x : X)

@@ -8,8 +8,8 @@ use Rattle.gltf_schema.specs.Tree.{Tree, tree_or_absent}
 use Rattle.gltf_schema.specs.Kind.{Mark, required, Kind}
 use Rattle.gltf_schema.specs.Read.{read, read_member}
 use Rattle.gltf_schema.specs.Taken.{take_member}
-use Rattle.gltf_schema.specs.Readings.{ReadsRow, FoundIn, TakesOut}
-use Rattle.gltf_schema.specs.Placings.{IsWithin, IsPlaceOfRow, PlacesMember, PlacedFrom, PlacesValue, PlacesMissing}
+use Rattle.gltf_schema.specs.RowReading.{ReadsRow, FoundIn, TakesOut}
+use Rattle.gltf_schema.specs.RowPlacing.{IsWithin, IsPlaceOfRow, PlacesMember, PlacedFrom, PlacesValue, PlacesMissing}
 use Rattle.gltf_schema.proofs.Placed.{place_of_row}
 
 read_from : {V X : Type 0} (given : V → Data) (view : X → Tree) (old mid new : Result Members (Option (List Step))) (n : List ℕ) (mark : Mark) (kind : Kind) (v : V) (x : X)

@@ -14,14 +14,14 @@ use Rattle.gltf_schema.specs.Maybe.{◌>>=◌}
 use Rattle.gltf_schema.specs.Tree.{Tree, index, numbers, attributes, object, list, Trees, end, with_tree}
 use Rattle.gltf_schema.specs.Kind.{Mark, Kind, IndexInto, Number, Numbers, Attributes, ListOf, Object, Rows, no_rows, row, has_row, Rule}
 use Rattle.gltf_schema.specs.Read.{read, read_member, read_items, read_entries, read_rows, all_numbers, small_number}
-use Rattle.gltf_schema.specs.Readings.{RowsFrom, OthersFrom, ReadsMembers}
+use Rattle.gltf_schema.specs.RowReading.{RowsFrom, OthersFrom, ReadsMembers}
 use Rattle.gltf_schema.specs.Refused.{refused_row, refused_item, refused_entry, IsMissingOr, IsRefusedAt}
 use Rattle.gltf_schema.specs.Sound.{is_sound, are_sound}
 use Rattle.gltf_schema.specs.Taken.{without, take_member, take_rows, take_all}
 use Rattle.gltf_schema.specs.declared.placing.OwnedStep.{OwnedStep}
 use Rattle.gltf_schema.specs.declared.placing.Refusal.{Refusal}
 use Rattle.gltf_schema.specs.declared.placing.Refusal.TheVariants.{At}
-use Rattle.gltf_schema.specs.Placings.{owned_step, place_of, IsWithin, IsInside, IsPlaceIn, IsPlaceUnder, IsPlaceOfRow, PlacesMember, PlacesOthers}
+use Rattle.gltf_schema.specs.RowPlacing.{owned_step, place_of, IsWithin, IsInside, IsPlaceIn, IsPlaceUnder, IsPlaceOfRow, PlacesMember, PlacesOthers}
 use Rattle.gltf_schema.proofs.ArrayOfNumbers.{numbers_are_items}
 use Rattle.gltf_schema.proofs.RowByRow.{row_taken, all_taken}
 use Rattle.gltf_schema.proofs.TakingOut.{get_without, decoded, sound_row, sound_rows}

@@ -76,7 +76,7 @@ written_some (Numbers n) (tree.numbers xs) d h some = let w = allowed (nat_eq (l
 written_some Text (tree.text s) d h some = rw (← same_Some _ d h) refl
 written_some Truth (tree.truth b) d h some = rw (← same_Some _ d h) refl
 written_some Any (tree.any e) d h some = rw (← same_Some _ d h) (kept_some e some)
-written_some (Choice f listed) (tree.chosen s) d h some = rw (← same_Some _ d h) (spelling_some s)
+written_some (Choice f spellings) (tree.chosen s) d h some = rw (← same_Some _ d h) (spelling_some s)
 written_some (Attributes named) (tree.attributes es) d h some =
     let w = allowed (are_in_order es) _ d h in
     let ms = mapped json_object (write_entries es no_members) d w.1 in
@@ -190,7 +190,7 @@ mutual
   read_back Text (tree.text s) d sound plain h = rw (← same_Some _ d h) refl
   read_back Truth (tree.truth b) d sound plain h = rw (← same_Some _ d h) refl
   read_back Any (tree.any e) d sound plain h = rw (← same_Some _ d h) refl
-  read_back (Choice f listed) (tree.chosen s) d sound plain h =
+  read_back (Choice f spellings) (tree.chosen s) d sound plain h =
       let of_form = (and_parts (is_of_form f s) _ plain).0 in
       rw (← same_Some _ d h, spelling_back f s of_form, (and_parts (is_of_form f s) _ plain).1) refl
   read_back (Attributes named) (tree.attributes es) d sound plain h =

@@ -53,16 +53,16 @@ spelled_of_form : (f : Form) (d : Data) (s : Spelling) → spelling_in f d ≡ S
 spelled_of_form form.Number d s h = let n = mapped by_number (whole_number d) s h in rw (← n.2) refl
 spelled_of_form form.Name d s h = let t = mapped by_name (as_str d) s h in rw (← t.2) refl
 
-choice_plain_at : (b : Bool) (f : Form) (listed : List Spelling) (s : Spelling) → is_of_form f s ≡ true → list_any (λ t. is_spelled t s) listed ≡ b
-    → is_plain (Choice f listed) (cond b (tree.chosen s) tree.invalid) ≡ true
-choice_plain_at true f listed s of_form is = rw of_form is
-choice_plain_at false f listed s of_form is = refl
+choice_plain_at : (b : Bool) (f : Form) (spellings : List Spelling) (s : Spelling) → is_of_form f s ≡ true → list_any (λ t. is_spelled t s) spellings ≡ b
+    → is_plain (Choice f spellings) (cond b (tree.chosen s) tree.invalid) ≡ true
+choice_plain_at true f spellings s of_form is = rw of_form is
+choice_plain_at false f spellings s of_form is = refl
 
-choice_plain : (f : Form) (listed : List Spelling) (d : Data) (s : Spelling) → spelling_in f d ≡ Some s → is_plain (Choice f listed) (choice_among listed s) ≡ true
-choice_plain f listed d s h = choice_plain_at _ f listed s (spelled_of_form f d s h) refl
+choice_plain : (f : Form) (spellings : List Spelling) (d : Data) (s : Spelling) → spelling_in f d ≡ Some s → is_plain (Choice f spellings) (choice_among spellings s) ≡ true
+choice_plain f spellings d s h = choice_plain_at _ f spellings s (spelled_of_form f d s h) refl
 
 absent_plain : (kind : Kind) → is_plain kind tree.absent ≡ true
-absent_plain (Choice form listed) = refl
+absent_plain (Choice form spellings) = refl
 absent_plain (ListOf kind) = refl
 absent_plain (Object rule rows keeps) = refl
 absent_plain (IndexInto named) = refl
@@ -114,7 +114,7 @@ not_null (Numbers n) d t some h =
 not_null Text d t some h = not_null_from tree.text (λ x. refl) (as_str d) t h
 not_null Truth d t some h = not_null_from tree.truth (λ x. refl) (as_bool d) t h
 not_null Any d t some h = let e : tree.any d ≡ t = cc in rw (← e) (some_not_null d some)
-not_null (Choice form listed) d t some h = not_null_from (choice_among listed) (λ s. choice_not_null_at _ s) (spelling_in form d) t h
+not_null (Choice form spellings) d t some h = not_null_from (choice_among spellings) (λ s. choice_not_null_at _ s) (spelling_in form d) t h
 not_null (Attributes named) d t some h =
     let ms = bound (as_object d) _ t h in
     not_null_from tree.attributes (λ x. refl) (read_entries [] ms.0) t ms.2
@@ -181,7 +181,7 @@ mutual
   read_plain Truth d t sound h = refl
   read_plain Any d t sound h = refl
   read_plain (Attributes named) d t sound h = refl
-  read_plain (Choice f listed) d t sound h = let s = mapped (choice_among listed) (spelling_in f d) t h in rw (← s.2) (choice_plain f listed d s.0 s.1)
+  read_plain (Choice f spellings) d t sound h = let s = mapped (choice_among spellings) (spelling_in f d) t h in rw (← s.2) (choice_plain f spellings d s.0 s.1)
   read_plain (ListOf kind) d t sound h =
       let ds = bound (as_array d) _ t h in
       let ts = mapped tree.list (read_items (read kind) ds.0) t ds.2 in

@@ -145,10 +145,10 @@ pub done_put : (left : Bool) (n : List ℕ) (d : Option Data) (ms : Members) →
 done_put true n d ms h = refl
 done_put false n d ms h = some_mapped (λ e. put n e ms) d h
 
-choice_written : (b : Bool) (f : Form) (listed : List Spelling) (s : Spelling) → holds_invalid (cond b (tree.chosen s) tree.invalid) ≡ false
-    → is_some (write (Choice f listed) (cond b (tree.chosen s) tree.invalid)) ≡ true
-choice_written true f listed s valid = refl
-choice_written false f listed s valid = absurd (true≢false valid)
+choice_written : (b : Bool) (f : Form) (spellings : List Spelling) (s : Spelling) → holds_invalid (cond b (tree.chosen s) tree.invalid) ≡ false
+    → is_some (write (Choice f spellings) (cond b (tree.chosen s) tree.invalid)) ≡ true
+choice_written true f spellings s valid = refl
+choice_written false f spellings s valid = absurd (true≢false valid)
 
 index_written : (d : Data) (n : ℕ) → small_number d ≡ Some n → is_some (small_data n) ≡ true
 index_written d n h = rw (small_is d n h) refl
@@ -171,9 +171,9 @@ mutual
   valid_written Text d t sound h valid = let s = mapped tree.text (as_str d) t h in rw (← s.2) refl
   valid_written Truth d t sound h valid = let b = mapped tree.truth (as_bool d) t h in rw (← b.2) refl
   valid_written Any d t sound h valid = rw (← same_Some (tree.any d) t h) refl
-  valid_written (Choice f listed) d t sound h valid =
-      let s = mapped (choice_among listed) (spelling_in f d) t h in
-      rw (← s.2) (choice_written (list_any (λ u. is_spelled u s.0) listed) f listed s.0 (ap holds_invalid s.2 ∙ valid))
+  valid_written (Choice f spellings) d t sound h valid =
+      let s = mapped (choice_among spellings) (spelling_in f d) t h in
+      rw (← s.2) (choice_written (list_any (λ u. is_spelled u s.0) spellings) f spellings s.0 (ap holds_invalid s.2 ∙ valid))
   valid_written (Attributes named) d t sound h valid =
       let ms = bound (as_object d) _ t h in
       let es = mapped tree.attributes (read_entries [] ms.0) t ms.2 in

@@ -11,7 +11,7 @@ use Rattle.gltf_base.specs.Lists.{images}
 use Rattle.gltf_schema.specs.Kind.{Mark, required, Kind, IndexInto, SourceImage, ChannelSampler, U32, Rows, no_rows, row}
 use Rattle.gltf_schema.specs.Read.{left}
 use Rattle.gltf_schema.specs.Taken.{take_member, take_rows, take_all}
-use Rattle.gltf_schema.specs.Readings.{ReadsRow, ReadsOthers, RowsFrom, OthersFrom, ReadsMembers, TakesSource, TakesSampler, TakesMember, TakesOthers, ended}
+use Rattle.gltf_schema.specs.RowReading.{ReadsRow, ReadsOthers, RowsFrom, OthersFrom, ReadsMembers, TakesSource, TakesSampler, TakesMember, TakesOthers, ended}
 use Rattle.gltf_schema.proofs.TakingOut.{refused_through, refused}
 
 -- ---- rows, whatever they are read from

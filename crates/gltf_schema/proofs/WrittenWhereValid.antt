@@ -50,7 +50,7 @@ mutual
   of_kind_written Text (tree.text s) of_kind valid = refl
   of_kind_written Truth (tree.truth b) of_kind valid = refl
   of_kind_written Any (tree.any d) of_kind valid = refl
-  of_kind_written (Choice form listed) (tree.chosen s) of_kind valid = refl
+  of_kind_written (Choice form spellings) (tree.chosen s) of_kind valid = refl
   of_kind_written (Attributes named) (tree.attributes es) of_kind valid =
       rw (and_parts (are_in_order es) (list_all is_attribute es) of_kind).0 (some_mapped json_object (write_entries es no_members)
       (entries_written es no_members (and_parts (are_in_order es) (list_all is_attribute es) of_kind).1 valid))

@@ -21,7 +21,7 @@ checked_tree-present spell Invalid = refl
 
 -- a choice that reads the items of a list
 abbrev pub choice_of : {X : Type 0} → Form → (X → Spelling) → List X → Kind
-choice_of form spell listed = Choice form (map spell listed)
+choice_of form spell items = Choice form (map spell items)
 
 -- the kind reads objects alone, and the value is none
 abbrev pub wants_object : Kind → Data → Bool

@@ -39,8 +39,8 @@ abbrev mutual
   is_of_kind Text (text s) = true
   is_of_kind Truth (truth b) = true
   is_of_kind Any (any d) = true
-  is_of_kind (Choice form listed) (chosen s) = is_of_form form s
-  is_of_kind (Choice form listed) invalid = true
+  is_of_kind (Choice form spellings) (chosen s) = is_of_form form s
+  is_of_kind (Choice form spellings) invalid = true
   is_of_kind (Attributes named) (attributes es) = are_in_order es && list_all is_attribute es
   is_of_kind (ListOf kind) (list ts) = all_trees (is_of_kind kind) ts
   is_of_kind (Object rule rows keeps) (object ts others) = are_of_kinds rows ts && (keeps || are_none others)

@@ -43,7 +43,7 @@ abbrev mutual
   -- no member is null if null is read as absent, and no other member has a row's name. Others are
   -- there only if they are kept, and each choice has an item that is listed
   pub is_plain : Kind → Tree → Bool
-  is_plain (Choice form listed) (chosen s) = is_of_form form s && list_any (λ t. is_spelled t s) listed
+  is_plain (Choice form spellings) (chosen s) = is_of_form form s && list_any (λ t. is_spelled t s) spellings
   is_plain (ListOf kind) (list ts) = all_trees (is_plain kind) ts
   is_plain (Object rule rows keeps) (object ts others) = are_plain rows ts && none_named rows others && (keeps || are_none others)
   is_plain _ _ = true

@@ -30,7 +30,7 @@ spelling_in form.Number d = option_map by_number (whole_number d)
 spelling_in form.Name d = option_map by_name (as_str d)
 
 abbrev pub choice_among : List Spelling → Spelling → Tree
-choice_among listed s = if list_any (λ t. is_spelled t s) listed then chosen s else invalid
+choice_among spellings s = if list_any (λ t. is_spelled t s) spellings then chosen s else invalid
 
 -- each item, in order
 abbrev pub read_items : (Data → Option Tree) → Items → Option Trees
@@ -84,7 +84,7 @@ abbrev mutual
   read Text d = option_map text (as_str d)
   read Truth d = option_map truth (as_bool d)
   read Any d = Some (any d)
-  read (Choice form listed) d = option_map (choice_among listed) (spelling_in form d)
+  read (Choice form spellings) d = option_map (choice_among spellings) (spelling_in form d)
   read (Attributes named) d = as_object d >>= λ ms. option_map attributes (read_entries [] ms)
   read (ListOf kind) d = as_array d >>= λ ds. option_map list (read_items (read kind) ds)
   read (Object rule rows keeps) d = as_object d >>= λ ms. option_map (λ ts. object ts (kept keeps rows ms)) (read_rows rows ms)

@@ -84,7 +84,7 @@ abbrev mutual
   write Text (text s) = Some (json.string s)
   write Truth (truth b) = Some (json.boolean b)
   write Any (any d) = Some d
-  write (Choice form listed) (chosen s) = Some (spelled s)
+  write (Choice form spellings) (chosen s) = Some (spelled s)
   write (Attributes named) (attributes es) = if are_in_order es then option_map json.object (write_entries es no_members) else None
   write (ListOf kind) (list ts) = option_map json.array (write_items (write kind) ts)
   write (Object rule rows keeps) (object ts others) = option_map json.object (write_rows rows ts others)

@@ -7,7 +7,7 @@ use Rattle.serde_json.specs.View.{members_view}
 use Rattle.serde_json.specs.declared.value.Value.{Value}
 use Rattle.gltf_base.specs.declared.error.Error.{Error}
 use Rattle.gltf_schema.specs.declared.writing.Writing.{Writing}
-use Rattle.gltf_schema.specs.Readings.{members_or_error}
+use Rattle.gltf_schema.specs.RowReading.{members_or_error}
 
 -- the members that are written so far, or why they are not
 abbrev pub written_or_error : Result (BTreeMap (String Global) Value) Error → Result Members Error

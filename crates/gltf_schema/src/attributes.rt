@@ -9,7 +9,7 @@ ghost use Rattle.gltf_schema.specs.Fields.{entry_of, attributes_tree};
 ghost use Rattle.gltf_schema.specs.Invalid.{is_unknown, any_unknown};
 ghost use Rattle.gltf_schema.specs.Write.{key_name, are_in_order, write_entries};
 ghost use Rattle.gltf_schema.specs.Outcome.{Writes};
-ghost use Rattle.gltf_schema.specs.Placings.{ReadsOrPlaces};
+ghost use Rattle.gltf_schema.specs.RowPlacing.{ReadsOrPlaces};
 
 use crate::placing::{OwnedStep, Refusal};
 use crate::schema::Schema;
@@ -29,7 +29,7 @@ impl<P: Names> Tabled for BTreeMap<Checked<Semantic>, IndexTo<P>> {
 }
 
 impl<P: Names> Schema for BTreeMap<Checked<Semantic>, IndexTo<P>> {
-    ghost present = { λ _. refl };
+    ghost is_never_absent = { λ _. refl };
 
     fn decode_from<S: Source>(
         alloc: Global,

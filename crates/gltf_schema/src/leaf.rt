@@ -11,7 +11,7 @@ ghost use Rattle.gltf_schema.specs.Fields.{any_tree, index_tree, real_tree, real
 ghost use Rattle.gltf_schema.specs.Write.{write, write_items};
 ghost use Rattle.gltf_schema.specs.Invalid.{any_holds_invalid};
 ghost use Rattle.gltf_schema.specs.Outcome.{Reads, Writes};
-ghost use Rattle.gltf_schema.specs.Placings.{place_of, IsInside, ReadsOrPlaces};
+ghost use Rattle.gltf_schema.specs.RowPlacing.{place_of, IsInside, ReadsOrPlaces};
 ghost use Rattle.gltf_schema.specs.Printings.{printing_state, PrintsValue};
 ghost use Rattle.gltf_schema.specs.Leaves.{checked_tree, choice_of, checked_tree-present};
 
@@ -34,7 +34,7 @@ impl Tabled for u32 {
 }
 
 impl Schema for u32 {
-    ghost present = { λ _. refl };
+    ghost is_never_absent = { λ _. refl };
 
     fn decode_from<S: Source>(_alloc: Global, source: S) -> Result<u32, Error> {
         small_number(&source).ok_or(Error::Schema)
@@ -60,7 +60,7 @@ impl Tabled for USize64 {
 }
 
 impl Schema for USize64 {
-    ghost present = { λ _. refl };
+    ghost is_never_absent = { λ _. refl };
 
     fn decode_from<S: Source>(_alloc: Global, source: S) -> Result<USize64, Error> {
         Ok(USize64(source.whole().ok_or(Error::Schema)?))
@@ -86,7 +86,7 @@ impl<P: Names> Tabled for IndexTo<P> {
 }
 
 impl<P: Names> Schema for IndexTo<P> {
-    ghost present = { λ _. refl };
+    ghost is_never_absent = { λ _. refl };
 
     fn decode_from<S: Source>(_alloc: Global, source: S) -> Result<IndexTo<P>, Error> {
         Ok(IndexTo::from_number(small_number(&source).ok_or(Error::Schema)?))
@@ -112,7 +112,7 @@ impl Tabled for Real {
 }
 
 impl Schema for Real {
-    ghost present = { λ _. refl };
+    ghost is_never_absent = { λ _. refl };
 
     fn decode_from<S: Source>(alloc: Global, source: S) -> Result<Real, Error> {
         match Real::from_value(source.into_value(alloc)?) {
@@ -141,7 +141,7 @@ impl<const N: usize> Tabled for [Real; N] {
 }
 
 impl<const N: usize> Schema for [Real; N] {
-    ghost present = { λ _. refl };
+    ghost is_never_absent = { λ _. refl };
 
     fn decode_from<S: Source>(alloc: Global, source: S) -> Result<[Real; N], Error> {
         let Some(items) = source.into_items() else {
@@ -180,7 +180,7 @@ impl Tabled for bool {
 }
 
 impl Schema for bool {
-    ghost present = { λ _. refl };
+    ghost is_never_absent = { λ _. refl };
 
     fn decode_from<S: Source>(_alloc: Global, source: S) -> Result<bool, Error> {
         source.truth().ok_or(Error::Schema)
@@ -206,7 +206,7 @@ impl Tabled for String {
 }
 
 impl Schema for String {
-    ghost present = { λ _. refl };
+    ghost is_never_absent = { λ _. refl };
 
     fn decode_from<S: Source>(alloc: Global, source: S) -> Result<String, Error> {
         source.into_text(alloc)?.ok_or(Error::Schema)
@@ -232,7 +232,7 @@ impl Tabled for Value {
 }
 
 impl Schema for Value {
-    ghost present = { λ _. refl };
+    ghost is_never_absent = { λ _. refl };
 
     fn decode_from<S: Source>(alloc: Global, source: S) -> Result<Value, Error> {
         Ok(source.into_value(alloc)?)
@@ -258,7 +258,7 @@ impl<T: Choice> Tabled for Checked<T> {
 }
 
 impl<T: Choice> Schema for Checked<T> {
-    ghost present = { checked_tree-present T.spelling };
+    ghost is_never_absent = { checked_tree-present T.spelling };
 
     fn decode_from<S: Source>(_alloc: Global, source: S) -> Result<Checked<T>, Error> {
         match T::form() {
@@ -313,7 +313,7 @@ impl<T: Choice> Schema for Checked<T> {
 }
 
 impl<T: Schema> Schema for Vec<T> {
-    ghost present = { λ _. refl };
+    ghost is_never_absent = { λ _. refl };
 
     fn decode_from<S: Source>(alloc: Global, source: S) -> Result<Vec<T>, Error> {
         let Some(items) = source.into_items() else {

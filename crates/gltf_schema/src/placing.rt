@@ -6,9 +6,9 @@ ghost use Rattle.serde_json.specs.Data.{Members, object as json_object};
 ghost use Rattle.gltf_base.specs.Steps.{Step as AnyStep, step_of, field};
 ghost use Rattle.gltf_schema.specs.Tree.{object};
 ghost use Rattle.gltf_schema.specs.Kind.{Object as object_kind};
-ghost use Rattle.gltf_schema.specs.Readings.{TakesOut};
-ghost use Rattle.gltf_schema.specs.Placings.{owned_step, place_of, error_place, IsWithin, IsInside, IsWhole, ReadsOrPlaces, PlacesValue, PlacesMissing, members_or_place, PlacesMember, PlacesOthers};
-ghost use Rattle.gltf_schema.specs.PlacedAs.{source_placed, sampler_placed};
+ghost use Rattle.gltf_schema.specs.RowReading.{TakesOut};
+ghost use Rattle.gltf_schema.specs.RowPlacing.{owned_step, place_of, error_place, IsWithin, IsInside, IsWhole, ReadsOrPlaces, PlacesValue, PlacesMissing, members_or_place, PlacesMember, PlacesOthers};
+ghost use Rattle.gltf_schema.specs.KindsPlacedAlike.{source_placed, sampler_placed};
 
 use crate::blank::Blank;
 use crate::reading::ReadRows;

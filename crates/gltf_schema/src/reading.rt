@@ -6,8 +6,8 @@ ghost use Rattle.serde_json.specs.View.{members_view};
 ghost use Rattle.gltf_base.specs.declared.error.Error.{Error as AnError};
 ghost use Rattle.gltf_schema.specs.Tree.{Tree, tree_or_absent, trees, list as list_tree, end};
 ghost use Rattle.gltf_schema.specs.Kind.{Kind, Mark, required as is_required, optional as is_optional, always, unless, sometimes as is_sometimes, or_null, ListOf};
-ghost use Rattle.gltf_schema.specs.Readings.{ReadsRow, ReadsOthers, TakesSource, TakesSampler, members_or_error, TakesMember, TakesOut, ReadsValue, refused_by, TakesOthers, ended};
-ghost use Rattle.gltf_schema.specs.ReadAs.{source_taken, sampler_taken};
+ghost use Rattle.gltf_schema.specs.RowReading.{ReadsRow, ReadsOthers, TakesSource, TakesSampler, members_or_error, TakesMember, TakesOut, ReadsValue, refused_by, TakesOthers, ended};
+ghost use Rattle.gltf_schema.specs.KindsReadAlike.{source_taken, sampler_taken};
 
 use crate::blank::Blank;
 use crate::schema::Schema;

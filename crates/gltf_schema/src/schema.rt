@@ -19,8 +19,8 @@ ghost use Rattle.gltf_schema.specs.Height.{kind_height};
 ghost use Rattle.gltf_schema.specs.Taken.{take_all};
 ghost use Rattle.gltf_schema.specs.Leaves.{wants_object};
 ghost use Rattle.gltf_schema.specs.Outcome.{Reads, ReadsOnto, Writes};
-ghost use Rattle.gltf_schema.specs.Readings.{ReadsMembers};
-ghost use Rattle.gltf_schema.specs.Placings.{place_of, IsInside, ReadsOrPlaces};
+ghost use Rattle.gltf_schema.specs.RowReading.{ReadsMembers};
+ghost use Rattle.gltf_schema.specs.RowPlacing.{place_of, IsInside, ReadsOrPlaces};
 
 use crate::placing::{Refusal, place_members};
 use crate::printing::Printing;
@@ -93,7 +93,7 @@ pub trait Schema: Tabled + Drop {
     }
 
     // What is there is not seen as missing.
-    ghost present: { (x : Self) → is_absent (Self.tree x) ≡ false };
+    ghost is_never_absent: { (x : Self) → is_absent (Self.tree x) ≡ false };
 }
 
 /// An object of the table, by its rows.
@@ -155,14 +155,15 @@ pub trait Object: Drop {
 
     // No two rows have one name, here and below, each default is plain and can be written, and the
     // rule has the row that it looks up.
-    ghost sound: { is_sound (object_kind rule rows keeps) ≡ true };
+    ghost kind_is_sound: { is_sound (object_kind rule rows keeps) ≡ true };
 
     // The rows say the same of the height, and a path has room for as many steps below any six.
-    ghost low: { (kind_height (object_kind rule rows keeps) ≡ height) × (height ≤ 10) };
+    ghost height_bounds_kind: { (kind_height (object_kind rule rows keeps) ≡ height)
+        × (height ≤ 10) };
 }
 
 impl<T: Object> Schema for T {
-    ghost present = { λ _. refl };
+    ghost is_never_absent = { λ _. refl };
 
     fn decode_from<S: Source>(alloc: Global, source: S) -> Result<T, Error>
         ensures by_table { Reads (λ x. object (T.members x) (T.unknown x)) result

@@ -8,7 +8,7 @@ ghost use Rattle.serde_json.specs.View.{members_view};
 ghost use Rattle.gltf_schema.specs.Tree.{end};
 ghost use Rattle.gltf_schema.specs.Kind.{no_rows};
 ghost use Rattle.gltf_schema.specs.Read.{left};
-ghost use Rattle.gltf_schema.specs.Readings.{ReadsMembers};
+ghost use Rattle.gltf_schema.specs.RowReading.{ReadsMembers};
 
 use crate::reading::ReadRows;
 use crate::schema::Object;
@@ -46,11 +46,11 @@ impl<T: Unlisted> Object for T {
 
     ghost unknown = { T.kept };
 
-    ghost sound = { refl };
+    ghost kind_is_sound = { refl };
 
     ghost height = { 0 };
 
-    ghost low = { (refl, lit≤ tt) };
+    ghost height_bounds_kind = { (refl, lit≤ tt) };
 
     fn read_members<R: ReadRows>(from: &mut R) -> T {
         T::read_others(from)

@@ -2,7 +2,7 @@
 use Rattle.std.proofs.Common.{◌≡◌, ℕ, List, [], ◌∷◌, ◌++◌, map, sym, ◌∙◌, append-nil, append_assoc}
 use Rattle.gltf_base.specs.declared.validation.Error.{Error}
 use Rattle.gltf_sinks.specs.Report.{Report}
-use Rattle.gltf_sinks.specs.Handed.{run}
+use Rattle.gltf_sinks.specs.SinkOutcome.{run}
 use Rattle.gltf_sinks.specs.Sinks.{as_collected, with_report}
 
 -- the new reports stand behind the others, in order

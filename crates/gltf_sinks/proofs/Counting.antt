@@ -1,7 +1,7 @@
 -- What a count holds after a run of reports, and what one that stays at zero was handed.
 use Rattle.std.proofs.Common.{◌≡◌, ℕ, ◌+◌, ◌-◌, ◌^◌, ◌<◌, ◌≤◌, List, [], ◌∷◌, length, min, refl, arith}
 use Rattle.gltf_sinks.specs.Report.{Report}
-use Rattle.gltf_sinks.specs.Handed.{run}
+use Rattle.gltf_sinks.specs.SinkOutcome.{run}
 use Rattle.gltf_sinks.specs.Sinks.{one_more}
 
 -- a count never falls

@@ -9,7 +9,7 @@ use Rattle.gltf_base.specs.declared.path.Step.{Step as Borrowed}
 use Rattle.gltf_base.specs.declared.validation.Error.{Error}
 use Rattle.gltf_sinks.specs.Report.{From, each_at}
 use Rattle.gltf_sinks.specs.declared.sink.Stop.{Stop}
-use Rattle.gltf_sinks.specs.Handed.{Walked}
+use Rattle.gltf_sinks.specs.SinkOutcome.{Walked}
 use Rattle.gltf_sinks.proofs.Walks.{walked_then, walked_stopped, walked_same, walked_wider}
 
 -- a walk over all reports is under way: that over those before came through, and the rest is to come

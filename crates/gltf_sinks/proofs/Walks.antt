@@ -9,7 +9,7 @@ use Rattle.gltf_base.specs.declared.validation.Error.{Error}
 use Rattle.gltf_sinks.specs.Report.{Report, report, found_at, From}
 use Rattle.gltf_sinks.specs.declared.sink.Stop.{Stop}
 use Rattle.gltf_sinks.specs.declared.sink.Stop.TheVariants.{StepsFull, Sink}
-use Rattle.gltf_sinks.specs.Handed.{run, HandedOver, Walked}
+use Rattle.gltf_sinks.specs.SinkOutcome.{run, HandedOver, Walked}
 
 -- reports in two parts are taken one part after the other
 pub run-append : {S : Type 0} (next : S → List Step → Error → S) (s : S) (xs ys : List Report) → run next s (xs ++ ys) ≡ run next (run next s xs) ys

@@ -1,4 +1,4 @@
 pub mod Report
-pub mod Handed
+pub mod SinkOutcome
 pub mod Sinks
 pub mod Stops

@@ -21,9 +21,9 @@ found_at None base = []
 found_at (Some error) base = report base error ∷ []
 
 -- what is wrong first, if anything is
-abbrev pub first_error : List Report → Option Error
-first_error [] = None
-first_error (r ∷ rs) = Some r.error
+abbrev pub first_fault_of : List Report → Option Error
+first_fault_of [] = None
+first_fault_of (r ∷ rs) = Some r.error
 
 -- what is wrong in each item of a list, at its number
 abbrev pub each_at : {X : Type 0} → (X → From) → ℕ → List X → From

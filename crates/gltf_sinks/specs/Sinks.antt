@@ -21,15 +21,15 @@ one_more n steps error = min (n + 1) (2 ^ 64 - 1)
 -- ---- a collection
 
 -- a path by its text, and what is wrong there
-abbrev pub text_and_error : Path × Error → List ℕ × Error
-text_and_error r = (string_bytes r.0.0, r.1)
+abbrev pub text_and_fault : Path × Error → List ℕ × Error
+text_and_fault r = (string_bytes r.0.0, r.1)
 
-abbrev pub texts_and_errors : List (Path × Error) → List (List ℕ × Error)
-texts_and_errors rs = map text_and_error rs
+abbrev pub texts_and_faults : List (Path × Error) → List (List ℕ × Error)
+texts_and_faults rs = map text_and_fault rs
 
 -- the reports that a collection holds, the oldest first
 abbrev pub reports_collected : Collect → List (List ℕ × Error)
-reports_collected c = texts_and_errors c.reports.items
+reports_collected c = texts_and_faults c.reports.items
 
 -- one report more, behind the others
 abbrev pub with_report : List (List ℕ × Error) → List Step → Error → List (List ℕ × Error)

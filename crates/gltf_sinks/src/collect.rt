@@ -2,7 +2,7 @@
 
 ghost use Rattle.std.specs.Prelude.{◌≡◌, ℕ, List, []};
 ghost use Rattle.gltf_base.specs.declared.validation.Error.{Error};
-ghost use Rattle.gltf_sinks.specs.Sinks.{texts_and_errors, reports_collected, with_report};
+ghost use Rattle.gltf_sinks.specs.Sinks.{texts_and_faults, reports_collected, with_report};
 
 use crate::sink::Sink;
 use gltf_base::validation::Error;
@@ -29,7 +29,7 @@ impl Collect {
 
     /// Returns the reports so far: for each its path and its fault.
     pub fn reports(&self) -> &[(Path, Error)]
-        ensures { texts_and_errors result.now ≡ reports_collected self.now }
+        ensures { texts_and_faults result.now ≡ reports_collected self.now }
     {
         self.reports.as_slice()
     }

@@ -1,7 +1,7 @@
 //! Handing over what was found at a place.
 
 ghost use Rattle.gltf_sinks.specs.Report.{found_at};
-ghost use Rattle.gltf_sinks.specs.Handed.{Walked};
+ghost use Rattle.gltf_sinks.specs.SinkOutcome.{Walked};
 
 use crate::sink::{Sink, Stop};
 use gltf_base::Steps;

@@ -3,7 +3,7 @@
 
 ghost use Rattle.std.specs.Prelude.{◌≡◌, ◌<◌, ◌+◌, ◌-◌, ◌^◌, ◌++◌, ℕ, List, [], length, map, min};
 ghost use Rattle.gltf_base.specs.declared.validation.Error.{Error};
-ghost use Rattle.gltf_sinks.specs.Handed.{run};
+ghost use Rattle.gltf_sinks.specs.SinkOutcome.{run};
 ghost use Rattle.gltf_sinks.specs.Report.{Report};
 ghost use Rattle.gltf_sinks.specs.Sinks.{as_collected, one_more, with_report};
 

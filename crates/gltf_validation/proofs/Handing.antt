@@ -3,7 +3,7 @@ use Rattle.std.proofs.Common.{◌≡◌, List, [], ◌∷◌, ◌++◌, sym, ◌
 use Rattle.gltf_base.specs.Steps.{Step}
 use Rattle.gltf_base.specs.declared.validation.Error.{Error}
 use Rattle.gltf_sinks.specs.Report.{Report, report}
-use Rattle.gltf_sinks.specs.Handed.{run}
+use Rattle.gltf_sinks.specs.SinkOutcome.{run}
 use Rattle.gltf_sinks.proofs.Walks.{run-append}
 
 -- the sink took those before what is left

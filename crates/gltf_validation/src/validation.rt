@@ -6,7 +6,7 @@ ghost use Rattle.gltf_validation_rules.specs.Context.{Context, rules_of, standar
 ghost use Rattle.gltf_schema.specs.Kind.{Kind};
 ghost use Rattle.gltf_sinks.specs.Report.{From};
 ghost use Rattle.gltf_root.specs.Root.{root_tree};
-ghost use Rattle.gltf_sinks.specs.Handed.{Walked};
+ghost use Rattle.gltf_sinks.specs.SinkOutcome.{Walked};
 ghost use Rattle.gltf_validation.specs.ByType.{reports_by, no_reports};
 
 use gltf_base::Steps;
@@ -20,7 +20,7 @@ mod maps;
 mod table;
 mod within;
 
-pub use table::{InTable, TableObject};
+pub use table::{SchemaObject, SchemaType};
 
 /// A type that can be validated.
 pub trait Validate {

@@ -1,4 +1,4 @@
-pub mod SameErrors
+pub mod SameFaults
 pub mod Sinking
 pub mod Pushing
 pub mod FirstReports

@@ -12,7 +12,7 @@ use Rattle.gltf_base.specs.declared.index.PushError.TheVariants as refusal
 use Rattle.gltf_base.specs.declared.validation.Error.{Error}
 use Rattle.gltf_schema.specs.Kind.{Kind}
 use Rattle.gltf_schema.specs.Tree.{Tree, absent}
-use Rattle.gltf_sinks.specs.Report.{From, first_error}
+use Rattle.gltf_sinks.specs.Report.{From, first_fault_of}
 use Rattle.gltf_root.specs.Lists.{count_in}
 use Rattle.gltf_root.specs.Pushed.{pushed, item_kind, item_place}
 use Rattle.gltf_root.specs.Root.{root_tree}
@@ -24,7 +24,7 @@ use Rattle.gltf_validation.specs.ByType.{reports_by}
 use Rattle.gltf_validation_clean.specs.Clean.{IsClean, IsPushed, item_reports}
 use Rattle.gltf_validation_clean.specs.declared.push.CleanError.{CleanError}
 use Rattle.gltf_validation_clean.specs.declared.push.CleanError.TheVariants.{Full, Memory, Faulty}
-use Rattle.gltf_validation_clean.proofs.SameErrors.{reports_same}
+use Rattle.gltf_validation_clean.proofs.SameFaults.{reports_same}
 use Rattle.gltf_validation_clean.proofs.Sinking.{same_first}
 
 -- ---- whether there was room
@@ -61,15 +61,15 @@ is_last before list x last whole found =
 
 -- by its type, as by the table
 pub reported_by_table : (of : Option Kind) (kind : Kind) (s t : Tree) (own : Context → From) (context : Context) (base : List Step) → of ≡ Some kind → s ≡ t
-    → first_error (reports_by of s own context []) ≡ first_error (reports kind t context absent base)
+    → first_fault_of (reports_by of s own context []) ≡ first_fault_of (reports kind t context absent base)
 reported_by_table of kind s t own context base is same =
-    ap (λ k. first_error (reports_by k s own context [])) is ∙ (ap (λ x. first_error (reports kind x context absent [])) same ∙ same_first (reports_same kind t context absent [] base))
+    ap (λ k. first_fault_of (reports_by k s own context [])) is ∙ (ap (λ x. first_fault_of (reports kind x context absent [])) same ∙ same_first (reports_same kind t context absent [] base))
 
 -- of the last item of a document, as of one that was pushed
 pub told_of_pushed : (rules : Rules) (named : ListName) (x old new : Tree) (found : Option Error) → new ≡ pushed named x old
-    → found ≡ first_error (reports_by_rules rules (item_kind named) x new (item_place named (count_in named old))) → first_error (item_reports rules named x old) ≡ found
+    → found ≡ first_fault_of (reports_by_rules rules (item_kind named) x new (item_place named (count_in named old))) → first_fault_of (item_reports rules named x old) ≡ found
 told_of_pushed rules named x old new found is told =
-    sym (told ∙ ap (λ t. first_error (reports_by_rules rules (item_kind named) x t (item_place named (count_in named old)))) is)
+    sym (told ∙ ap (λ t. first_fault_of (reports_by_rules rules (item_kind named) x t (item_place named (count_in named old)))) is)
 
 -- ---- a document that a push leaves has no report
 

@@ -6,7 +6,7 @@ use Rattle.gltf_base.specs.Lists.{ListName}
 use Rattle.gltf_base.specs.declared.index.IndexTo.{IndexTo}
 use Rattle.gltf_base.specs.declared.validation.Error.{Error}
 use Rattle.gltf_schema.specs.Tree.{Tree}
-use Rattle.gltf_sinks.specs.Report.{first_error}
+use Rattle.gltf_sinks.specs.Report.{first_fault_of}
 use Rattle.gltf_root.specs.Pushed.{pushed}
 use Rattle.gltf_root.specs.Root.{root_tree}
 use Rattle.gltf_root.specs.declared.root.Root.{Root}
@@ -25,9 +25,9 @@ all_of_item : (rules : Rules) (named : ListName) (x : Tree) (r : Root) (new : Tr
 all_of_item rules named x r new clean is = ap (document_reports rules) is ∙ onto_clean rules named x r clean
 
 pub faulty_pushed : (rules : Rules) (named : ListName) (x : Tree) (r : Root) (new : Tree) (error : Error) → IsClean rules (root_tree r) → new ≡ pushed named x (root_tree r)
-    → first_error (item_reports rules named x (root_tree r)) ≡ Some error → ¬ IsClean rules new
+    → first_fault_of (item_reports rules named x (root_tree r)) ≡ Some error → ¬ IsClean rules new
 faulty_pushed rules named x r new error clean is faulty =
-    λ none. none-some error (ap first_error (sym none ∙ all_of_item rules named x r new clean is) ∙ faulty)
+    λ none. none-some error (ap first_fault_of (sym none ∙ all_of_item rules named x r new clean is) ∙ faulty)
 
 pub refused_pushed : {X : Type 0} (rules : Rules) (named : ListName) (item : X) (x : Tree) (r : Root) (mid new : Tree) (items : List X) (refused : Refused X)
     → HasRoom named (root_tree r) → IsClean rules (root_tree r) → mid ≡ pushed named x (root_tree r) → last_or None items ≡ Some item → IsLastRefused rules items mid refused

@@ -13,7 +13,7 @@ use Rattle.gltf_schema.specs.Fields.{any_tree, closed_object, index_tree, list_t
 use Rattle.gltf_schema.specs.Kind.{Kind, Any, IndexInto, ListOf, Rows, Text, no_rows, row}
 use Rattle.gltf_schema.specs.Tree.{Tree, Trees, absent, end, tree_or_absent, with_tree}
 use Rattle.gltf_scene.specs.Asset.{asset_kind, asset_members, asset_of_version, asset_rows}
-use Rattle.gltf_root.specs.AssetDerived.{asset_height}
+use Rattle.gltf_scene.specs.AssetDerived.{asset_height}
 use Rattle.gltf_root.specs.Lists.{count_in, list_in}
 use Rattle.gltf_root.specs.Named.{put_at, row_named}
 use Rattle.gltf_root.specs.Root.{root_kind, root_members, root_of_asset, root_rows, root_tree}
@@ -26,7 +26,7 @@ use Rattle.gltf_validation_rules.specs.Rules.{root_rule}
 use Rattle.gltf_validation_rules.proofs.CleanIsClosed.{clean_is_closed}
 use Rattle.gltf_validation_rules.proofs.ClosedAvoids.{closed_avoids}
 use Rattle.gltf_validation_rules.proofs.Inserting.{kind_at, name_at}
-use Rattle.gltf_validation_rules.proofs.Joining.{first_none, joined, second_none}
+use Rattle.gltf_validation_rules.proofs.TwoParts.{first_none, joined, second_none}
 use Rattle.gltf_validation_rules.proofs.Pushes.{reports_same}
 use Rattle.gltf_validation_rules.proofs.Resolving.{count_in-items}
 use Rattle.gltf_validation_rules.proofs.Silent.{silent}

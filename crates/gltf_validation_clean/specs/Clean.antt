@@ -4,7 +4,7 @@ use Rattle.gltf_base.specs.Indexes.{index_number}
 use Rattle.gltf_base.specs.Lists.{ListName}
 use Rattle.gltf_base.specs.declared.index.IndexTo.{IndexTo}
 use Rattle.gltf_schema.specs.Tree.{Tree}
-use Rattle.gltf_sinks.specs.Report.{Report, first_error}
+use Rattle.gltf_sinks.specs.Report.{Report, first_fault_of}
 use Rattle.gltf_root.specs.Lists.{count_in}
 use Rattle.gltf_root.specs.Pushed.{pushed, item_kind, item_place}
 use Rattle.gltf_validation_rules.specs.Context.{Rules}
@@ -39,4 +39,4 @@ IsPushed rules named item x old (Ok index) new =
 IsPushed rules named item x old (Err (Full back)) new = IsFull named old × (back ≡ item) × (new ≡ old)
 IsPushed rules named item x old (Err (Memory back)) new = HasRoom named old × (back ≡ item) × (new ≡ old)
 IsPushed rules named item x old (Err (Faulty back error)) new =
-    HasRoom named old × (first_error (item_reports rules named x old) ≡ Some error) × (back ≡ item) × (new ≡ old)
+    HasRoom named old × (first_fault_of (item_reports rules named x old) ≡ Some error) × (back ≡ item) × (new ≡ old)

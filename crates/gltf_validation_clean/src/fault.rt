@@ -2,7 +2,7 @@
 
 ghost use Rattle.std.specs.Prelude.{◌≡◌, ◌≤◌, ◌++◌, ◌∷◌, ℕ, suc, List, []};
 ghost use Rattle.gltf_base.specs.Steps.{Step};
-ghost use Rattle.gltf_sinks.specs.Report.{first_error};
+ghost use Rattle.gltf_sinks.specs.Report.{first_fault_of};
 ghost use Rattle.gltf_root.specs.Pushed.{item_kind};
 ghost use Rattle.gltf_root.specs.Root.{root_tree};
 ghost use Rattle.gltf_validation_rules.specs.Context.{rules_of, under};
@@ -41,7 +41,7 @@ impl Sink for FirstFault {
 /// Returns the fault of the first report of a value in `root`, or `None` if it has none.
 pub(crate) fn first_fault<V: Validate>(value: &V, rules: &Rules<'_>, root: &Root) -> Option<Error>
     requires { V.depth ≤ 10 }
-    ensures { result ≡ first_error (reports_by V.kind (V.tree value.now) (V.own value.now)
+    ensures { result ≡ first_fault_of (reports_by V.kind (V.tree value.now) (V.own value.now)
         (under (rules_of rules.now) (root_tree root.now)) []) }
 {
     match value.validate_with(rules, root, &mut Steps::new(), &mut FirstFault) {
@@ -56,7 +56,7 @@ pub(crate) fn first_fault<V: Validate>(value: &V, rules: &Rules<'_>, root: &Root
 pub(crate) fn fault_of_last<T: Item>(rules: &Rules<'_>, root: &Root) -> Option<Error>
     ensures { (before : List T) (item : T) (base : List Step)
         → T.items root.now ≡ before ++ item ∷ []
-        → result ≡ first_error (reports_by_rules (rules_of rules.now) (item_kind T.list)
+        → result ≡ first_fault_of (reports_by_rules (rules_of rules.now) (item_kind T.list)
         (T.RootItem.tree item) (root_tree root.now) base) }
 {
     match T::list_of(root).last() {

@@ -17,25 +17,25 @@ use gltf_scene::extensions::scene::khr_materials_variants::Variant;
 use gltf_scene::mesh::Mesh;
 use gltf_scene::scene::{Node, Scene};
 use gltf_scene::skin::Skin;
-use gltf_validation::validation::TableObject;
+use gltf_validation::validation::SchemaObject;
 
 /// A type that a root lists: each one that implements `RootItem`.
-pub trait Item: TableObject + RootItem {
+pub trait Item: SchemaObject + RootItem {
     // The table has the type by the kind of the items of its list.
-    ghost kinded: { Self.kind ≡ item_kind Self.list };
+    ghost kind_is_item_kind: { Self.kind ≡ item_kind Self.list };
 
     // It has an item by the tree by which the list has it.
-    ghost seen: { (item : Self) → Self.Visitable.tree item ≡ Self.RootItem.tree item };
+    ghost trees_are_equal: { (item : Self) → Self.Visitable.tree item ≡ Self.RootItem.tree item };
 }
 
 /// A type whose list is a member of the document itself, for which `Item` is implemented
 /// (docs/DECISIONS.md, "Clean roots").
-pub trait TopLevelItem: TableObject + TopLevel {}
+pub trait TopLevelItem: SchemaObject + TopLevel {}
 
 impl<T: TopLevelItem> Item for T {
-    ghost kinded = { T.same_kind ∙ T.kinded };
+    ghost kind_is_item_kind = { T.same_kind ∙ T.kind_is_item_kind };
 
-    ghost seen = { T.same_tree };
+    ghost trees_are_equal = { T.same_tree };
 }
 
 impl TopLevelItem for Accessor {}
@@ -65,13 +65,13 @@ impl TopLevelItem for Skin {}
 impl TopLevelItem for Texture {}
 
 impl Item for Light {
-    ghost kinded = { refl };
+    ghost kind_is_item_kind = { refl };
 
-    ghost seen = { λ _. refl };
+    ghost trees_are_equal = { λ _. refl };
 }
 
 impl Item for Variant {
-    ghost kinded = { refl };
+    ghost kind_is_item_kind = { refl };
 
-    ghost seen = { λ _. refl };
+    ghost trees_are_equal = { λ _. refl };
 }

@@ -14,38 +14,38 @@ use Rattle.gltf_base.specs.declared.validation.Checked.TheVariants.{Valid, Inval
 use Rattle.gltf_schema.specs.Leaves.{checked_tree}
 use Rattle.gltf_validation_rules.specs.Faults.{choice_faults, key_faults}
 use Rattle.gltf_validation_objects.specs.Outline.{leaf}
-use Rattle.gltf_validation_objects.specs.OutlineOf.{leaf_of, error_of}
+use Rattle.gltf_validation_objects.specs.OutlineOf.{leaf_of, fault_of_reports}
 use Rattle.gltf_validation_objects.specs.References.{invalid_if}
 
 pub found_leaf : (f : From) (e : Option Error) (s : Step) → ((base : List Step) → found_at e (base ++ s ∷ []) ≡ f base) → leaf e ≡ leaf_of f
 found_leaf f None s h = rw (sym (h [])) refl
 found_leaf f (Some error) s h = rw (sym (h [])) refl
 
-pub found_error : (f : From) (e : Option Error) → ((base : List Step) → found_at e base ≡ f base) → e ≡ error_of f
-found_error f None h = rw (sym (h [])) refl
-found_error f (Some error) h = rw (sym (h [])) refl
+pub found_fault : (f : From) (e : Option Error) → ((base : List Step) → found_at e base ≡ f base) → e ≡ fault_of_reports f
+found_fault f None h = rw (sym (h [])) refl
+found_fault f (Some error) h = rw (sym (h [])) refl
 
 -- the one fault of a choice
 pub found_choice : (t : Tree) (e : Option Error) → ((base : List Step) → found_at e base ≡ choice_faults t base)
     → leaf (invalid_if (is_some e)) ≡ leaf_of (choice_faults t)
-found_choice t None h = ap leaf (found_error (choice_faults t) None h)
+found_choice t None h = ap leaf (found_fault (choice_faults t) None h)
 found_choice invalid (Some e) h = refl
 found_choice t (Some e) h =
     let no : report [] e ∷ [] ≡ [] = h [] in
     absurd cc
 
 -- an attribute's key is wrong where it is an invalid choice
-key_error : (spell : Semantic → Spelling) (k : Checked Semantic) → error_of (choice_faults (checked_tree spell k)) ≡ error_of (key_faults (checked_key k))
-key_error spell (Valid (semantic.Extras name)) = refl
-key_error spell (Valid semantic.Positions) = refl
-key_error spell (Valid semantic.Normals) = refl
-key_error spell (Valid semantic.Tangents) = refl
-key_error spell (Valid (semantic.Colors set)) = refl
-key_error spell (Valid (semantic.TexCoords set)) = refl
-key_error spell (Valid (semantic.Joints set)) = refl
-key_error spell (Valid (semantic.Weights set)) = refl
-key_error spell Invalid = refl
+key_fault : (spell : Semantic → Spelling) (k : Checked Semantic) → fault_of_reports (choice_faults (checked_tree spell k)) ≡ fault_of_reports (key_faults (checked_key k))
+key_fault spell (Valid (semantic.Extras name)) = refl
+key_fault spell (Valid semantic.Positions) = refl
+key_fault spell (Valid semantic.Normals) = refl
+key_fault spell (Valid semantic.Tangents) = refl
+key_fault spell (Valid (semantic.Colors set)) = refl
+key_fault spell (Valid (semantic.TexCoords set)) = refl
+key_fault spell (Valid (semantic.Joints set)) = refl
+key_fault spell (Valid (semantic.Weights set)) = refl
+key_fault spell Invalid = refl
 
 pub found_key : (k : Checked Semantic) (e : Option Error)
-    → ((spell : Semantic → Spelling) (base : List Step) → found_at e base ≡ choice_faults (checked_tree spell k) base) → e ≡ error_of (key_faults (checked_key k))
-found_key k e h = found_error (choice_faults (checked_tree (λ x. by_number 0) k)) e (h (λ x. by_number 0)) ∙ key_error (λ x. by_number 0) k
+    → ((spell : Semantic → Spelling) (base : List Step) → found_at e base ≡ choice_faults (checked_tree spell k) base) → e ≡ fault_of_reports (key_faults (checked_key k))
+found_key k e h = found_fault (choice_faults (checked_tree (λ x. by_number 0) k)) e (h (λ x. by_number 0)) ∙ key_fault (λ x. by_number 0) k

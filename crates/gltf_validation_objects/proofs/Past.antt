@@ -1,7 +1,7 @@
 -- Past its last move an outline is over.
 use Rattle.std.proofs.Common.{◌≡◌, ℕ, zero, suc, ◌+◌, ◌≤◌, List, [], ◌∷◌, length, Option, Some, None, refl, arith}
 use Rattle.gltf_base.specs.declared.validation.Error.{Error}
-use Rattle.gltf_validation_objects.specs.Outline.{Outlines, place, nothing, below, errors, move_at, over}
+use Rattle.gltf_validation_objects.specs.Outline.{Outlines, place, nothing, below, fault_list, move_at, over}
 
 -- how many steps down an outline has
 abbrev pub counts : Outlines → ℕ
@@ -17,6 +17,6 @@ past (below s p ps) es zero l = absurd (omega arith)
 past (below s p ps) es (suc n) l = past ps es n (omega arith)
 
 -- one thing at most was found
-pub one_error : (e : Option Error) → length (errors e) ≤ 1
-one_error None = omega arith
-one_error (Some error) = omega arith
+pub at_most_one_fault : (e : Option Error) → length (fault_list e) ≤ 1
+at_most_one_fault None = omega arith
+at_most_one_fault (Some error) = omega arith

@@ -10,9 +10,9 @@ use Rattle.gltf_sinks.specs.Report.{From, found_at}
 use Rattle.gltf_validation_rules.specs.Faults.{key_faults, number_faults}
 use Rattle.gltf_validation_objects.specs.Moves.{IsSeen}
 use Rattle.gltf_validation_objects.specs.Outline.{Outline, Outlines, place, nothing, below, leaf, reports_of, reports_below, quiet, all_quiet, rest_after, rest_after_below, first_move, move_at}
-use Rattle.gltf_validation_objects.specs.OutlineOf.{error_of, leaf_of, entry_outline, entry_outlines, item_outlines}
+use Rattle.gltf_validation_objects.specs.OutlineOf.{fault_of_reports, leaf_of, entry_outline, entry_outlines, item_outlines}
 use Rattle.gltf_validation_objects.specs.declared.look.Look.TheVariants as look
-use Rattle.gltf_validation_objects.proofs.Leaves.{found_error}
+use Rattle.gltf_validation_objects.proofs.Leaves.{found_fault}
 
 -- ---- reports
 
@@ -43,26 +43,26 @@ quiet_leaf (Some error) = refl
 
 -- what was found at a place decides
 pub found_quiet : (f : From) (e : Option Error) → ((base : List Step) → found_at e base ≡ f base) → is_none e ≡ quiet (leaf_of f)
-found_quiet f e h = quiet_leaf e ∙ ap (λ x. quiet (leaf x)) (found_error f e h)
+found_quiet f e h = quiet_leaf e ∙ ap (λ x. quiet (leaf x)) (found_fault f e h)
 
 quiet_entry : (k i : Option Error) → (is_none k && quiet (leaf i)) ≡ quiet (entry_outline k i)
 quiet_entry None None = refl
 quiet_entry None (Some error) = refl
 quiet_entry (Some error) i = refl
 
-pub error_there : (e : Option Error) → is_some e ≡ true → is_none e ≡ false
-error_there None h = absurd cc
-error_there (Some error) h = refl
+pub fault_there : (e : Option Error) → is_some e ≡ true → is_none e ≡ false
+fault_there None h = absurd cc
+fault_there (Some error) h = refl
 
 -- ---- attributes
 
 -- one that is quiet leaves the answer to those behind it, and one that isn't decides
 pub entry_first : (count : ℕ) (es : List (Key × ℕ)) (e : Key × ℕ) (rest : List (Key × ℕ)) (b : Bool) → es ≡ e ∷ rest
-    → (is_none (error_of (key_faults e.0)) && quiet (leaf (error_of (number_faults count e.1)))) ≡ b
+    → (is_none (fault_of_reports (key_faults e.0)) && quiet (leaf (fault_of_reports (number_faults count e.1)))) ≡ b
     → (b && all_quiet (entry_outlines count rest)) ≡ all_quiet (entry_outlines count es)
 entry_first count es e rest b here h =
     sym (ap (λ ys. all_quiet (entry_outlines count ys)) here
-    ∙ ap (λ x. x && all_quiet (entry_outlines count rest)) (sym (quiet_entry (error_of (key_faults e.0)) (error_of (number_faults count e.1))) ∙ h))
+    ∙ ap (λ x. x && all_quiet (entry_outlines count rest)) (sym (quiet_entry (fault_of_reports (key_faults e.0)) (fault_of_reports (number_faults count e.1))) ∙ h))
 
 -- ---- lists
 
@@ -117,7 +117,7 @@ passed (place ps es) n h =
     ap (λ m. quiet (rest_after_below ps es m)) more ∙ passed_below ps es n h
 
 -- one that isn't decides
-pub stopped : (p : Outline) → IsSeen (first_move p) look.Loud → false ≡ quiet p
+pub stopped : (p : Outline) → IsSeen (first_move p) look.Faulty → false ≡ quiet p
 stopped (place (below s p ps) []) h = sym (ap (λ b. b && all_quiet ps) h)
 stopped (place (below s p ps) (e ∷ es)) h = refl
 stopped (place nothing (e ∷ es)) h = refl

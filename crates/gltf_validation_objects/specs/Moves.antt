@@ -24,11 +24,11 @@ IsMore _ = ⊤
 abbrev pub IsGiven : Context → Move → Event → Type 0
 IsGiven context move n = move_of context n ≡ move
 
--- what a look sees of a move: a step to a quiet value is `Quiet`, the end is `Over`, and any other move is `Loud`
+-- what a look sees of a move: a step to a quiet value is `Quiet`, the end is `Over`, and any other move is `Faulty`
 abbrev pub IsSeen : Move → Look → Type 0
 IsSeen (down s p) look.Quiet = quiet p ≡ true
-IsSeen (down s p) look.Loud = quiet p ≡ false
-IsSeen (fault e) look.Loud = ⊤
+IsSeen (down s p) look.Faulty = quiet p ≡ false
+IsSeen (fault e) look.Faulty = ⊤
 IsSeen over look.Over = ⊤
 IsSeen _ _ = ⊥
 

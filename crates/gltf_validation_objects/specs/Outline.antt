@@ -16,13 +16,13 @@ mutual
     below : Step → Outline → Outlines → Outlines
 
 -- the fault at a place, if there is one
-abbrev pub errors : Option Error → List Error
-errors None = []
-errors (Some error) = error ∷ []
+abbrev pub fault_list : Option Error → List Error
+fault_list None = []
+fault_list (Some error) = error ∷ []
 
 -- a place with nothing below and at most one fault
 abbrev pub leaf : Option Error → Outline
-leaf e = place nothing (errors e)
+leaf e = place nothing (fault_list e)
 
 abbrev pub also : Outlines → Outlines → Outlines
 also nothing qs = qs

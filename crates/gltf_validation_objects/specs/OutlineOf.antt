@@ -8,15 +8,15 @@ use Rattle.gltf_base.specs.declared.validation.Error.{Error}
 use Rattle.gltf_schema.specs.Tree.{Tree, text, object, Trees, end, with_tree, items_in, members_in, entries_in}
 use Rattle.gltf_schema.specs.Kind.{Kind, IndexInto, SourceImage, ChannelSampler, Stride, Choice, Attributes, ListOf, Object, Rows, no_rows, row, Rule, needs_data, needs_projection, needs_cone, needs_positions, requires_enabled}
 use Rattle.gltf_root.specs.Lists.{count_in, sampler_count}
-use Rattle.gltf_sinks.specs.Report.{Report, From, first_error}
+use Rattle.gltf_sinks.specs.Report.{Report, From, first_fault_of}
 use Rattle.gltf_validation_rules.specs.Context.{Context}
 use Rattle.gltf_validation_rules.specs.Faults.{index_faults, source_faults, stride_faults, choice_faults, key_faults, number_faults}
 use Rattle.gltf_validation_rules.specs.Reports.{animation_below}
 use Rattle.gltf_validation_rules.specs.Rules.{accessor_rule, camera_rule, light_rule, positions_faults, is_positions, primitive_attributes, root_extensions_required, extension_faults}
 use Rattle.gltf_schema.specs.Silence.{is_silent}
-use Rattle.gltf_validation_rules.specs.Standing.{same_step}
+use Rattle.gltf_validation_rules.specs.ReportPlaces.{same_step}
 use Rattle.gltf_validation_rules.specs.declared.primitive.PositionFaults.{PositionFaults}
-use Rattle.gltf_validation_objects.specs.Outline.{Outline, place, Outlines, nothing, below, errors, leaf, also}
+use Rattle.gltf_validation_objects.specs.Outline.{Outline, place, Outlines, nothing, below, fault_list, leaf, also}
 
 -- ---- what is wrong at one place
 
@@ -26,29 +26,29 @@ same_steps (s ∷ ss) (u ∷ us) = same_step s u && same_steps ss us
 same_steps _ _ = false
 
 -- the fault of the first report at the steps
-abbrev pub error_among : List Step → List Report → Option Error
-error_among steps [] = None
-error_among steps (r ∷ rs) = cond (same_steps steps r.steps) (Some r.error) (error_among steps rs)
+abbrev pub fault_among : List Step → List Report → Option Error
+fault_among steps [] = None
+fault_among steps (r ∷ rs) = cond (same_steps steps r.steps) (Some r.error) (fault_among steps rs)
 
 -- the fault of the first report, at any place
-abbrev pub error_of : From → Option Error
-error_of f = first_error (f [])
+abbrev pub fault_of_reports : From → Option Error
+fault_of_reports f = first_fault_of (f [])
 
 -- a place with nothing below and the first of these faults
 abbrev pub leaf_of : From → Outline
-leaf_of f = leaf (error_of f)
+leaf_of f = leaf (fault_of_reports f)
 
 -- ---- attributes and lists
 
 -- an attribute: what is wrong with its key, then what is wrong with its index
 abbrev pub entry_outline : Option Error → Option Error → Outline
-entry_outline in_key in_index = place nothing (errors in_key ++ errors in_index)
+entry_outline in_key in_index = place nothing (fault_list in_key ++ fault_list in_index)
 
 -- each attribute, at its key
 abbrev pub entry_outlines : ℕ → List (Key × ℕ) → Outlines
 entry_outlines count [] = nothing
 entry_outlines count (e ∷ es) =
-    below (key (key_text e.0)) (entry_outline (error_of (key_faults e.0)) (error_of (number_faults count e.1))) (entry_outlines count es)
+    below (key (key_text e.0)) (entry_outline (fault_of_reports (key_faults e.0)) (fault_of_reports (number_faults count e.1))) (entry_outlines count es)
 
 abbrev pub item_outlines : (Tree → Outline) → ℕ → Trees → Outlines
 item_outlines f i end = nothing
@@ -58,14 +58,14 @@ item_outlines f i (with_tree t ts) = below (item i) (f t) (item_outlines f (suc 
 
 -- the faults at the positions and at the bounds of their accessor
 abbrev pub bounds_outline : Option Error → Option Error → Option Error → Outline
-bounds_outline positions min max = place (below (field (codes "min")) (leaf min) (below (field (codes "max")) (leaf max) nothing)) (errors positions)
+bounds_outline positions min max = place (below (field (codes "min")) (leaf min) (below (field (codes "max")) (leaf max) nothing)) (fault_list positions)
 
 abbrev pub faults_outline : PositionFaults → Outline
 faults_outline f = bounds_outline f.positions f.min f.max
 
 abbrev pub positions_outline : From → Outline
 positions_outline f =
-    bounds_outline (error_among [] (f [])) (error_among (field (codes "min") ∷ []) (f [])) (error_among (field (codes "max") ∷ []) (f []))
+    bounds_outline (fault_among [] (f [])) (fault_among (field (codes "min") ∷ []) (f [])) (fault_among (field (codes "max") ∷ []) (f []))
 
 abbrev pub at_positions : Outline → Outline
 at_positions p = place (below (key (codes "POSITION")) p nothing) []
@@ -84,9 +84,9 @@ rule_outlines requires_enabled (object ts others) context =
 rule_outlines _ _ context = nothing
 
 -- the rule of an object, for the object's own place
-abbrev pub own_error : Rule → Tree → Option Error
-own_error needs_projection (object ts others) = error_of (camera_rule ts)
-own_error _ _ = None
+abbrev pub own_fault : Rule → Tree → Option Error
+own_fault needs_projection (object ts others) = fault_of_reports (camera_rule ts)
+own_fault _ _ = None
 
 -- ---- kinds
 
@@ -100,11 +100,11 @@ abbrev mutual
   outline SourceImage t context animation = leaf_of (source_faults context.rules.empty_texture (count_in ListName.images context.root) t)
   outline ChannelSampler t context animation = leaf_of (index_faults (sampler_count animation) t)
   outline Stride t context animation = leaf_of (stride_faults t)
-  outline (Choice form listed) t context animation = leaf_of (choice_faults t)
+  outline (Choice form spellings) t context animation = leaf_of (choice_faults t)
   outline (Attributes named) t context animation = place (entry_outlines (count_in named context.root) (entries_in t)) []
   outline (ListOf kind) t context animation = place (item_outlines (λ x. outline kind x context animation) 0 (items_in t)) []
   outline (Object rule rows keeps) t context animation =
-      place (also (member_outlines (members_in t) rows context (animation_below rule t animation)) (rule_outlines rule t context)) (errors (own_error rule t))
+      place (also (member_outlines (members_in t) rows context (animation_below rule t animation)) (rule_outlines rule t context)) (fault_list (own_fault rule t))
   outline _ t context animation = leaf None
 
   pub member_outlines : Trees → Rows → Context → Tree → Outlines

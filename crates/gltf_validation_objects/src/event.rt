@@ -3,7 +3,7 @@
 ghost use Rattle.std.specs.Prelude.{◌≡◌};
 ghost use Rattle.gltf_base.specs.Steps.{field, item as at_number, step_of};
 ghost use Rattle.gltf_schema.specs.Tree.{absent};
-ghost use Rattle.gltf_validation_rules.specs.Context.{Context as MathematicalContext};
+ghost use Rattle.gltf_validation_rules.specs.Context.{Context as SpecContext};
 ghost use Rattle.gltf_validation_objects.specs.ValueRefs.{outline_of};
 ghost use Rattle.gltf_validation_objects.specs.Outline.{Move, down, first_move, leaf, over, quiet};
 ghost use Rattle.gltf_validation_objects.specs.OutlineOf.{outline};
@@ -34,34 +34,36 @@ pub enum Event<'a> {
 pub trait EventBuilder<'a>: Sized {
     /// The result describes a move of an outline, in a context. Each call promises it of every move
     /// that is equal to its own, which is the form that proofs of `event` use.
-    ghost gives: { MathematicalContext → Move → Self → Type 0 };
+    ghost describes_move: { SpecContext → Move → Self → Type 0 };
 
     ghost is_more: { Self → Type 0 };
 
     /// A member of an object.
     fn member<T: Quiet, C: HasContext>(name: &'static str, value: &'a T, context: &C) -> Self
         ensures { (move : Move) → down (field name.now) (outline T.kind (T.tree value.now)
-            (C.context context.now) absent) ≡ move → gives (C.context context.now) move result };
+            (C.context context.now) absent) ≡ move
+            → describes_move (C.context context.now) move result };
 
     /// An item of a list.
     fn item<T: Quiet, C: HasContext>(number: usize, value: &'a T, context: &C) -> Self
         ensures { (move : Move) → down (at_number number) (outline T.kind (T.tree value.now)
-            (C.context context.now) absent) ≡ move → gives (C.context context.now) move result };
+            (C.context context.now) absent) ≡ move
+            → describes_move (C.context context.now) move result };
 
     /// A fault at a member of an object, or none.
     fn fault_at(name: &'static str, fault: Option<Error>) -> Self
         ensures { (context : _) (move : Move) → down (field name.now) (leaf fault) ≡ move
-            → gives context move result };
+            → describes_move context move result };
 
     /// A fault at the place itself, or none, after which nothing comes.
     fn fault_here(fault: Option<Error>) -> Self
         ensures { (context : _) (move : Move) → first_move (leaf fault) ≡ move
-            → gives context move result };
+            → describes_move context move result };
 
     /// A member of an object that is a reference to a texture.
     fn reference_at(name: &'static str, state: ReferenceState) -> Self
         ensures { (context : _) (move : Move) → down (field name.now) (reference_outline state)
-            ≡ move → gives context move result };
+            ≡ move → describes_move context move result };
 
     /// A step down to a value, of which the caller says whether it is quiet.
     fn enter<C: HasContext>(
@@ -73,16 +75,17 @@ pub trait EventBuilder<'a>: Sized {
         requires { is_quiet ≡ quiet (outline_of (C.context context.now) value) }
         ensures { (move : Move)
             → down (step_of step.entry) (outline_of (C.context context.now) value.entry) ≡ move
-            → gives (C.context context.now) move result };
+            → describes_move (C.context context.now) move result };
 
     /// Nothing more.
     fn end() -> Self
-        ensures comes { (context : _) (move : Move) → over ≡ move → gives context move result }
+        ensures comes { (context : _) (move : Move) → over ≡ move
+            → describes_move context move result }
         ensures ends { is_more result → ⊥ };
 }
 
 impl<'a> EventBuilder<'a> for Event<'a> {
-    ghost gives = { IsGiven };
+    ghost describes_move = { IsGiven };
 
     ghost is_more = { IsMore };
 

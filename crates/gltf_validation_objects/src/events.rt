@@ -14,7 +14,7 @@ pub trait Events<'a, E: EventBuilder<'a>>: Visitable {
     /// The event at a number: first the members in which something can be wrong, in the order of
     /// the rows, then the places that the object's rule names.
     fn event<C: HasContext>(&'a self, number: usize, context: &C) -> E
-        ensures comes { E.gives (C.context context.now)
+        ensures comes { E.describes_move (C.context context.now)
             (move_at (outline Self.kind (Self.tree self.now) (C.context context.now) absent) number)
             result }
         ensures small { E.is_more result → number + 1 < 2 ^ 64 };

@@ -1,7 +1,7 @@
 //! Values that hold all their faults.
 
 ghost use Rattle.std.specs.Prelude.{◌≡◌, ◌&&◌};
-ghost use Rattle.gltf_validation_rules.specs.Context.{Context as MathematicalContext};
+ghost use Rattle.gltf_validation_rules.specs.Context.{Context as SpecContext};
 ghost use Rattle.gltf_validation_objects.specs.ValueRefs.{is_found, outline_of};
 ghost use Rattle.gltf_validation_objects.specs.Outline.{quiet};
 
@@ -11,7 +11,7 @@ use crate::value_ref::ValueRef;
 impl<'a> ValueRef<'a> {
     /// Whether this is a value that holds all its faults, and holds none.
     pub fn has_no_fault(&self) -> bool
-        ensures { (context : MathematicalContext)
+        ensures { (context : SpecContext)
             → result ≡ is_found self.now && quiet (outline_of context self.now) }
     {
         match self {

@@ -5,7 +5,7 @@ ghost use Rattle.gltf_base.specs.Lists.{ListName};
 ghost use Rattle.gltf_schema.specs.Fields.{list_tree};
 ghost use Rattle.gltf_schema.specs.Kind.{ListOf};
 ghost use Rattle.gltf_schema.specs.Tree.{absent};
-ghost use Rattle.gltf_validation_rules.specs.Context.{Context as MathematicalContext};
+ghost use Rattle.gltf_validation_rules.specs.Context.{Context as SpecContext};
 ghost use Rattle.gltf_validation_objects.specs.ValueRefs.{outline_of};
 ghost use Rattle.gltf_validation_objects.specs.OutlineOf.{outline};
 
@@ -20,7 +20,7 @@ use gltf_validation_rules::{Context, HasContext};
 pub trait ListItem: Quiet {
     /// A list as a borrowed value of a document.
     fn list_ref<'a>(items: &'a Vec<Self>) -> ValueRef<'a>
-        ensures { (context : MathematicalContext) → outline_of context result
+        ensures { (context : SpecContext) → outline_of context result
             ≡ outline (ListOf Self.kind) (list_tree Self.tree items.now.items) context absent };
 }
 

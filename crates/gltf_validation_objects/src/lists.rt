@@ -1,5 +1,5 @@
 //! The events of lists, of attributes, and of the places that the rules of objects name.
-#![tactic(auto, using(crate::proofs::Past::past, crate::proofs::Past::one_error))]
+#![tactic(auto, using(crate::proofs::Past::past, crate::proofs::Past::at_most_one_fault))]
 
 ghost use Rattle.std.specs.Prelude.{◌≡◌, ◌+◌, ◌<◌, ◌^◌, []};
 ghost use Rattle.gltf_scene.specs.Animation.{animation_channel_kind, animation_channel_members, animation_members};
@@ -21,7 +21,7 @@ use gltf_validation_rules::{HasContext, PositionFaults, extension_fault, sampler
 
 /// The event at a number of a place with nothing below.
 pub fn leaf_at<'a, E: EventBuilder<'a>>(fault: Option<Error>, number: usize) -> E
-    ensures comes { (context : _) → E.gives context (move_at (leaf fault) number) result }
+    ensures comes { (context : _) → E.describes_move context (move_at (leaf fault) number) result }
     ensures small { E.is_more result → number + 1 < 2 ^ 64 }
 {
     match number {
@@ -36,7 +36,7 @@ pub fn item_at<'a, T: Quiet, E: EventBuilder<'a>, C: HasContext>(
     number: usize,
     context: &C,
 ) -> E
-    ensures comes { E.gives (C.context context.now)
+    ensures comes { E.describes_move (C.context context.now)
         (move_at (outline (ListOf T.kind) (list_tree T.tree items.now.items)
         (C.context context.now) absent) number) result }
     ensures small { E.is_more result → number + 1 < 2 ^ 64 }
@@ -54,7 +54,7 @@ pub fn in_attribute<'a, E: EventBuilder<'a>>(
     number: usize,
 ) -> E
     ensures comes { (context : _)
-        → E.gives context (move_at (entry_outline key index) number) result }
+        → E.describes_move context (move_at (entry_outline key index) number) result }
     ensures small { E.is_more result → number + 1 < 2 ^ 64 }
 {
     match (key, index) {
@@ -89,7 +89,7 @@ pub fn in_channel<'a, E: EventBuilder<'a>, C: HasContext>(
     number: usize,
     context: &C,
 ) -> E
-    ensures comes { E.gives (C.context context.now)
+    ensures comes { E.describes_move (C.context context.now)
         (move_at (outline animation_channel_kind
         (closed_object (animation_channel_members channel.now))
         (C.context context.now) (closed_object (animation_members animation.now))) number) result }
@@ -146,7 +146,7 @@ pub fn at_attributes<'a>(faults: PositionFaults, number: usize) -> Event<'a>
 /// fault if there are no positions.
 pub fn in_positions<'a, E: EventBuilder<'a>>(faults: PositionFaults, number: usize) -> E
     ensures comes { (context : _)
-        → E.gives context (move_at (faults_outline faults) number) result }
+        → E.describes_move context (move_at (faults_outline faults) number) result }
     ensures small { E.is_more result → number + 1 < 2 ^ 64 }
 {
     match number {

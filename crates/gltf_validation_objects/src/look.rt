@@ -1,7 +1,7 @@
 //! A look at a move: whether anything is wrong there.
 
 ghost use Rattle.std.specs.Prelude.{◌≡◌};
-ghost use Rattle.gltf_base.specs.Steps.{Step as MathematicalStep};
+ghost use Rattle.gltf_base.specs.Steps.{Step as SpecStep};
 ghost use Rattle.gltf_validation_objects.specs.Moves.{IsSeen, IsSomething};
 ghost use Rattle.gltf_validation_objects.specs.Outline.{Outline, Move, down, quiet};
 
@@ -19,7 +19,7 @@ pub enum Look {
     /// A step down to a value in which nothing is wrong.
     Quiet,
     /// Something is wrong: at the place itself, or in the value that the step leads to.
-    Loud,
+    Faulty,
     /// Nothing more.
     Over,
 }
@@ -30,12 +30,12 @@ impl Look {
         ensures { (s : _) (p : Outline) (move : Move) → is_quiet ≡ quiet p → down s p ≡ move
             → IsSeen move result }
     {
-        if is_quiet { Look::Quiet } else { Look::Loud }
+        if is_quiet { Look::Quiet } else { Look::Faulty }
     }
 }
 
 impl<'a> EventBuilder<'a> for Look {
-    ghost gives = { λ _. IsSeen };
+    ghost describes_move = { λ _. IsSeen };
 
     ghost is_more = { IsSomething };
 
@@ -53,7 +53,7 @@ impl<'a> EventBuilder<'a> for Look {
 
     fn fault_here(fault: Option<Error>) -> Look {
         match fault {
-            Some(_) => Look::Loud,
+            Some(_) => Look::Faulty,
             None => Look::Over,
         }
     }

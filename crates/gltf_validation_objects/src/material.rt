@@ -4,7 +4,7 @@ ghost use Rattle.gltf_parts.specs.Material.{material_kind, material_extensions, 
 ghost use Rattle.gltf_schema.specs.Fields.{closed_object};
 ghost use Rattle.gltf_schema.specs.Leaves.{checked_tree, choice_of};
 ghost use Rattle.gltf_schema.specs.Tree.{absent, tree_or_absent};
-ghost use Rattle.gltf_validation_rules.specs.Context.{Context as MathematicalContext, context_of};
+ghost use Rattle.gltf_validation_rules.specs.Context.{Context as SpecContext, context_of};
 ghost use Rattle.gltf_validation_objects.specs.Outline.{leaf, move_at, quiet};
 ghost use Rattle.gltf_validation_objects.specs.OutlineOf.{outline};
 ghost use Rattle.gltf_validation_objects.specs.References.{extensions_outline, invalid_if, material_outline, parameters_outline};
@@ -41,7 +41,7 @@ pub struct MaterialFaults {
 /// Whether a choice is none of its list.
 #[tactic(auto, using(crate::proofs::Leaves::found_choice))]
 fn is_invalid<T: Choice>(choice: &Checked<T>) -> bool
-    ensures { (context : MathematicalContext) → leaf (invalid_if result)
+    ensures { (context : SpecContext) → leaf (invalid_if result)
         ≡ outline (choice_of T.form T.spelling T.listed) (checked_tree T.spelling choice.now) context
         absent }
 {
@@ -74,7 +74,8 @@ pub fn at_material<'a, E: EventBuilder<'a>, C: HasContext>(
     number: usize,
     context: &C,
 ) -> E
-    ensures comes { E.gives (C.context context.now) (move_at (outline_of (C.context context.now)
+    ensures comes { E.describes_move (C.context context.now)
+        (move_at (outline_of (C.context context.now)
         (material_ref faults extensions.entry)) number) result }
     ensures small { E.is_more result → number + 1 < 2 ^ 64 }
 {
@@ -92,7 +93,7 @@ pub fn in_material<'a, E: EventBuilder<'a>, C: HasContext>(
     number: usize,
     context: &C,
 ) -> E
-    ensures comes { E.gives (C.context context.now) (move_at
+    ensures comes { E.describes_move (C.context context.now) (move_at
         (material_outline (C.context context.now) faults
         (tree_or_absent (λ e. material_extensions e.now) extensions.entry)) number) result }
     ensures small { E.is_more result → number + 1 < 2 ^ 64 }
@@ -132,7 +133,7 @@ pub(crate) fn parameters_ref<'a>(
     base_color: ReferenceState,
     metallic_roughness: ReferenceState,
 ) -> ValueRef<'a>
-    ensures { (context : MathematicalContext) → outline_of context result
+    ensures { (context : SpecContext) → outline_of context result
         ≡ parameters_outline base_color metallic_roughness }
 {
     ValueRef::TwoTextures(

@@ -100,7 +100,7 @@ pub(crate) fn is_object_quiet<'a, T: Events<'a, Look>, C: HasContext>(
     loop {
         match object.event(number, context) {
             Look::Quiet => number += 1,
-            Look::Loud => return false,
+            Look::Faulty => return false,
             Look::Over => return true,
         }
     }

@@ -4,7 +4,7 @@
 ghost use Rattle.std.specs.Prelude.{◌≡◌, ◌+◌, ◌<◌, ◌^◌};
 ghost use Rattle.gltf_schema.specs.Fields.{index_tree};
 ghost use Rattle.gltf_schema.specs.Tree.{absent, tree_or_absent};
-ghost use Rattle.gltf_validation_rules.specs.Context.{Context as MathematicalContext, context_of};
+ghost use Rattle.gltf_validation_rules.specs.Context.{Context as SpecContext, context_of};
 ghost use Rattle.gltf_validation_objects.specs.Moves.{IsGiven, IsMore};
 ghost use Rattle.gltf_validation_objects.specs.Outline.{move_at, quiet};
 ghost use Rattle.gltf_validation_objects.specs.OutlineOf.{outline};
@@ -84,7 +84,7 @@ pub(crate) fn member_state<T: TextureReference>(
 /// The event at a number of a reference.
 pub fn in_reference<'a, E: EventBuilder<'a>>(state: ReferenceState, number: usize) -> E
     ensures comes { (context : _)
-        → E.gives context (move_at (reference_outline state) number) result }
+        → E.describes_move context (move_at (reference_outline state) number) result }
     ensures small { E.is_more result → number + 1 < 2 ^ 64 }
 {
     match (number, state) {
@@ -96,7 +96,7 @@ pub fn in_reference<'a, E: EventBuilder<'a>>(state: ReferenceState, number: usiz
 
 /// The event at a number of an object in which one reference can be wrong.
 pub fn in_one_texture<'a>(state: ReferenceState, name: MemberName, number: usize) -> Event<'a>
-    ensures comes { (context : MathematicalContext)
+    ensures comes { (context : SpecContext)
         → IsGiven context (move_at (one_texture state name) number) result }
     ensures small { IsMore result → number + 1 < 2 ^ 64 }
 {
@@ -114,7 +114,7 @@ pub fn in_two_textures<'a>(
     second_name: MemberName,
     number: usize,
 ) -> Event<'a>
-    ensures comes { (context : MathematicalContext) → IsGiven context
+    ensures comes { (context : SpecContext) → IsGiven context
         (move_at (two_textures first second first_name second_name) number) result }
     ensures small { IsMore result → number + 1 < 2 ^ 64 }
 {

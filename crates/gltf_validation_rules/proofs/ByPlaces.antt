@@ -17,7 +17,7 @@ use Rattle.gltf_validation_rules.specs.Faults.{choice_faults, key_faults, entrie
 use Rattle.gltf_validation_rules.specs.Rules.{object_faults}
 use Rattle.gltf_validation_rules.specs.Reports.{animation_below, reports, member_reports, reports_by_rules}
 use Rattle.gltf_validation_rules.specs.Places.{Place, place_of, object_place, key_kind, key_tree, entry_places, item_places, places, member_places, kind_faults, faults, reports_by_places}
-use Rattle.gltf_validation_rules.proofs.Joining.{joined}
+use Rattle.gltf_validation_rules.proofs.TwoParts.{joined}
 
 -- a leaf has one place, or none where nothing is wrong
 leaf : (kind : Kind) (t : Tree) (context : Context) (animation : Tree) (base : List Step) → kind_faults kind absent context animation base ≡ []

@@ -21,7 +21,7 @@ use Rattle.gltf_validation_rules.specs.Rules.{object_faults}
 use Rattle.gltf_validation_rules.specs.Reports.{animation_below, reports, member_reports}
 use Rattle.gltf_validation_rules.specs.References.{Reference, item_of, sampler_of, missing_image, unlisted, image_of, in_index, in_choice, in_entry, in_items, animation_of, references, in_members}
 use Rattle.gltf_validation_rules.specs.Closed.{Resolves, IsClosed}
-use Rattle.gltf_validation_rules.proofs.Joining.{first_none, second_none, all_one}
+use Rattle.gltf_validation_rules.proofs.TwoParts.{first_none, second_none, all_one}
 
 below_at : (b : Bool) (n count : ℕ) (base : List Step) → nat_lt n count ≡ b → cond (not b) (report base IndexOutOfBounds ∷ []) [] ≡ [] → n < count
 below_at true n count base is h = ltb-true n count is
@@ -91,7 +91,7 @@ module _ (context : Context) where
     clean_is_closed (IndexInto named) t animation base h = index_resolves (λ n. item_of named n) (count_in named context.root) (λ n l. l) t base h
     clean_is_closed SourceImage t animation base h = source_resolves t base h
     clean_is_closed ChannelSampler t animation base h = index_resolves (λ n. sampler_of animation n) (sampler_count animation) (λ n l. l) t base h
-    clean_is_closed (Choice form listed) t animation base h = choice_resolves t base h
+    clean_is_closed (Choice form spellings) t animation base h = choice_resolves t base h
     clean_is_closed (Attributes named) t animation base h = entries_resolve named (entries_in t) base h
     clean_is_closed (ListOf kind) t animation base h =
         items_resolve (λ x. reports kind x context animation) (λ x. references kind x animation) (λ x at e. clean_is_closed kind x animation at e) 0 (items_in t) base h

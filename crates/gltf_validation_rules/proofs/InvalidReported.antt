@@ -22,7 +22,7 @@ use Rattle.gltf_validation_rules.specs.Context.{Context}
 use Rattle.gltf_validation_rules.specs.Faults.{key_faults, number_faults, entries_faults, items_reports}
 use Rattle.gltf_validation_rules.specs.Reports.{animation_below, reports, member_reports}
 use Rattle.gltf_validation_rules.specs.Rules.{object_faults}
-use Rattle.gltf_validation_rules.proofs.Joining.{first_none, second_none}
+use Rattle.gltf_validation_rules.proofs.TwoParts.{first_none, second_none}
 
 -- if a tree of a kind has no report, nothing in it is invalid: whatever it is checked against, and
 -- wherever it is
@@ -40,9 +40,9 @@ pub reported_or_absent : {X : Type 0} (kind : Kind) (f : X → Tree) (o : Option
 reported_or_absent kind f None each = reported_valid kind _ refl
 reported_or_absent kind f (Some x) each = each x
 
-pub reported_choice : {X : Type 0} (form : Form) (listed : List Spelling) (spell : X → Spelling) (x : Checked X) → IsReported (Choice form listed) (checked_tree spell x)
-reported_choice form listed spell (Valid x) = reported_valid _ _ refl
-reported_choice form listed spell Invalid = record { valid = λ context animation base none. absurd cc }
+pub reported_choice : {X : Type 0} (form : Form) (spellings : List Spelling) (spell : X → Spelling) (x : Checked X) → IsReported (Choice form spellings) (checked_tree spell x)
+reported_choice form spellings spell (Valid x) = reported_valid _ _ refl
+reported_choice form spellings spell Invalid = record { valid = λ context animation base none. absurd cc }
 
 key_reported : (k : Key) (base : List Step) → key_faults k base ≡ [] → is_unknown k ≡ false
 key_reported unknown base h = absurd cc

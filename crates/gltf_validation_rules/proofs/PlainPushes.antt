@@ -28,7 +28,7 @@ use Rattle.gltf_root.specs.declared.root.Root.{Root}
 use Rattle.gltf_root.specs.declared.extensions.root.KhrLightsPunctual.{KhrLightsPunctual}
 use Rattle.gltf_root.specs.declared.extensions.root.KhrMaterialsVariants.{KhrMaterialsVariants}
 use Rattle.gltf_root.specs.declared.extensions.root.Root.{Root as RootExtensions}
-use Rattle.gltf_validation_rules.proofs.Growing.{with_item}
+use Rattle.gltf_validation_rules.proofs.LongerLists.{with_item}
 use Rattle.gltf_validation_rules.proofs.Inserting.{kind_at}
 
 -- ---- an object with another member
@@ -64,7 +64,7 @@ object_put rule rows keeps n t ts others plain new =
     and_from (members && none_named rows others) _ (and_from members _ (members_put n rows t ts parts.0 new) parts.1) parts.2
 
 absent_plain : (kind : Kind) → is_plain kind absent ≡ true
-absent_plain (Choice form listed) = refl
+absent_plain (Choice form spellings) = refl
 absent_plain (ListOf kind) = refl
 absent_plain (Object rule rows keeps) = refl
 absent_plain kind = refl

@@ -31,11 +31,11 @@ use Rattle.gltf_validation_rules.specs.Faults.{report_if, number_faults, index_f
 use Rattle.gltf_validation_rules.specs.Found.{HasKey, Lead, without_last, is_missing}
 use Rattle.gltf_validation_rules.specs.Reports.{animation_below, reports, member_reports}
 use Rattle.gltf_validation_rules.specs.Rules.{is_positions, primitive_attributes, root_extensions_required, positions_faults, extension_faults, rule_faults, object_faults}
-use Rattle.gltf_validation_rules.proofs.Joining.{joined}
+use Rattle.gltf_validation_rules.proofs.TwoParts.{joined}
 use Rattle.gltf_validation_rules.proofs.KeysThere.{is_array, is_object, keys_there}
 use Rattle.gltf_validation_rules.proofs.Leading.{Has, Leads, AllLead, none_lead, both_lead, each_of, if_leads, missing_leads, entries_lead, one_leads, step_leads, items_lead}
 use Rattle.gltf_validation_rules.proofs.Shifting.{Shifts, extension_shifts, items_shift, reports_shift}
-use Rattle.gltf_validation_rules.proofs.Standing.{StandsBelow, positions_below}
+use Rattle.gltf_validation_rules.proofs.FaultsBelow.{StandsBelow, positions_below}
 
 -- ---- defaults, in which nothing is wrong, but that an image may be missing
 
@@ -60,7 +60,7 @@ abbrev mutual
   is_quiet Text t = true
   is_quiet Truth t = true
   is_quiet Any t = true
-  is_quiet (Choice form listed) t = is_valid t
+  is_quiet (Choice form spellings) t = is_valid t
   is_quiet (ListOf kind) t = has_none (items_in t)
   is_quiet (Object no_rule rows keeps) t = are_quiet (members_in t) rows
   is_quiet _ t = is_absent t
@@ -120,7 +120,7 @@ absent_none (IndexInto named) context above base = refl
 absent_none SourceImage context above base = refl
 absent_none ChannelSampler context above base = refl
 absent_none Stride context above base = refl
-absent_none (Choice form listed) context above base = refl
+absent_none (Choice form spellings) context above base = refl
 absent_none (Attributes named) context above base = refl
 absent_none (ListOf kind) context above base = refl
 absent_none (Object rule rows keeps) context above base = refl
@@ -154,7 +154,7 @@ mutual
   quiet Text t context above base h = refl
   quiet Truth t context above base h = refl
   quiet Any t context above base h = refl
-  quiet (Choice form listed) t context above base h = choice_quiet t base h
+  quiet (Choice form spellings) t context above base h = choice_quiet t base h
   quiet (ListOf kind) t context above base h = items_quiet (λ x. reports kind x context above) 0 (items_in t) base h
   quiet (Object no_rule rows keeps) t context above base h = joined (all_quiet (members_in t) rows context above base h) (ruleless t context base)
   quiet kind t context above base h = absent_quiet kind t context above base h
@@ -392,7 +392,7 @@ mutual
   all_lead SourceImage d t fit h context above = source_leads context.rules.empty_texture (count_in ListName.images context.root) t d
   all_lead ChannelSampler d t fit h context above = index_leads (sampler_count above) t d
   all_lead Stride d t fit h context above = stride_leads t d
-  all_lead (Choice form listed) d t fit h context above = choice_leads t d
+  all_lead (Choice form spellings) d t fit h context above = choice_leads t d
   all_lead (Attributes named) d t fit h context above = entries_lead (count_in named context.root) (entries_in t) d (keys_there named d t h)
   all_lead (ListOf kind) d t fit h context above =
       list_leads (λ x. reports kind x context above) (λ x. reports_shift kind x context above) (read kind) (λ e u r. all_lead kind e u fit r context above) d t h

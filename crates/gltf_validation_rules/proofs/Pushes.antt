@@ -24,8 +24,8 @@ use Rattle.gltf_validation_rules.specs.Faults.{report_if, number_faults, index_f
 use Rattle.gltf_validation_rules.specs.References.{Reference, item_of, missing_image, unlisted, image_of, in_index, in_entry, in_items, animation_of, references, in_members}
 use Rattle.gltf_validation_rules.specs.Reports.{animation_below, reports, member_reports}
 use Rattle.gltf_validation_rules.specs.Rules.{is_positions, bounds_faults, positions_faults, primitive_attributes, rule_faults, object_faults}
-use Rattle.gltf_validation_rules.proofs.Growing.{GrowsAt, Grows}
-use Rattle.gltf_validation_rules.proofs.Joining.{joined, first_all, second_all}
+use Rattle.gltf_validation_rules.proofs.LongerLists.{GrowsAt, Grows}
+use Rattle.gltf_validation_rules.proofs.TwoParts.{joined, first_all, second_all}
 
 count-with_last : (x : Tree) (ts : Trees) → count_of (with_last x ts) ≡ suc (count_of ts)
 count-with_last x end = refl

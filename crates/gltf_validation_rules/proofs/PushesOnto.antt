@@ -24,10 +24,10 @@ use Rattle.gltf_validation_rules.specs.Inserted.{IsInserted}
 use Rattle.gltf_validation_rules.specs.Naming.{Avoids}
 use Rattle.gltf_validation_rules.specs.Reports.{document_reports, reports, member_reports, reports_by_rules}
 use Rattle.gltf_validation_rules.specs.Rules.{root_rule}
-use Rattle.gltf_validation_rules.proofs.Growing.{list_by, with_item, grows}
+use Rattle.gltf_validation_rules.proofs.LongerLists.{list_by, with_item, grows}
 use Rattle.gltf_validation_rules.proofs.Pushes.{reports_same}
 use Rattle.gltf_validation_rules.proofs.CleanIsClosed.{clean_is_closed}
-use Rattle.gltf_validation_rules.proofs.Joining.{first_none, second_none}
+use Rattle.gltf_validation_rules.proofs.TwoParts.{first_none, second_none}
 use Rattle.gltf_validation_rules.proofs.ClosedAvoids.{closed_avoids}
 use Rattle.gltf_validation_rules.proofs.Inserting.{ahead, list_inserted, name_at, kind_at, are_at, member_inserted}
 

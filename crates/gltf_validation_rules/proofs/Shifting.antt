@@ -18,7 +18,7 @@ use Rattle.gltf_validation_rules.specs.Context.{Context}
 use Rattle.gltf_validation_rules.specs.Faults.{report_if, number_faults, index_faults, source_faults, stride_faults, choice_faults, key_faults, entries_faults, items_reports}
 use Rattle.gltf_validation_rules.specs.Reports.{animation_below, reports, member_reports}
 use Rattle.gltf_validation_rules.specs.Rules.{is_positions, accessor_min, accessor_max, root_extensions_required, primitive_attributes, bound_faults, bounds_faults, positions_faults, extension_faults, rule_faults, object_faults}
-use Rattle.gltf_validation_rules.proofs.Joining.{joined}
+use Rattle.gltf_validation_rules.proofs.TwoParts.{joined}
 
 -- more steps in front of a place come in front of each of its reports
 abbrev pub Shifts : From → Type 0
@@ -126,7 +126,7 @@ mutual
   reports_shift SourceImage t context above base more = source_shifts context.rules.empty_texture (count_in ListName.images context.root) t base more
   reports_shift ChannelSampler t context above base more = index_shifts (sampler_count above) t base more
   reports_shift Stride t context above base more = stride_shifts t base more
-  reports_shift (Choice form listed) t context above base more = choice_shifts t base more
+  reports_shift (Choice form spellings) t context above base more = choice_shifts t base more
   reports_shift (Attributes named) t context above base more = entries_shift (count_in named context.root) (entries_in t) base more
   reports_shift (ListOf kind) t context above base more =
       items_shift (λ x. reports kind x context above) (λ x b m. reports_shift kind x context above b m) 0 (items_in t) base more

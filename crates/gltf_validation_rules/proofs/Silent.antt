@@ -11,7 +11,7 @@ use Rattle.gltf_validation_rules.specs.Rules.{object_faults, rule_faults}
 use Rattle.gltf_validation_rules.specs.Faults.{items_reports}
 use Rattle.gltf_validation_rules.specs.Reports.{animation_below, reports, member_reports}
 use Rattle.gltf_schema.specs.Silence.{is_silent_rule, is_silent, are_silent}
-use Rattle.gltf_validation_rules.proofs.Joining.{joined}
+use Rattle.gltf_validation_rules.proofs.TwoParts.{joined}
 
 rule_silent : (rule : Rule) → is_silent_rule rule ≡ true → (ts : Trees) (context : Context) (base : List Step) → rule_faults rule ts context base ≡ []
 rule_silent no_rule h ts context base = refl
@@ -36,7 +36,7 @@ mutual
   silent SourceImage h t context animation base = absurd cc
   silent ChannelSampler h t context animation base = absurd cc
   silent Stride h t context animation base = absurd cc
-  silent (Choice form listed) h t context animation base = absurd cc
+  silent (Choice form spellings) h t context animation base = absurd cc
   silent (Attributes named) h t context animation base = absurd cc
   silent (ListOf kind) h t context animation base = no_items (λ x. reports kind x context animation) (λ x at. silent kind h x context animation at) 0 (items_in t) base
   silent (Object rule rows keeps) h t context animation base =

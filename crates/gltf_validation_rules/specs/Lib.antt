@@ -8,7 +8,7 @@ pub mod References
 pub mod Closed
 pub mod Naming
 pub mod Inserted
-pub mod Standing
+pub mod ReportPlaces
 pub mod Worked
 pub mod Bases
 pub mod Wider

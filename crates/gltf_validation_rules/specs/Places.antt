@@ -73,7 +73,7 @@ kind_faults (IndexInto named) t context animation base = index_faults (count_in 
 kind_faults SourceImage t context animation base = source_faults context.rules.empty_texture (count_in ListName.images context.root) t base
 kind_faults ChannelSampler t context animation base = index_faults (sampler_count animation) t base
 kind_faults Stride t context animation base = stride_faults t base
-kind_faults (Choice form listed) t context animation base = choice_faults t base
+kind_faults (Choice form spellings) t context animation base = choice_faults t base
 kind_faults (Object rule rows keeps) t context animation base = object_faults t rule context base
 kind_faults _ t context animation base = []
 

@@ -55,7 +55,7 @@ abbrev mutual
   references (IndexInto named) t animation = in_index (λ n. item_of named n) t
   references SourceImage t animation = in_index image_of t
   references ChannelSampler t animation = in_index (λ n. sampler_of animation n) t
-  references (Choice form listed) t animation = in_choice t
+  references (Choice form spellings) t animation = in_choice t
   references (Attributes named) t animation = flat_map (in_entry named) (entries_in t)
   references (ListOf kind) t animation = in_items (λ x. references kind x animation) (items_in t)
   references (Object rule rows keeps) t animation = in_members (members_in t) rows (animation_of rule t animation)

@@ -29,7 +29,7 @@ abbrev mutual
   reports SourceImage t context animation base = source_faults context.rules.empty_texture (count_in ListName.images context.root) t base
   reports ChannelSampler t context animation base = index_faults (sampler_count animation) t base
   reports Stride t context animation base = stride_faults t base
-  reports (Choice form listed) t context animation base = choice_faults t base
+  reports (Choice form spellings) t context animation base = choice_faults t base
   reports (Attributes named) t context animation base = entries_faults (count_in named context.root) (entries_in t) base
   reports (ListOf kind) t context animation base = items_reports (λ x. reports kind x context animation) 0 (items_in t) base
   reports (Object rule rows keeps) t context animation base =

@@ -1,7 +1,7 @@
 //! What values are validated against.
 
 ghost use Rattle.std.specs.Prelude.{◌≡◌};
-ghost use Rattle.gltf_validation_rules.specs.Context.{Context as MathematicalContext, context_of};
+ghost use Rattle.gltf_validation_rules.specs.Context.{Context as SpecContext, context_of};
 
 use crate::rules::Rules;
 use gltf_root::root::Root;
@@ -18,7 +18,7 @@ pub struct Context<'a> {
 /// What has a context. Code that only hands it on, as a walk over an object's members does, asks
 /// for this: it need not know that a context holds a whole document.
 pub trait HasContext {
-    ghost context: { Self → MathematicalContext };
+    ghost context: { Self → SpecContext };
 
     /// The document and the rules.
     fn context(&self) -> Context<'_>

@@ -18,12 +18,12 @@ ghost use Rattle.gltf_validation_rules.specs.Context.{Rules, under};
 ghost use Rattle.gltf_validation_rules.specs.Reports.{document_reports, reports, reports_by_rules};
 ghost use Rattle.gltf_validation_rules.specs.Places.{reports_by_places};
 ghost use Rattle.gltf_validation_rules.specs.Closed.{IsClosed};
-ghost use Rattle.gltf_validation_rules.specs.Standing.{is_below};
+ghost use Rattle.gltf_validation_rules.specs.ReportPlaces.{is_below};
 ghost use Rattle.gltf_base.specs.Lists.{ListName};
 ghost use Rattle.gltf_root.specs.Lists.{count_in, list_in, row_of};
 ghost use Rattle.gltf_root.specs.Pushed.{item_kind, item_place, pushed, with_last};
 ghost use Rattle.gltf_root.specs.Root.{root_kind, root_tree};
-ghost use Rattle.gltf_sinks.specs.Handed.{run};
+ghost use Rattle.gltf_sinks.specs.SinkOutcome.{run};
 ghost use Rattle.gltf_sinks.specs.Sinks.{one_more};
 ghost use Rattle.gltf_root.specs.declared.root.Root.{Root as Document};
 

@@ -5,7 +5,7 @@ ghost use Rattle.std.specs.Map.{lookup};
 ghost use Rattle.serde_json.specs.View.{view};
 ghost use Rattle.gltf_base.specs.Semantics.{checked_key};
 ghost use Rattle.gltf_base.specs.Indexes.{index_number};
-ghost use Rattle.gltf_base.specs.Steps.{Step as MathematicalStep};
+ghost use Rattle.gltf_base.specs.Steps.{Step as SpecStep};
 ghost use Rattle.gltf_parts.specs.Accessor.{accessor_members};
 ghost use Rattle.gltf_scene.specs.Mesh.{primitive_members};
 ghost use Rattle.gltf_schema.specs.Fields.{any_tree, attributes_tree, closed_object};
@@ -41,7 +41,7 @@ pub struct PositionFaults {
 /// numbers.
 #[tactic(auto, unfolding(gltf_scene::specs::Mesh::primitive_rows, gltf_scene::specs::Mesh::primitive_members))]
 pub fn position_faults(primitive: &Primitive, root: &Root) -> PositionFaults
-    ensures { (base : List MathematicalStep) → found_in_positions result base
+    ensures { (base : List SpecStep) → found_in_positions result base
         ≡ positions_faults (lookup is_positions (entries_in
         (primitive_attributes (primitive_members primitive.now)))) (root_tree root.now) base }
 {
@@ -57,7 +57,7 @@ pub fn position_faults(primitive: &Primitive, root: &Root) -> PositionFaults
 
 /// What is wrong with the accessor that an index names; nothing where it names none.
 fn found_at_index(index: Index<Accessor>, root: &Root) -> PositionFaults
-    ensures { (base : List MathematicalStep) → found_in_positions result base
+    ensures { (base : List SpecStep) → found_in_positions result base
         ≡ positions_faults (Some (index_number index)) (root_tree root.now) base }
 {
     match root.get(index) {
@@ -73,7 +73,7 @@ fn found_at_index(index: Index<Accessor>, root: &Root) -> PositionFaults
 /// What is wrong with the bounds of an accessor of positions.
 #[tactic(auto, unfolding(gltf_parts::specs::Accessor::accessor_rows, gltf_parts::specs::Accessor::accessor_members))]
 fn found_in_bounds(accessor: &Accessor) -> PositionFaults
-    ensures { (base : List MathematicalStep) → found_in_positions result base
+    ensures { (base : List SpecStep) → found_in_positions result base
         ≡ bounds_faults (closed_object (accessor_members accessor.now)) base }
 {
     PositionFaults {
@@ -85,7 +85,7 @@ fn found_in_bounds(accessor: &Accessor) -> PositionFaults
 
 /// What is wrong with a bound of positions.
 fn bound_fault(bound: &Option<Value>) -> Option<Error>
-    ensures { (base : List MathematicalStep)
+    ensures { (base : List SpecStep)
         → found_at result base ≡ bound_faults (tree_or_absent any_tree bound.now) base }
 {
     match bound {

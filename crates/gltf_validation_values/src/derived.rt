@@ -21,7 +21,7 @@ pub(crate) fn event_of<'a, E: FromEvent<'a>, C: HasContext>(
     context: &C,
 ) -> E
     requires { IsNumbered value }
-    ensures comes { E.gives (C.context context.now)
+    ensures comes { E.describes_move (C.context context.now)
         (move_at (outline_of (C.context context.now) value.entry) number) result }
     ensures small { E.is_more result → number + 1 < 2 ^ 64 }
 {

@@ -20,7 +20,7 @@ trait FromEvent<'a>: EventBuilder<'a> {
     /// The same move.
     fn from_event(event: Event<'a>) -> Self
         ensures comes { (context : _) (move : Move) → IsGiven context move event.entry
-            → Self.gives context move result }
+            → Self.describes_move context move result }
         ensures small { Self.is_more result → IsMore event.entry };
 }
 

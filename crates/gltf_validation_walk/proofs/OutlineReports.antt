@@ -19,10 +19,10 @@ use Rattle.gltf_validation_rules.specs.Faults.{report_if, number_faults, index_f
 use Rattle.gltf_validation_rules.specs.Reports.{animation_below, reports, member_reports}
 use Rattle.gltf_validation_rules.specs.Rules.{is_positions, accessor_min, accessor_max, primitive_attributes, root_extensions_required, bound_faults, bounds_faults, positions_faults, extension_faults, rule_faults, object_faults}
 use Rattle.gltf_schema.specs.Silence.{is_silent}
-use Rattle.gltf_validation_rules.proofs.Joining.{joined}
+use Rattle.gltf_validation_rules.proofs.TwoParts.{joined}
 use Rattle.gltf_validation_rules.proofs.Silent.{silent}
-use Rattle.gltf_validation_objects.specs.Outline.{Outline, Outlines, nothing, below, errors, leaf, also, reports_of, reports_below, reports_here}
-use Rattle.gltf_validation_objects.specs.OutlineOf.{error_among, error_of, leaf_of, entry_outlines, item_outlines, bounds_outline, positions_outline, name_outline, rule_outlines, own_error, unless_silent, outline, member_outlines}
+use Rattle.gltf_validation_objects.specs.Outline.{Outline, Outlines, nothing, below, fault_list, leaf, also, reports_of, reports_below, reports_here}
+use Rattle.gltf_validation_objects.specs.OutlineOf.{fault_among, fault_of_reports, leaf_of, entry_outlines, item_outlines, bounds_outline, positions_outline, name_outline, rule_outlines, own_fault, unless_silent, outline, member_outlines}
 
 -- ---- reports one behind the other
 
@@ -80,7 +80,7 @@ entries_told count [] base = refl
 entries_told count (e ∷ es) base =
     let at = base ++ key (key_text e.0) ∷ [] in
     joined
-    (here_reported (errors (error_of (key_faults e.0))) (errors (error_of (number_faults count e.1))) at ∙ joined (key_reported e.0 at) (if_reported _ _ at))
+    (here_reported (fault_list (fault_of_reports (key_faults e.0))) (fault_list (fault_of_reports (number_faults count e.1))) at ∙ joined (key_reported e.0 at) (if_reported _ _ at))
     (entries_told count es base)
 
 items_reported : (f : Tree → Outline) (g : Tree → From) → ((t : Tree) (base : List Step) → reports_of (f t) base ≡ g t base)
@@ -97,7 +97,7 @@ bound_reported t base = refl
 
 -- the outline at positions, by what is wrong there seen from the place itself
 abbrev plan_at : List Report → Outline
-plan_at rs = bounds_outline (error_among [] rs) (error_among (field (codes "min") ∷ []) rs) (error_among (field (codes "max") ∷ []) rs)
+plan_at rs = bounds_outline (fault_among [] rs) (fault_among (field (codes "min") ∷ []) rs) (fault_among (field (codes "max") ∷ []) rs)
 
 -- what is wrong with the two bounds
 abbrev both_bounds : Option Error → Option Error → From
@@ -111,8 +111,8 @@ both_told (Some e) (Some f) base = refl
 
 bounds_told : (t : Tree) (base : List Step) → reports_of (plan_at (bounds_faults t [])) base ≡ bounds_faults t base
 bounds_told (tree.object ts others) base =
-    let least = error_of (bound_faults (accessor_min ts)) in
-    let most = error_of (bound_faults (accessor_max ts)) in
+    let least = fault_of_reports (bound_faults (accessor_min ts)) in
+    let most = fault_of_reports (bound_faults (accessor_max ts)) in
     let same : (at : List Step) → both_bounds least most at ≡ bounds_faults (tree.object ts others) at =
     λ at. joined (bound_reported (accessor_min ts) (at ++ field (codes "min") ∷ [])) (bound_reported (accessor_max ts) (at ++ field (codes "max") ∷ [])) in
     ap (λ rs. reports_of (plan_at rs) base) (sym (same [])) ∙ both_told least most base ∙ same base
@@ -134,7 +134,7 @@ unruled rule (tree.object ts others) context base none = sym (none ts)
 unruled rule t context base none = refl
 
 rule_told : (rule : Rule) (t : Tree) (context : Context) (base : List Step)
-    → reports_below (rule_outlines rule t context) base ++ reports_here (errors (own_error rule t)) base ≡ object_faults t rule context base
+    → reports_below (rule_outlines rule t context) base ++ reports_here (fault_list (own_fault rule t)) base ≡ object_faults t rule context base
 rule_told needs_data (tree.object ts others) context base = append-nil _ ∙ if_told_below _ _ (field (codes "bufferView")) base
 rule_told needs_cone (tree.object ts others) context base = append-nil _ ∙ if_told_below _ _ (field (codes "spot")) base
 rule_told needs_projection (tree.object ts others) context base = if_reported _ _ base
@@ -168,7 +168,7 @@ mutual
   outline_reports SourceImage t context animation base = source_told context.rules.empty_texture (count_in ListName.images context.root) t base
   outline_reports ChannelSampler t context animation base = index_told (sampler_count animation) t base
   outline_reports Stride t context animation base = stride_told t base
-  outline_reports (Choice form listed) t context animation base = choice_told t base
+  outline_reports (Choice form spellings) t context animation base = choice_told t base
   outline_reports (Attributes named) t context animation base = append-nil _ ∙ entries_told (count_in named context.root) (entries_in t) base
   outline_reports (ListOf kind) t context animation base =
       append-nil _
@@ -176,7 +176,7 @@ mutual
   outline_reports (Object rule rows keeps) t context animation base =
       let ps = member_outlines (members_in t) rows context (animation_below rule t animation) in
       let qs = rule_outlines rule t context in
-      let own = reports_here (errors (own_error rule t)) base in
+      let own = reports_here (fault_list (own_fault rule t)) base in
       ap (λ rs. rs ++ own) (also_told ps qs base) ∙ append_assoc (reports_below ps base) (reports_below qs base) own
       ∙ joined (members_told (members_in t) rows context (animation_below rule t animation) base) (rule_told rule t context base)
   outline_reports kind t context animation base = refl

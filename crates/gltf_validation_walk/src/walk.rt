@@ -22,14 +22,15 @@ pub struct ValueWalk<'a> {
     /// The values that the walk is in, each below the one before.
     pub(crate) frames: ArrayVec<Frame<'a>, 16>,
     pub(crate) steps: Steps<'a>,
-    ghost fits: { reach 0 (outlines_left (under (rules_of rules) (root_tree root.now)) frames.items)
+    ghost reach_is_bounded: { reach 0
+        (outlines_left (under (rules_of rules) (root_tree root.now)) frames.items)
         ≤ 10 },
-    ghost beside: { length frames.items ≤ suc (length steps.items) },
+    ghost frames_have_steps: { length frames.items ≤ suc (length steps.items) },
 }
 
 /// A walk over a document, which returns its reports one at a time.
 #[derive(Drop)]
 pub struct Walk<'a> {
     pub(crate) inner: ValueWalk<'a>,
-    ghost from_root: { length inner.steps.items ≤ length inner.frames.items - 1 },
+    ghost steps_have_frames: { length inner.steps.items ≤ length inner.frames.items - 1 },
 }

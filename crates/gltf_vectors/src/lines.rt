@@ -3,7 +3,7 @@
 
 mod devices;
 mod documents;
-pub(crate) mod hog;
+pub(crate) mod held_memory;
 mod limits;
 mod refusals;
 mod writers;

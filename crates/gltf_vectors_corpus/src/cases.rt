@@ -100,8 +100,8 @@ fn bytes_of(alloc: Global, case: &Value) -> Result<Vec<u8>> {
 /// What becomes of a document to which a case adds members: its line, its error, or what differs
 /// between the ways of writing it.
 fn become_of(alloc: Global, mut root: Root, case: &Value) -> Result<String> {
-    if let Some(listed) = case.get("others") {
-        keep_in_document(&mut root, listed)?;
+    if let Some(added) = case.get("others") {
+        keep_in_document(&mut root, added)?;
     }
     if let Some(extras) = case.get("extras") {
         root.extras = Some(extras.clone()?);

@@ -22,11 +22,11 @@ impl Object for Accessor {
 
     ghost unknown = { λ _. no_members };
 
-    ghost sound = { accessor_sound };
+    ghost kind_is_sound = { accessor_sound };
 
     ghost height = { 3 };
 
-    ghost low = { (accessor_height.1, lit≤ tt) };
+    ghost height_bounds_kind = { (accessor_height.1, lit≤ tt) };
 
     fn read_members<R: ReadRows>(from: &mut R) -> Accessor {
         let buffer_view = from.optional("bufferView");

@@ -4,7 +4,7 @@
 ghost use Rattle.std.specs.Prelude.{◌≡◌, [], ◌∷◌, codes};
 ghost use Rattle.gltf_base.specs.Choices.{component_type_spelling};
 ghost use Rattle.gltf_schema.specs.Tree.{whole, chosen};
-ghost use Rattle.gltf_schema.specs.Given.{made};
+ghost use Rattle.gltf_schema.specs.WithDefaults.{with_defaults};
 ghost use Rattle.gltf_schema.specs.Fields.{index_tree, closed_object};
 ghost use Rattle.gltf_parts.specs.Accessor.{sparse_rows, sparse_indices_rows, sparse_values_rows, sparse_members, sparse_indices_members, sparse_values_members};
 
@@ -37,7 +37,7 @@ impl Sparse {
     /// Returns sparse storage of `count` elements.
     #[tactic(auto, unfolding(crate::specs::Accessor::sparse_rows, crate::specs::Accessor::sparse_members))]
     pub fn new(count: u64, indices: Indices, values: Values) -> Sparse
-        ensures { sparse_members result ≡ made sparse_rows (
+        ensures { sparse_members result ≡ with_defaults sparse_rows (
             (codes "count", whole count)
             ∷ (codes "indices", closed_object (sparse_indices_members indices))
             ∷ (codes "values", closed_object (sparse_values_members values))
@@ -71,7 +71,7 @@ impl Indices {
     /// any other is written as it is, and read back as invalid.
     #[tactic(auto, unfolding(crate::specs::Accessor::sparse_indices_rows, crate::specs::Accessor::sparse_indices_members))]
     pub fn new(buffer_view: Index<View>, component_type: ComponentType) -> Indices
-        ensures { sparse_indices_members result ≡ made sparse_indices_rows (
+        ensures { sparse_indices_members result ≡ with_defaults sparse_indices_rows (
             (codes "bufferView", index_tree buffer_view)
             ∷ (codes "componentType", chosen (component_type_spelling component_type))
             ∷ []) }
@@ -113,7 +113,7 @@ impl Values {
     /// Returns values at the start of a buffer view.
     #[tactic(auto, unfolding(crate::specs::Accessor::sparse_values_rows, crate::specs::Accessor::sparse_values_members))]
     pub fn new(buffer_view: Index<View>) -> Values
-        ensures { sparse_values_members result ≡ made sparse_values_rows (
+        ensures { sparse_values_members result ≡ with_defaults sparse_values_rows (
             (codes "bufferView", index_tree buffer_view)
             ∷ []) }
     {

@@ -20,11 +20,11 @@ impl Object for Buffer {
 
     ghost unknown = { λ _. no_members };
 
-    ghost sound = { buffer_sound };
+    ghost kind_is_sound = { buffer_sound };
 
     ghost height = { 0 };
 
-    ghost low = { (buffer_height.1, lit≤ tt) };
+    ghost height_bounds_kind = { (buffer_height.1, lit≤ tt) };
 
     fn read_members<R: ReadRows>(from: &mut R) -> Buffer {
         let byte_length = from.or_default("byteLength", USize64(0));
@@ -59,11 +59,11 @@ impl Object for View {
 
     ghost unknown = { λ _. no_members };
 
-    ghost sound = { view_sound };
+    ghost kind_is_sound = { view_sound };
 
     ghost height = { 1 };
 
-    ghost low = { (view_height.1, lit≤ tt) };
+    ghost height_bounds_kind = { (view_height.1, lit≤ tt) };
 
     fn read_members<R: ReadRows>(from: &mut R) -> View {
         let buffer = from.required("buffer");

@@ -19,11 +19,11 @@ impl Object for Image {
 
     ghost unknown = { λ _. no_members };
 
-    ghost sound = { image_sound };
+    ghost kind_is_sound = { image_sound };
 
     ghost height = { 1 };
 
-    ghost low = { (image_height.1, lit≤ tt) };
+    ghost height_bounds_kind = { (image_height.1, lit≤ tt) };
 
     fn read_members<R: ReadRows>(from: &mut R) -> Image {
         let buffer_view = from.optional("bufferView");

@@ -29,11 +29,11 @@ impl Object for PbrMetallicRoughness {
 
     ghost unknown = { λ _. no_members };
 
-    ghost sound = { pbr_metallic_roughness_sound };
+    ghost kind_is_sound = { pbr_metallic_roughness_sound };
 
     ghost height = { 2 };
 
-    ghost low = { (pbr_metallic_roughness_height.1, lit≤ tt) };
+    ghost height_bounds_kind = { (pbr_metallic_roughness_height.1, lit≤ tt) };
 
     fn read_members<R: ReadRows>(from: &mut R) -> PbrMetallicRoughness {
         let base_color_factor = from.sometimes("baseColorFactor");
@@ -74,11 +74,11 @@ impl Object for NormalTexture {
 
     ghost unknown = { λ _. no_members };
 
-    ghost sound = { normal_texture_sound };
+    ghost kind_is_sound = { normal_texture_sound };
 
     ghost height = { 1 };
 
-    ghost low = { (normal_texture_height.1, lit≤ tt) };
+    ghost height_bounds_kind = { (normal_texture_height.1, lit≤ tt) };
 
     fn read_members<R: ReadRows>(from: &mut R) -> NormalTexture {
         let index = from.required("index");
@@ -125,11 +125,11 @@ impl Object for OcclusionTexture {
 
     ghost unknown = { λ _. no_members };
 
-    ghost sound = { occlusion_texture_sound };
+    ghost kind_is_sound = { occlusion_texture_sound };
 
     ghost height = { 1 };
 
-    ghost low = { (occlusion_texture_height.1, lit≤ tt) };
+    ghost height_bounds_kind = { (occlusion_texture_height.1, lit≤ tt) };
 
     fn read_members<R: ReadRows>(from: &mut R) -> OcclusionTexture {
         let index = from.required("index");
@@ -164,11 +164,11 @@ impl Object for Material {
 
     ghost unknown = { λ _. no_members };
 
-    ghost sound = { material_sound };
+    ghost kind_is_sound = { material_sound };
 
     ghost height = { 4 };
 
-    ghost low = { (material_height.1, lit≤ tt) };
+    ghost height_bounds_kind = { (material_height.1, lit≤ tt) };
 
     fn read_members<R: ReadRows>(from: &mut R) -> Material {
         let alpha_cutoff = from.optional("alphaCutoff");

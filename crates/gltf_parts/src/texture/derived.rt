@@ -22,11 +22,11 @@ impl Object for Sampler {
 
     ghost unknown = { λ _. no_members };
 
-    ghost sound = { sampler_sound };
+    ghost kind_is_sound = { sampler_sound };
 
     ghost height = { 1 };
 
-    ghost low = { (sampler_height.1, lit≤ tt) };
+    ghost height_bounds_kind = { (sampler_height.1, lit≤ tt) };
 
     fn read_members<R: ReadRows>(from: &mut R) -> Sampler {
         let mag_filter = from.optional("magFilter");
@@ -67,11 +67,11 @@ impl Object for Texture {
 
     ghost unknown = { λ _. no_members };
 
-    ghost sound = { texture_sound };
+    ghost kind_is_sound = { texture_sound };
 
     ghost height = { 1 };
 
-    ghost low = { (texture_height.1, lit≤ tt) };
+    ghost height_bounds_kind = { (texture_height.1, lit≤ tt) };
 
     fn read_members<R: ReadRows>(from: &mut R) -> Texture {
         let name = from.optional("name");
@@ -106,11 +106,11 @@ impl Object for Info {
 
     ghost unknown = { λ _. no_members };
 
-    ghost sound = { info_sound };
+    ghost kind_is_sound = { info_sound };
 
     ghost height = { 1 };
 
-    ghost low = { (info_height.1, lit≤ tt) };
+    ghost height_bounds_kind = { (info_height.1, lit≤ tt) };
 
     fn read_members<R: ReadRows>(from: &mut R) -> Info {
         let index = from.required("index");

@@ -22,11 +22,11 @@ impl Object for Root {
 
     ghost unknown = { λ _. no_members };
 
-    ghost sound = { root_sound };
+    ghost kind_is_sound = { root_sound };
 
     ghost height = { 7 };
 
-    ghost low = { (root_height.1, lit≤ tt) };
+    ghost height_bounds_kind = { (root_height.1, lit≤ tt) };
 
     fn read_members<R: ReadRows>(from: &mut R) -> Root {
         let accessors = from.list("accessors");

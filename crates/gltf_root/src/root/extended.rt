@@ -24,9 +24,9 @@ impl RootItem for Light {
 
     ghost put = { put_lights };
 
-    ghost lists = { λ r. unfold root_rows root_members in lights_of-trees r };
+    ghost tree_lists_items = { λ r. unfold root_rows root_members in lights_of-trees r };
 
-    ghost puts = { λ r list there. put_lights-trees r list there };
+    ghost put_replaces_list = { λ r list there. put_lights-trees r list there };
 
     /// Those of the extension; none if it is missing.
     fn list_of(root: &Root) -> &[Light] {
@@ -97,9 +97,9 @@ impl RootItem for Variant {
 
     ghost put = { put_variants };
 
-    ghost lists = { λ r. unfold root_rows root_members in variants_of-trees r };
+    ghost tree_lists_items = { λ r. unfold root_rows root_members in variants_of-trees r };
 
-    ghost puts = { λ r list there. put_variants-trees r list there };
+    ghost put_replaces_list = { λ r list there. put_variants-trees r list there };
 
     /// Those of the extension; none if it is missing.
     fn list_of(root: &Root) -> &[Variant] {

@@ -137,10 +137,12 @@ pub trait RootItem: Listed + Drop {
             → IfSome result (λ item. items root.old ≡ items root.new ++ item ∷ []) };
 
     // The list of the root's tree holds the trees of the items.
-    ghost lists: { (r : Root) → list_in Self.list (root_tree r) ≡ trees (map tree (items r)) };
+    ghost tree_lists_items: { (r : Root) → list_in Self.list (root_tree r)
+        ≡ trees (map tree (items r)) };
 
     // A list put in place is the root's, and all else is as it was.
-    ghost puts: { (r : Root) (list : Vec Self Global) → is_there Self.list (root_tree r) ≡ true
+    ghost put_replaces_list: { (r : Root) (list : Vec Self Global)
+        → is_there Self.list (root_tree r) ≡ true
         → (items (put list r) ≡ list.items)
         × (root_tree (put list r)
         ≡ with_list Self.list (trees (map tree list.items)) (root_tree r)) };

@@ -57,7 +57,7 @@ pub(crate) fn streamed(alloc: Global, text: &str) -> Option<Result<Root, Error>>
 /// Lists that are not read yet, each with the name of its member.
 fn empty_lists(alloc: Global) -> Lists
     ensures named { ⟦<Lists as Slots>⟧.names result ≡ list_names }
-    ensures empty { ⟦<Lists as Slots>⟧.hold result [] no_members }
+    ensures empty { ⟦<Lists as Slots>⟧.hold_members result [] no_members }
 {
     let skins = (Slot::new(alloc, "skins"), Slot::new(alloc, "textures"));
     let scenes = (Slot::new(alloc, "scenes"), skins);
@@ -76,7 +76,8 @@ fn empty_lists(alloc: Global) -> Lists
 /// Returns the document with the lists that were read in the place of its own. Fails with `Schema`
 /// if and only if the table refuses one of them.
 fn filled(mut root: Root, lists: Lists) -> Result<Root, Error>
-    ensures { Reads root_tree result (with_lists (zip list_names (⟦<Lists as Slots>⟧.listed lists))
+    ensures { Reads root_tree result
+        (with_lists (zip list_names (⟦<Lists as Slots>⟧.read_lists lists))
         root_rows (root_tree root)) }
 {
     let (accessors, (animations, (buffers, (buffer_views, lists)))) = lists;

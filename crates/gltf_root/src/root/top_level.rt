@@ -45,24 +45,24 @@ pub trait TopLevel: Listed + Object {
         ensures lent { result.now ≡ held root.old };
 
     // The table has the items of the list by the kind of the object.
-    ghost kinded: { object_kind Self.rule Self.rows Self.keeps ≡ item_kind Self.list };
+    ghost kind_is_item_kind: { object_kind Self.rule Self.rows Self.keeps ≡ item_kind Self.list };
 
     // The list of the root's tree holds the trees of the items.
-    ghost stands: { (r : Root)
+    ghost tree_lists_items: { (r : Root)
         → list_in Self.list (root_tree r)
         ≡ trees (map (λ x. object (Self.members x) (Self.unknown x)) (held r).items) };
 
     // A list put in place is the root's, and all else is as it was.
-    ghost puts: { (r : Root) (list : Vec Self Global) → (held (put list r) ≡ list)
+    ghost put_replaces_list: { (r : Root) (list : Vec Self Global) → (held (put list r) ≡ list)
         × (root_tree (put list r)
         ≡ with_list Self.list (trees (map (λ x. object (Self.members x) (Self.unknown x))
         list.items)) (root_tree r)) };
 
     // The list that is there changes nothing.
-    ghost same: { (r : Root) → put (held r) r ≡ r };
+    ghost put_held_changes_nothing: { (r : Root) → put (held r) r ≡ r };
 
     // No extension object holds the list, so none is missing before a push or goes with it.
-    ghost itself: { (root : Tree) (mark : Mark)
+    ghost needs_no_extension: { (root : Tree) (mark : Mark)
         → (is_there Self.list root ≡ true) × (mark_in Self.list root ≡ Listed)
         × (undone Self.list mark root ≡ without_last_item Self.list root) };
 }
@@ -74,9 +74,9 @@ impl<T: TopLevel> RootItem for T {
 
     ghost put = { T.put };
 
-    ghost lists = { T.stands };
+    ghost tree_lists_items = { T.tree_lists_items };
 
-    ghost puts = { λ r list there. let put = T.puts r list
+    ghost put_replaces_list = { λ r list there. let put = T.put_replaces_list r list
         in (ap (λ held. held.items) put.0, put.1) };
 
     fn list_of(root: &Root) -> &[T] {

@@ -23,11 +23,11 @@ impl Object for Sampler {
 
     ghost unknown = { λ _. no_members };
 
-    ghost sound = { animation_sampler_sound };
+    ghost kind_is_sound = { animation_sampler_sound };
 
     ghost height = { 1 };
 
-    ghost low = { (animation_sampler_height.1, lit≤ tt) };
+    ghost height_bounds_kind = { (animation_sampler_height.1, lit≤ tt) };
 
     fn read_members<R: ReadRows>(from: &mut R) -> Sampler {
         let input = from.required("input");
@@ -62,11 +62,11 @@ impl Object for Target {
 
     ghost unknown = { λ _. no_members };
 
-    ghost sound = { animation_target_sound };
+    ghost kind_is_sound = { animation_target_sound };
 
     ghost height = { 1 };
 
-    ghost low = { (animation_target_height.1, lit≤ tt) };
+    ghost height_bounds_kind = { (animation_target_height.1, lit≤ tt) };
 
     fn read_members<R: ReadRows>(from: &mut R) -> Target {
         let node = from.required("node");
@@ -98,11 +98,11 @@ impl Object for Channel {
 
     ghost unknown = { λ _. no_members };
 
-    ghost sound = { animation_channel_sound };
+    ghost kind_is_sound = { animation_channel_sound };
 
     ghost height = { 2 };
 
-    ghost low = { (animation_channel_height.1, lit≤ tt) };
+    ghost height_bounds_kind = { (animation_channel_height.1, lit≤ tt) };
 
     fn read_members<R: ReadRows>(from: &mut R) -> Channel {
         let sampler: u32 = from.required("sampler");
@@ -136,11 +136,11 @@ impl Object for Animation {
 
     ghost unknown = { λ _. no_members };
 
-    ghost sound = { animation_sound };
+    ghost kind_is_sound = { animation_sound };
 
     ghost height = { 4 };
 
-    ghost low = { (animation_height.1, lit≤ tt) };
+    ghost height_bounds_kind = { (animation_height.1, lit≤ tt) };
 
     fn read_members<R: ReadRows>(from: &mut R) -> Animation {
         let samplers = from.list("samplers");

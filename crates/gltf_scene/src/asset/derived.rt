@@ -19,11 +19,11 @@ impl Object for Asset {
 
     ghost unknown = { λ _. no_members };
 
-    ghost sound = { asset_sound };
+    ghost kind_is_sound = { asset_sound };
 
     ghost height = { 0 };
 
-    ghost low = { (asset_height.1, lit≤ tt) };
+    ghost height_bounds_kind = { (asset_height.1, lit≤ tt) };
 
     fn read_members<R: ReadRows>(from: &mut R) -> Asset {
         let copyright = from.optional("copyright");

@@ -20,11 +20,11 @@ impl Object for Orthographic {
 
     ghost unknown = { λ _. no_members };
 
-    ghost sound = { orthographic_sound };
+    ghost kind_is_sound = { orthographic_sound };
 
     ghost height = { 0 };
 
-    ghost low = { (orthographic_height.1, lit≤ tt) };
+    ghost height_bounds_kind = { (orthographic_height.1, lit≤ tt) };
 
     fn read_members<R: ReadRows>(from: &mut R) -> Orthographic {
         let xmag = from.required("xmag");
@@ -62,11 +62,11 @@ impl Object for Perspective {
 
     ghost unknown = { λ _. no_members };
 
-    ghost sound = { perspective_sound };
+    ghost kind_is_sound = { perspective_sound };
 
     ghost height = { 0 };
 
-    ghost low = { (perspective_height.1, lit≤ tt) };
+    ghost height_bounds_kind = { (perspective_height.1, lit≤ tt) };
 
     fn read_members<R: ReadRows>(from: &mut R) -> Perspective {
         let aspect_ratio = from.optional("aspectRatio");
@@ -106,11 +106,11 @@ impl Object for Camera {
 
     ghost unknown = { λ _. no_members };
 
-    ghost sound = { camera_sound };
+    ghost kind_is_sound = { camera_sound };
 
     ghost height = { 1 };
 
-    ghost low = { (camera_height.1, lit≤ tt) };
+    ghost height_bounds_kind = { (camera_height.1, lit≤ tt) };
 
     fn read_members<R: ReadRows>(from: &mut R) -> Camera {
         let name = from.optional("name");

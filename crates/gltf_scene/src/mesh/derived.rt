@@ -22,11 +22,11 @@ impl Object for MorphTarget {
 
     ghost unknown = { λ _. no_members };
 
-    ghost sound = { morph_target_sound };
+    ghost kind_is_sound = { morph_target_sound };
 
     ghost height = { 1 };
 
-    ghost low = { (morph_target_height.1, lit≤ tt) };
+    ghost height_bounds_kind = { (morph_target_height.1, lit≤ tt) };
 
     fn read_members<R: ReadRows>(from: &mut R) -> MorphTarget {
         let positions = from.optional("POSITION");
@@ -57,11 +57,11 @@ impl Object for Primitive {
 
     ghost unknown = { λ _. no_members };
 
-    ghost sound = { primitive_sound };
+    ghost kind_is_sound = { primitive_sound };
 
     ghost height = { 3 };
 
-    ghost low = { (primitive_height.1, lit≤ tt) };
+    ghost height_bounds_kind = { (primitive_height.1, lit≤ tt) };
 
     fn read_members<R: ReadRows>(from: &mut R) -> Primitive {
         let attributes = from.required("attributes");
@@ -102,11 +102,11 @@ impl Object for Mesh {
 
     ghost unknown = { λ _. no_members };
 
-    ghost sound = { mesh_sound };
+    ghost kind_is_sound = { mesh_sound };
 
     ghost height = { 5 };
 
-    ghost low = { (mesh_height.1, lit≤ tt) };
+    ghost height_bounds_kind = { (mesh_height.1, lit≤ tt) };
 
     fn read_members<R: ReadRows>(from: &mut R) -> Mesh {
         let extensions = from.optional("extensions");

@@ -20,11 +20,11 @@ impl Object for Node {
 
     ghost unknown = { λ _. no_members };
 
-    ghost sound = { node_sound };
+    ghost kind_is_sound = { node_sound };
 
     ghost height = { 3 };
 
-    ghost low = { (node_height.1, lit≤ tt) };
+    ghost height_bounds_kind = { (node_height.1, lit≤ tt) };
 
     fn read_members<R: ReadRows>(from: &mut R) -> Node {
         let camera = from.optional("camera");
@@ -102,11 +102,11 @@ impl Object for Scene {
 
     ghost unknown = { λ _. no_members };
 
-    ghost sound = { scene_sound };
+    ghost kind_is_sound = { scene_sound };
 
     ghost height = { 2 };
 
-    ghost low = { (scene_height.1, lit≤ tt) };
+    ghost height_bounds_kind = { (scene_height.1, lit≤ tt) };
 
     fn read_members<R: ReadRows>(from: &mut R) -> Scene {
         let extensions = from.optional("extensions");

@@ -19,11 +19,11 @@ impl Object for Skin {
 
     ghost unknown = { λ _. no_members };
 
-    ghost sound = { skin_sound };
+    ghost kind_is_sound = { skin_sound };
 
     ghost height = { 2 };
 
-    ghost low = { (skin_height.1, lit≤ tt) };
+    ghost height_bounds_kind = { (skin_height.1, lit≤ tt) };
 
     fn read_members<R: ReadRows>(from: &mut R) -> Skin {
         let extensions = from.optional("extensions");

@@ -3,7 +3,7 @@
 ghost use Rattle.std.specs.Prelude.{◌≡◌, ◌+◌};
 ghost use Rattle.gltf_schema.specs.Tree.{tree_or_absent};
 ghost use Rattle.gltf_schema.specs.Fields.{list_tree};
-ghost use Rattle.gltf_sinks.specs.Handed.{Walked};
+ghost use Rattle.gltf_sinks.specs.SinkOutcome.{Walked};
 ghost use Rattle.gltf_sinks.specs.Report.{each_at};
 ghost use Rattle.gltf_validation.specs.ByType.{option_reports, list_reports, list_kind, reports_in};
 

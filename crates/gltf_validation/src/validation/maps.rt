@@ -2,7 +2,7 @@
 
 ghost use Rattle.std.specs.Prelude.{◌≡◌, ◌+◌, ◌++◌, ◌∷◌, [], max};
 ghost use Rattle.gltf_base.specs.Steps.{key};
-ghost use Rattle.gltf_sinks.specs.Handed.{Walked};
+ghost use Rattle.gltf_sinks.specs.SinkOutcome.{Walked};
 ghost use Rattle.gltf_validation.specs.ByType.{reports_in, each_entry};
 
 use super::Validate;

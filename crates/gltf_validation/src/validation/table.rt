@@ -6,7 +6,7 @@ ghost use Rattle.gltf_schema.proofs.Heights.{at_most};
 ghost use Rattle.gltf_schema.specs.Height.{kind_height};
 ghost use Rattle.gltf_schema.specs.Kind.{Object as object_kind};
 ghost use Rattle.gltf_schema.specs.Tree.{object};
-ghost use Rattle.gltf_sinks.specs.Handed.{HandedOver};
+ghost use Rattle.gltf_sinks.specs.SinkOutcome.{HandedOver};
 ghost use Rattle.gltf_validation_walk.specs.ToCome.{base_count, depth_in, to_come_in};
 
 use super::Validate;
@@ -22,29 +22,33 @@ mod derived;
 mod leaves;
 
 /// A type that the table has by itself, not as an option or a list: a walk goes through it.
-pub trait InTable: Visitable {
+pub trait SchemaType: Visitable {
     /// A bound on the number of steps from a value to the deepest place of its walk.
     ghost depth: { ℕ } = { 0 };
 
     // It is one, and no value is deeper than a path is long.
-    ghost shallow: { (kind_height Self.kind ≤ depth) × (depth ≤ 10) };
+    ghost depth_bounds_kind: { (kind_height Self.kind ≤ depth) × (depth ≤ 10) };
 }
 
-/// An object of the table that is validated by itself: `InTable` follows. It has the same kind and
-/// the same tree in validation as in reading and writing.
-pub trait TableObject: Object + Visitable {
+/// An object of the table that is validated by itself: `SchemaType` follows. It has the same kind
+/// and the same tree in validation as in reading and writing.
+pub trait SchemaObject: Object + Visitable {
     ghost same_kind: { Self.kind ≡ object_kind Self.rule Self.rows Self.keeps };
 
     ghost same_tree: { (x : Self) → Self.tree x ≡ object (Self.members x) (Self.unknown x) };
 }
 
-impl<T: TableObject> InTable for T {
+impl<T: SchemaObject> SchemaType for T {
     ghost depth = { T.height };
 
-    ghost shallow = { (at_most T.kind T.height (ap kind_height T.same_kind ∙ T.low.0), T.low.1) };
+    ghost depth_bounds_kind = { (
+      at_most T.kind T.height
+          (ap kind_height T.same_kind ∙ T.height_bounds_kind.0),
+      T.height_bounds_kind.1,
+    ) };
 }
 
-impl<T: InTable> Validate for T {
+impl<T: SchemaType> Validate for T {
     ghost kind = { Some T.kind };
 
     ghost tree = { T.tree };

@@ -21,7 +21,7 @@ impl AlwaysValid for Buffer {
 
     ghost tree = { λ v. closed_object (buffer_members v) };
 
-    ghost silent = { λ _ _. unfold buffer_rows buffer_members in refl };
+    ghost outline_is_quiet = { λ _ _. unfold buffer_rows buffer_members in refl };
 }
 
 impl Visitable for View {

@@ -92,13 +92,13 @@ impl ListItem for Material {
 }
 
 impl AlwaysValid for PbrBaseColorFactor {
-    ghost silent = { λ _ _. refl };
+    ghost outline_is_quiet = { λ _ _. refl };
 }
 
 impl AlwaysValid for StrengthFactor {
-    ghost silent = { λ _ _. refl };
+    ghost outline_is_quiet = { λ _ _. refl };
 }
 
 impl AlwaysValid for EmissiveFactor {
-    ghost silent = { λ _ _. refl };
+    ghost outline_is_quiet = { λ _ _. refl };
 }

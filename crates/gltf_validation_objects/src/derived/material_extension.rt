@@ -114,7 +114,7 @@ impl AlwaysValid for Ior {
 
     ghost tree = { λ v. closed_object (ior_members v) };
 
-    ghost silent = { λ _ _. unfold ior_rows ior_members in refl };
+    ghost outline_is_quiet = { λ _ _. unfold ior_rows ior_members in refl };
 }
 
 impl AlwaysValid for EmissiveStrength {
@@ -122,7 +122,8 @@ impl AlwaysValid for EmissiveStrength {
 
     ghost tree = { λ v. closed_object (emissive_strength_members v) };
 
-    ghost silent = { λ _ _. unfold emissive_strength_rows emissive_strength_members in refl };
+    ghost outline_is_quiet = { λ _ _. unfold emissive_strength_rows emissive_strength_members in
+        refl };
 }
 
 impl Visitable for Material {
@@ -158,41 +159,41 @@ impl Quiet for Material {
 }
 
 impl AlwaysValid for PbrDiffuseFactor {
-    ghost silent = { λ _ _. refl };
+    ghost outline_is_quiet = { λ _ _. refl };
 }
 
 impl AlwaysValid for PbrSpecularFactor {
-    ghost silent = { λ _ _. refl };
+    ghost outline_is_quiet = { λ _ _. refl };
 }
 
 impl AlwaysValid for TransmissionFactor {
-    ghost silent = { λ _ _. refl };
+    ghost outline_is_quiet = { λ _ _. refl };
 }
 
 impl AlwaysValid for ThicknessFactor {
-    ghost silent = { λ _ _. refl };
+    ghost outline_is_quiet = { λ _ _. refl };
 }
 
 impl AlwaysValid for AttenuationDistance {
-    ghost silent = { λ _ _. refl };
+    ghost outline_is_quiet = { λ _ _. refl };
 }
 
 impl AlwaysValid for AttenuationColor {
-    ghost silent = { λ _ _. refl };
+    ghost outline_is_quiet = { λ _ _. refl };
 }
 
 impl AlwaysValid for SpecularFactor {
-    ghost silent = { λ _ _. refl };
+    ghost outline_is_quiet = { λ _ _. refl };
 }
 
 impl AlwaysValid for SpecularColorFactor {
-    ghost silent = { λ _ _. refl };
+    ghost outline_is_quiet = { λ _ _. refl };
 }
 
 impl AlwaysValid for IndexOfRefraction {
-    ghost silent = { λ _ _. refl };
+    ghost outline_is_quiet = { λ _ _. refl };
 }
 
 impl AlwaysValid for EmissiveStrengthFactor {
-    ghost silent = { λ _ _. refl };
+    ghost outline_is_quiet = { λ _ _. refl };
 }

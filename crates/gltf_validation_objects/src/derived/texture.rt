@@ -91,7 +91,8 @@ impl AlwaysValid for TextureTransform {
 
     ghost tree = { λ v. closed_object (texture_transform_members v) };
 
-    ghost silent = { λ _ _. unfold texture_transform_rows texture_transform_members in refl };
+    ghost outline_is_quiet = { λ _ _. unfold texture_transform_rows texture_transform_members in
+        refl };
 }
 
 impl AlwaysValid for gltf_parts::extensions::texture::Info {
@@ -99,8 +100,8 @@ impl AlwaysValid for gltf_parts::extensions::texture::Info {
 
     ghost tree = { info_extensions };
 
-    ghost silent = { λ _ _. unfold info_extension_rows texture_transform_rows info_extension_members
-        in refl };
+    ghost outline_is_quiet = { λ _ _. unfold info_extension_rows texture_transform_rows
+        info_extension_members in refl };
 }
 
 impl Visitable for gltf_parts::texture::Info {
@@ -126,13 +127,13 @@ impl Quiet for gltf_parts::texture::Info {
 }
 
 impl AlwaysValid for TextureTransformOffset {
-    ghost silent = { λ _ _. refl };
+    ghost outline_is_quiet = { λ _ _. refl };
 }
 
 impl AlwaysValid for TextureTransformRotation {
-    ghost silent = { λ _ _. refl };
+    ghost outline_is_quiet = { λ _ _. refl };
 }
 
 impl AlwaysValid for TextureTransformScale {
-    ghost silent = { λ _ _. refl };
+    ghost outline_is_quiet = { λ _ _. refl };
 }

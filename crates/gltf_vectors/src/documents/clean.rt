@@ -2,7 +2,7 @@
 
 use super::built::{POINT, VIEW};
 use super::{FAULTY, NEW};
-use crate::lines::hog::Hog;
+use crate::lines::held_memory::HeldMemory;
 use crate::reading::object;
 use crate::writing::{is_line, is_value};
 use gltf_json::buffer::View;
@@ -198,9 +198,9 @@ fn push_in_want<T: Item>(
     clean: &mut Clean<'_>,
     item: T,
 ) -> Result<Result<Index<T>, CleanError<T>>, AllocError> {
-    let hog = Hog::take_all(alloc, 0)?;
+    let held_memory = HeldMemory::take_all(alloc, 0)?;
     let ended = clean.push(item);
-    drop(hog);
+    drop(held_memory);
     Ok(ended)
 }
 

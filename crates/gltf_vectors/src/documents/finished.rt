@@ -1,7 +1,7 @@
 //! Documents that are finished without a report at any moment.
 
 use super::{FAULTY, NEW};
-use crate::lines::hog::Hog;
+use crate::lines::held_memory::HeldMemory;
 use crate::reading::object;
 use crate::writing::{is_line, is_value};
 use gltf_json::extensions::scene::khr_lights_punctual::Light;
@@ -87,9 +87,9 @@ fn roots_are_refused_with_a_report(rt: HostRuntime) -> Result<(), Fail> {
 /// Whether a root with a report comes back if there is no memory for the path.
 fn is_root_without_memory_back(alloc: Global) -> Result<bool, Fail> {
     let root = Root::from_str(alloc, FAULTY)?;
-    let hog = Hog::take_all(alloc, 0)?;
+    let held_memory = HeldMemory::take_all(alloc, 0)?;
     let ended = Clean::of_or_report(Rules::new(), root);
-    drop(hog);
+    drop(held_memory);
     match ended {
         Err(Refused::Memory(root)) => is_value(alloc, &root, FAULTY),
         _ => Ok(false),

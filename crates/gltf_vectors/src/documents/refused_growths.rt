@@ -1,7 +1,7 @@
 //! Reading, writing, cloning and collecting where growths are refused.
 
 use super::{SIX, SIX_LINES, WRONG_LIGHTS};
-use crate::lines::hog::{End, Tried, refusal_count};
+use crate::lines::held_memory::{End, Tried, refusal_count};
 use crate::writing::{Layout, bytes_of, is_line, write_into};
 use gltf_base::Steps;
 use gltf_json::root::Watched;

@@ -1,7 +1,7 @@
 //! Pushes onto lists that can't grow, and what refused pushes print.
 
 use super::built::{ONE_LIGHT, POINT};
-use crate::lines::hog::{End, Tried, refusal_count};
+use crate::lines::held_memory::{End, Tried, refusal_count};
 use crate::reading::object;
 use crate::shown::shows;
 use crate::writing::is_line;

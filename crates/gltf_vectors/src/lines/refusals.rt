@@ -1,7 +1,7 @@
 //! Devices that fail, and memory that is refused.
 
 use super::devices::{Giver, Taker, Wall};
-use super::hog::{End, Tried, refusal_count};
+use super::held_memory::{End, Tried, refusal_count};
 use crate::documents::{FAULTY, NEW, SIX, SIX_LINES};
 use crate::shown::shows;
 use gltf_json::root::{ByteIn, Failed, Watched};

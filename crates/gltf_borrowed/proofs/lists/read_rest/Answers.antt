@@ -7,7 +7,7 @@ use Rattle.serde_json.specs.Read.{of_json, converted}
 use Rattle.gltf_borrowed.specs.Borrowed.{Entry, data_of, members_data}
 use Rattle.gltf_borrowed.specs.Slots.{is_among, IsRest}
 use Rattle.gltf_borrowed.proofs.Levels.{put_entries-push}
-use Rattle.gltf_borrowed.proofs.Named.{IsRest-put, IsRest-put_listed}
+use Rattle.gltf_borrowed.proofs.Named.{IsRest-put, IsRest-put_among}
 use Rattle.gltf_borrowed.proofs.Turns.{member_read, member_refused, key_refused, members_over}
 use Rattle.gltf_borrowed.proofs.lists.read_rest.Goals as goal
 
@@ -40,14 +40,14 @@ members-preserved-then-branch g c =
     let no_longer : length r ≤ length s = c.in_ok-read.ensures.shorter in
     let took = c.in_ok-read.ensures.taken (ap Ok c.if-branch.true) in
     let d = took.1.0 in
-    let listed = subst (λ ns. is_among k ns ≡ true) l.invariant.4 took.0 in (
+    let among = subst (λ ns. is_among k ns ≡ true) l.invariant.4 took.0 in (
       n - 1,
       put k d old,
       omega (arith, l.invariant.2),
       l.invariant.3 ∙ member_read p old n k l.reader s r d (omega (arith, l.invariant.2)) key took.1.1,
       c.in_ok-read.ensures.named ∙ l.invariant.4,
       λ h. took.1.2 [] old (l.invariant.5 h),
-      IsRest-put_listed (g.L.Slots.names c.args.lists.now) k d old (members_data l.rest.items) listed l.invariant.6,
+      IsRest-put_among (g.L.Slots.names c.args.lists.now) k d old (members_data l.rest.items) among l.invariant.6,
     )
 
 pub members-preserved : goal.members-preserved
@@ -65,7 +65,7 @@ members-preserved g c =
     let less = read_key-shorter l.reader (Some k) s key in
     let other = c.in_ok-read.ensures.other (ap Ok c.if-branch.false) in
     let done : converted of_json (p s) ≡ Some (d, r) = rw (← other.2) c.in_ok-member.ensures.ok in
-    let unlisted = subst (λ ns. is_among k ns ≡ false) l.invariant.4 other.0 in
+    let not_among = subst (λ ns. is_among k ns ≡ false) l.invariant.4 other.0 in
     let lesser : length r < length s = rw (← other.2) c.in_ok-member.ensures.shorter in
     let rest = members_data l.rest.items in
     let put_last : members_data c.push.new.self.items ≡ put k d rest = ap members_data c.in-Ok.ensures.items ∙ put_entries-push l.rest.items e no_members in (
@@ -74,8 +74,8 @@ members-preserved g c =
       omega (arith, l.invariant.2),
       l.invariant.3 ∙ member_read p old n k l.reader s r d (omega (arith, l.invariant.2)) key done,
       ap g.L.Slots.names other.1 ∙ l.invariant.4,
-      λ h. subst (λ x. g.L.Slots.hold x [] (put k d old)) (sym other.1) (g.met.L.Slots.apart l.lists [] k d old other.0 (l.invariant.5 h)),
-      subst (IsRest (g.L.Slots.names c.args.lists.now) (put k d old)) (sym put_last) (IsRest-put (g.L.Slots.names c.args.lists.now) k d old rest unlisted l.invariant.6),
+      λ h. subst (λ x. g.L.Slots.hold_members x [] (put k d old)) (sym other.1) (g.met.L.Slots.other_names_change_nothing l.lists [] k d old other.0 (l.invariant.5 h)),
+      subst (IsRest (g.L.Slots.names c.args.lists.now) (put k d old)) (sym put_last) (IsRest-put (g.L.Slots.names c.args.lists.now) k d old rest not_among l.invariant.6),
     )
 
 pub returns-clause-read : goal.returns-clause-read

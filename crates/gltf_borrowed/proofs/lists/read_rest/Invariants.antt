@@ -11,7 +11,7 @@ invariant-members g l =
     (n : ℕ) × (old : Members) × (length l.reader ≤ n)
     × (converted (λ ms. of_members ms no_members) (members (value l.depth) (length l.initial.reader) l.initial.reader) ≡ converted (λ ms. of_members ms old) (members (value l.depth) n l.reader))
     × (g.L.Slots.names l.lists ≡ g.L.Slots.names l.initial.lists)
-    × (g.L.Slots.hold l.initial.lists [] no_members → g.L.Slots.hold l.lists [] old)
+    × (g.L.Slots.hold_members l.initial.lists [] no_members → g.L.Slots.hold_members l.lists [] old)
     × IsRest (g.L.Slots.names l.initial.lists) old (members_data l.rest.items)
 
 abbrev pub decreases-members : goal.decreases-members

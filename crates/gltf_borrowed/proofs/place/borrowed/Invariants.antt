@@ -1,7 +1,7 @@
 -- The steps so far.
 use Rattle.std.proofs.Common.{◌≡◌, map, take}
 use Rattle.gltf_base.specs.Steps.{step_of}
-use Rattle.gltf_schema.specs.Placings.{owned_step}
+use Rattle.gltf_schema.specs.RowPlacing.{owned_step}
 use Rattle.gltf_borrowed.proofs.place.borrowed.Given as goal
 
 abbrev pub invariant-loop-step : goal.invariant-loop-step

@@ -20,11 +20,11 @@ impl Object for Indices {
 
     ghost unknown = { λ _. no_members };
 
-    ghost sound = { sparse_indices_sound };
+    ghost kind_is_sound = { sparse_indices_sound };
 
     ghost height = { 1 };
 
-    ghost low = { (sparse_indices_height.1, lit≤ tt) };
+    ghost height_bounds_kind = { (sparse_indices_height.1, lit≤ tt) };
 
     fn read_members<R: ReadRows>(from: &mut R) -> Indices {
         let buffer_view = from.required("bufferView");
@@ -59,11 +59,11 @@ impl Object for Values {
 
     ghost unknown = { λ _. no_members };
 
-    ghost sound = { sparse_values_sound };
+    ghost kind_is_sound = { sparse_values_sound };
 
     ghost height = { 1 };
 
-    ghost low = { (sparse_values_height.1, lit≤ tt) };
+    ghost height_bounds_kind = { (sparse_values_height.1, lit≤ tt) };
 
     fn read_members<R: ReadRows>(from: &mut R) -> Values {
         let buffer_view = from.required("bufferView");
@@ -95,11 +95,11 @@ impl Object for Sparse {
 
     ghost unknown = { λ _. no_members };
 
-    ghost sound = { sparse_sound };
+    ghost kind_is_sound = { sparse_sound };
 
     ghost height = { 2 };
 
-    ghost low = { (sparse_height.1, lit≤ tt) };
+    ghost height_bounds_kind = { (sparse_height.1, lit≤ tt) };
 
     fn read_members<R: ReadRows>(from: &mut R) -> Sparse {
         let count = from.required("count");

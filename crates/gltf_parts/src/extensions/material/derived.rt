@@ -19,11 +19,11 @@ impl Object for Material {
 
     ghost unknown = { λ e. members_view e.others.entries };
 
-    ghost sound = { material_extension_sound };
+    ghost kind_is_sound = { material_extension_sound };
 
     ghost height = { 3 };
 
-    ghost low = { (material_extension_height.1, lit≤ tt) };
+    ghost height_bounds_kind = { (material_extension_height.1, lit≤ tt) };
 
     fn read_members<R: ReadRows>(from: &mut R) -> Material {
         let pbr_specular_glossiness = from.optional("KHR_materials_pbrSpecularGlossiness");

@@ -21,11 +21,11 @@ impl Object for Unlit {
 
     ghost unknown = { λ _. no_members };
 
-    ghost sound = { refl };
+    ghost kind_is_sound = { refl };
 
     ghost height = { 0 };
 
-    ghost low = { (refl, lit≤ tt) };
+    ghost height_bounds_kind = { (refl, lit≤ tt) };
 
     fn read_members<R: ReadRows>(_from: &mut R) -> Unlit {
         Unlit {}

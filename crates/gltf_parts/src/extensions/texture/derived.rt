@@ -26,11 +26,11 @@ impl Object for TextureTransform {
 
     ghost unknown = { λ _. no_members };
 
-    ghost sound = { texture_transform_sound };
+    ghost kind_is_sound = { texture_transform_sound };
 
     ghost height = { 0 };
 
-    ghost low = { (texture_transform_height.1, lit≤ tt) };
+    ghost height_bounds_kind = { (texture_transform_height.1, lit≤ tt) };
 
     fn read_members<R: ReadRows>(from: &mut R) -> TextureTransform {
         let offset = from.sometimes("offset");
@@ -65,11 +65,11 @@ impl Object for Info {
 
     ghost unknown = { λ e. members_view e.others.entries };
 
-    ghost sound = { info_extension_sound };
+    ghost kind_is_sound = { info_extension_sound };
 
     ghost height = { 0 };
 
-    ghost low = { (info_extension_height.1, lit≤ tt) };
+    ghost height_bounds_kind = { (info_extension_height.1, lit≤ tt) };
 
     fn read_members<R: ReadRows>(from: &mut R) -> Info {
         let texture_transform = from.optional("KHR_texture_transform");

@@ -20,11 +20,11 @@ impl Object for KhrLightsPunctual {
 
     ghost unknown = { λ _. no_members };
 
-    ghost sound = { lights_sound };
+    ghost kind_is_sound = { lights_sound };
 
     ghost height = { 3 };
 
-    ghost low = { (lights_height.1, lit≤ tt) };
+    ghost height_bounds_kind = { (lights_height.1, lit≤ tt) };
 
     fn read_members<R: ReadRows>(from: &mut R) -> KhrLightsPunctual {
         let lights = from.required("lights");
@@ -45,11 +45,11 @@ impl Object for KhrMaterialsVariants {
 
     ghost unknown = { λ _. no_members };
 
-    ghost sound = { variants_sound };
+    ghost kind_is_sound = { variants_sound };
 
     ghost height = { 0 };
 
-    ghost low = { (variants_height.1, lit≤ tt) };
+    ghost height_bounds_kind = { (variants_height.1, lit≤ tt) };
 
     fn read_members<R: ReadRows>(from: &mut R) -> KhrMaterialsVariants {
         let variants = from.required("variants");
@@ -70,11 +70,11 @@ impl Object for Root {
 
     ghost unknown = { λ e. members_view e.others.entries };
 
-    ghost sound = { root_extension_sound };
+    ghost kind_is_sound = { root_extension_sound };
 
     ghost height = { 4 };
 
-    ghost low = { (root_extension_height.1, lit≤ tt) };
+    ghost height_bounds_kind = { (root_extension_height.1, lit≤ tt) };
 
     fn read_members<R: ReadRows>(from: &mut R) -> Root {
         let khr_lights_punctual = from.optional("KHR_lights_punctual");

@@ -22,15 +22,15 @@ impl TopLevel for Accessor {
 
     ghost put = { λ list r. record r { accessors = list } };
 
-    ghost kinded = { refl };
+    ghost kind_is_item_kind = { refl };
 
-    ghost stands = { λ r. unfold root_rows root_members in refl };
+    ghost tree_lists_items = { λ r. unfold root_rows root_members in refl };
 
-    ghost puts = { λ r list. unfold root_rows root_members in (refl, refl) };
+    ghost put_replaces_list = { λ r list. unfold root_rows root_members in (refl, refl) };
 
-    ghost same = { λ r. refl };
+    ghost put_held_changes_nothing = { λ r. refl };
 
-    ghost itself = { λ root mark. (refl, refl, refl) };
+    ghost needs_no_extension = { λ root mark. (refl, refl, refl) };
 
     fn list_in(root: &Root) -> &Vec<Accessor> {
         &root.accessors
@@ -46,15 +46,15 @@ impl TopLevel for Animation {
 
     ghost put = { λ list r. record r { animations = list } };
 
-    ghost kinded = { refl };
+    ghost kind_is_item_kind = { refl };
 
-    ghost stands = { λ r. unfold root_rows root_members in refl };
+    ghost tree_lists_items = { λ r. unfold root_rows root_members in refl };
 
-    ghost puts = { λ r list. unfold root_rows root_members in (refl, refl) };
+    ghost put_replaces_list = { λ r list. unfold root_rows root_members in (refl, refl) };
 
-    ghost same = { λ r. refl };
+    ghost put_held_changes_nothing = { λ r. refl };
 
-    ghost itself = { λ root mark. (refl, refl, refl) };
+    ghost needs_no_extension = { λ root mark. (refl, refl, refl) };
 
     fn list_in(root: &Root) -> &Vec<Animation> {
         &root.animations
@@ -70,15 +70,15 @@ impl TopLevel for Buffer {
 
     ghost put = { λ list r. record r { buffers = list } };
 
-    ghost kinded = { refl };
+    ghost kind_is_item_kind = { refl };
 
-    ghost stands = { λ r. unfold root_rows root_members in refl };
+    ghost tree_lists_items = { λ r. unfold root_rows root_members in refl };
 
-    ghost puts = { λ r list. unfold root_rows root_members in (refl, refl) };
+    ghost put_replaces_list = { λ r list. unfold root_rows root_members in (refl, refl) };
 
-    ghost same = { λ r. refl };
+    ghost put_held_changes_nothing = { λ r. refl };
 
-    ghost itself = { λ root mark. (refl, refl, refl) };
+    ghost needs_no_extension = { λ root mark. (refl, refl, refl) };
 
     fn list_in(root: &Root) -> &Vec<Buffer> {
         &root.buffers
@@ -94,15 +94,15 @@ impl TopLevel for View {
 
     ghost put = { λ list r. record r { buffer_views = list } };
 
-    ghost kinded = { refl };
+    ghost kind_is_item_kind = { refl };
 
-    ghost stands = { λ r. unfold root_rows root_members in refl };
+    ghost tree_lists_items = { λ r. unfold root_rows root_members in refl };
 
-    ghost puts = { λ r list. unfold root_rows root_members in (refl, refl) };
+    ghost put_replaces_list = { λ r list. unfold root_rows root_members in (refl, refl) };
 
-    ghost same = { λ r. refl };
+    ghost put_held_changes_nothing = { λ r. refl };
 
-    ghost itself = { λ root mark. (refl, refl, refl) };
+    ghost needs_no_extension = { λ root mark. (refl, refl, refl) };
 
     fn list_in(root: &Root) -> &Vec<View> {
         &root.buffer_views
@@ -118,15 +118,15 @@ impl TopLevel for Camera {
 
     ghost put = { λ list r. record r { cameras = list } };
 
-    ghost kinded = { refl };
+    ghost kind_is_item_kind = { refl };
 
-    ghost stands = { λ r. unfold root_rows root_members in refl };
+    ghost tree_lists_items = { λ r. unfold root_rows root_members in refl };
 
-    ghost puts = { λ r list. unfold root_rows root_members in (refl, refl) };
+    ghost put_replaces_list = { λ r list. unfold root_rows root_members in (refl, refl) };
 
-    ghost same = { λ r. refl };
+    ghost put_held_changes_nothing = { λ r. refl };
 
-    ghost itself = { λ root mark. (refl, refl, refl) };
+    ghost needs_no_extension = { λ root mark. (refl, refl, refl) };
 
     fn list_in(root: &Root) -> &Vec<Camera> {
         &root.cameras
@@ -142,15 +142,15 @@ impl TopLevel for Image {
 
     ghost put = { λ list r. record r { images = list } };
 
-    ghost kinded = { refl };
+    ghost kind_is_item_kind = { refl };
 
-    ghost stands = { λ r. unfold root_rows root_members in refl };
+    ghost tree_lists_items = { λ r. unfold root_rows root_members in refl };
 
-    ghost puts = { λ r list. unfold root_rows root_members in (refl, refl) };
+    ghost put_replaces_list = { λ r list. unfold root_rows root_members in (refl, refl) };
 
-    ghost same = { λ r. refl };
+    ghost put_held_changes_nothing = { λ r. refl };
 
-    ghost itself = { λ root mark. (refl, refl, refl) };
+    ghost needs_no_extension = { λ root mark. (refl, refl, refl) };
 
     fn list_in(root: &Root) -> &Vec<Image> {
         &root.images
@@ -166,15 +166,15 @@ impl TopLevel for Material {
 
     ghost put = { λ list r. record r { materials = list } };
 
-    ghost kinded = { refl };
+    ghost kind_is_item_kind = { refl };
 
-    ghost stands = { λ r. unfold root_rows root_members in refl };
+    ghost tree_lists_items = { λ r. unfold root_rows root_members in refl };
 
-    ghost puts = { λ r list. unfold root_rows root_members in (refl, refl) };
+    ghost put_replaces_list = { λ r list. unfold root_rows root_members in (refl, refl) };
 
-    ghost same = { λ r. refl };
+    ghost put_held_changes_nothing = { λ r. refl };
 
-    ghost itself = { λ root mark. (refl, refl, refl) };
+    ghost needs_no_extension = { λ root mark. (refl, refl, refl) };
 
     fn list_in(root: &Root) -> &Vec<Material> {
         &root.materials
@@ -190,15 +190,15 @@ impl TopLevel for Mesh {
 
     ghost put = { λ list r. record r { meshes = list } };
 
-    ghost kinded = { refl };
+    ghost kind_is_item_kind = { refl };
 
-    ghost stands = { λ r. unfold root_rows root_members in refl };
+    ghost tree_lists_items = { λ r. unfold root_rows root_members in refl };
 
-    ghost puts = { λ r list. unfold root_rows root_members in (refl, refl) };
+    ghost put_replaces_list = { λ r list. unfold root_rows root_members in (refl, refl) };
 
-    ghost same = { λ r. refl };
+    ghost put_held_changes_nothing = { λ r. refl };
 
-    ghost itself = { λ root mark. (refl, refl, refl) };
+    ghost needs_no_extension = { λ root mark. (refl, refl, refl) };
 
     fn list_in(root: &Root) -> &Vec<Mesh> {
         &root.meshes
@@ -214,15 +214,15 @@ impl TopLevel for Node {
 
     ghost put = { λ list r. record r { nodes = list } };
 
-    ghost kinded = { refl };
+    ghost kind_is_item_kind = { refl };
 
-    ghost stands = { λ r. unfold root_rows root_members in refl };
+    ghost tree_lists_items = { λ r. unfold root_rows root_members in refl };
 
-    ghost puts = { λ r list. unfold root_rows root_members in (refl, refl) };
+    ghost put_replaces_list = { λ r list. unfold root_rows root_members in (refl, refl) };
 
-    ghost same = { λ r. refl };
+    ghost put_held_changes_nothing = { λ r. refl };
 
-    ghost itself = { λ root mark. (refl, refl, refl) };
+    ghost needs_no_extension = { λ root mark. (refl, refl, refl) };
 
     fn list_in(root: &Root) -> &Vec<Node> {
         &root.nodes
@@ -238,15 +238,15 @@ impl TopLevel for Sampler {
 
     ghost put = { λ list r. record r { samplers = list } };
 
-    ghost kinded = { refl };
+    ghost kind_is_item_kind = { refl };
 
-    ghost stands = { λ r. unfold root_rows root_members in refl };
+    ghost tree_lists_items = { λ r. unfold root_rows root_members in refl };
 
-    ghost puts = { λ r list. unfold root_rows root_members in (refl, refl) };
+    ghost put_replaces_list = { λ r list. unfold root_rows root_members in (refl, refl) };
 
-    ghost same = { λ r. refl };
+    ghost put_held_changes_nothing = { λ r. refl };
 
-    ghost itself = { λ root mark. (refl, refl, refl) };
+    ghost needs_no_extension = { λ root mark. (refl, refl, refl) };
 
     fn list_in(root: &Root) -> &Vec<Sampler> {
         &root.samplers
@@ -262,15 +262,15 @@ impl TopLevel for Scene {
 
     ghost put = { λ list r. record r { scenes = list } };
 
-    ghost kinded = { refl };
+    ghost kind_is_item_kind = { refl };
 
-    ghost stands = { λ r. unfold root_rows root_members in refl };
+    ghost tree_lists_items = { λ r. unfold root_rows root_members in refl };
 
-    ghost puts = { λ r list. unfold root_rows root_members in (refl, refl) };
+    ghost put_replaces_list = { λ r list. unfold root_rows root_members in (refl, refl) };
 
-    ghost same = { λ r. refl };
+    ghost put_held_changes_nothing = { λ r. refl };
 
-    ghost itself = { λ root mark. (refl, refl, refl) };
+    ghost needs_no_extension = { λ root mark. (refl, refl, refl) };
 
     fn list_in(root: &Root) -> &Vec<Scene> {
         &root.scenes
@@ -286,15 +286,15 @@ impl TopLevel for Skin {
 
     ghost put = { λ list r. record r { skins = list } };
 
-    ghost kinded = { refl };
+    ghost kind_is_item_kind = { refl };
 
-    ghost stands = { λ r. unfold root_rows root_members in refl };
+    ghost tree_lists_items = { λ r. unfold root_rows root_members in refl };
 
-    ghost puts = { λ r list. unfold root_rows root_members in (refl, refl) };
+    ghost put_replaces_list = { λ r list. unfold root_rows root_members in (refl, refl) };
 
-    ghost same = { λ r. refl };
+    ghost put_held_changes_nothing = { λ r. refl };
 
-    ghost itself = { λ root mark. (refl, refl, refl) };
+    ghost needs_no_extension = { λ root mark. (refl, refl, refl) };
 
     fn list_in(root: &Root) -> &Vec<Skin> {
         &root.skins
@@ -310,15 +310,15 @@ impl TopLevel for Texture {
 
     ghost put = { λ list r. record r { textures = list } };
 
-    ghost kinded = { refl };
+    ghost kind_is_item_kind = { refl };
 
-    ghost stands = { λ r. unfold root_rows root_members in refl };
+    ghost tree_lists_items = { λ r. unfold root_rows root_members in refl };
 
-    ghost puts = { λ r list. unfold root_rows root_members in (refl, refl) };
+    ghost put_replaces_list = { λ r list. unfold root_rows root_members in (refl, refl) };
 
-    ghost same = { λ r. refl };
+    ghost put_held_changes_nothing = { λ r. refl };
 
-    ghost itself = { λ root mark. (refl, refl, refl) };
+    ghost needs_no_extension = { λ root mark. (refl, refl, refl) };
 
     fn list_in(root: &Root) -> &Vec<Texture> {
         &root.textures

@@ -20,11 +20,11 @@ impl Object for Mapping {
 
     ghost unknown = { λ _. no_members };
 
-    ghost sound = { variant_mapping_sound };
+    ghost kind_is_sound = { variant_mapping_sound };
 
     ghost height = { 0 };
 
-    ghost low = { (variant_mapping_height.1, lit≤ tt) };
+    ghost height_bounds_kind = { (variant_mapping_height.1, lit≤ tt) };
 
     fn read_members<R: ReadRows>(from: &mut R) -> Mapping {
         let material = from.required("material");
@@ -47,11 +47,11 @@ impl Object for KhrMaterialsVariants {
 
     ghost unknown = { λ _. no_members };
 
-    ghost sound = { variant_mappings_sound };
+    ghost kind_is_sound = { variant_mappings_sound };
 
     ghost height = { 0 };
 
-    ghost low = { (variant_mappings_height.1, lit≤ tt) };
+    ghost height_bounds_kind = { (variant_mappings_height.1, lit≤ tt) };
 
     fn read_members<R: ReadRows>(from: &mut R) -> KhrMaterialsVariants {
         let mappings = from.required("mappings");
@@ -72,11 +72,11 @@ impl Object for Primitive {
 
     ghost unknown = { λ e. members_view e.others.entries };
 
-    ghost sound = { primitive_extension_sound };
+    ghost kind_is_sound = { primitive_extension_sound };
 
     ghost height = { 0 };
 
-    ghost low = { (primitive_extension_height.1, lit≤ tt) };
+    ghost height_bounds_kind = { (primitive_extension_height.1, lit≤ tt) };
 
     fn read_members<R: ReadRows>(from: &mut R) -> Primitive {
         let khr_materials_variants = from.optional("KHR_materials_variants");

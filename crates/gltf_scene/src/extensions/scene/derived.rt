@@ -19,11 +19,11 @@ impl Object for Node {
 
     ghost unknown = { λ e. members_view e.others.entries };
 
-    ghost sound = { node_extension_sound };
+    ghost kind_is_sound = { node_extension_sound };
 
     ghost height = { 2 };
 
-    ghost low = { (node_extension_height.1, lit≤ tt) };
+    ghost height_bounds_kind = { (node_extension_height.1, lit≤ tt) };
 
     fn read_members<R: ReadRows>(from: &mut R) -> Node {
         let khr_lights_punctual = from.optional("KHR_lights_punctual");

@@ -5,7 +5,7 @@ ghost use Rattle.gltf_base.specs.Lists.{lights};
 ghost use Rattle.gltf_schema.specs.Defaults.{defaults};
 ghost use Rattle.gltf_base.specs.SceneChoices.{light_type_spelling};
 ghost use Rattle.gltf_schema.specs.Tree.{chosen};
-ghost use Rattle.gltf_schema.specs.Given.{made};
+ghost use Rattle.gltf_schema.specs.WithDefaults.{with_defaults};
 ghost use Rattle.gltf_schema.specs.Fields.{index_tree};
 ghost use Rattle.gltf_scene.specs.Light.{light_of_node_rows, light_rows, spot_rows, light_of_node_members, light_members, spot_members};
 
@@ -29,7 +29,7 @@ impl KhrLightsPunctual {
     /// Returns a reference to a light of the document.
     #[tactic(auto, unfolding(crate::specs::Light::light_of_node_rows, crate::specs::Light::light_of_node_members))]
     pub fn new(light: Index<Light>) -> KhrLightsPunctual
-        ensures { light_of_node_members result ≡ made light_of_node_rows (
+        ensures { light_of_node_members result ≡ with_defaults light_of_node_rows (
             (codes "light", index_tree light)
             ∷ []) }
     {
@@ -78,7 +78,7 @@ impl Light {
     /// Returns a white light. A spot light also needs its `spot`.
     #[tactic(auto, unfolding(crate::specs::Light::light_rows, crate::specs::Light::light_members))]
     pub fn new(type_: LightType) -> Light
-        ensures { light_members result ≡ made light_rows (
+        ensures { light_members result ≡ with_defaults light_rows (
             (codes "type", chosen (light_type_spelling type_))
             ∷ []) }
     {

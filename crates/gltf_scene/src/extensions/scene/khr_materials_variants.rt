@@ -2,7 +2,7 @@
 
 ghost use Rattle.std.specs.Prelude.{◌≡◌, [], ◌∷◌, codes};
 ghost use Rattle.gltf_base.specs.Lists.{variants};
-ghost use Rattle.gltf_schema.specs.Given.{made};
+ghost use Rattle.gltf_schema.specs.WithDefaults.{with_defaults};
 ghost use Rattle.gltf_schema.specs.Fields.{text_tree};
 ghost use Rattle.gltf_scene.specs.Light.{variant_rows, variant_members};
 
@@ -28,7 +28,7 @@ impl Variant {
     /// Returns a variant with this name.
     #[tactic(auto, unfolding(crate::specs::Light::variant_rows, crate::specs::Light::variant_members))]
     pub fn new(name: String) -> Variant
-        ensures { variant_members result ≡ made variant_rows (
+        ensures { variant_members result ≡ with_defaults variant_rows (
             (codes "name", text_tree name)
             ∷ []) }
     {

@@ -10,7 +10,7 @@ use Rattle.gltf_schema.specs.Read.{read_entries}
 use Rattle.gltf_schema.specs.Refused.{refused_entry}
 use Rattle.gltf_schema.specs.Tree.{attributes}
 use Rattle.gltf_schema.specs.Fields.{entry_of}
-use Rattle.gltf_schema.specs.Placings.{place_of}
+use Rattle.gltf_schema.specs.RowPlacing.{place_of}
 use Rattle.gltf_schema.proofs.Entries.{inserted, entry_read}
 use Rattle.gltf_schema.proofs.Placed.{entry_passed, entry_placed}
 use Rattle.gltf_schema.proofs.attributes.decode_entries.Goals as goal

@@ -5,7 +5,7 @@ use Rattle.gltf_schema.specs.Tree.{with_tree, list}
 use Rattle.gltf_schema.specs.Read.{read, read_items}
 use Rattle.gltf_schema.specs.Refused.{refused_item}
 use Rattle.gltf_base.specs.Steps.{item}
-use Rattle.gltf_schema.specs.Placings.{place_of, IsWithin}
+use Rattle.gltf_schema.specs.RowPlacing.{place_of, IsWithin}
 use Rattle.gltf_schema.proofs.Items.{onto, read_next, onto_end}
 use Rattle.gltf_schema.proofs.Placed.{item_passed, item_refused, item_refused_inside}
 use Rattle.gltf_schema.proofs.leaf.place_items.Goals as goal

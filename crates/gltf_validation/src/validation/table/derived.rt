@@ -3,7 +3,7 @@
 ghost use Rattle.std.proofs.Common.{lit≤};
 ghost use Rattle.std.specs.Prelude.{refl};
 
-use super::{InTable, TableObject};
+use super::{SchemaObject, SchemaType};
 use gltf_parts::accessor::Accessor;
 use gltf_parts::accessor::sparse::{Indices, Sparse, Values};
 use gltf_parts::buffer::{Buffer, View};
@@ -31,354 +31,354 @@ use gltf_scene::mesh::{Mesh, MorphTarget};
 use gltf_scene::scene::Scene;
 use gltf_scene::skin::Skin;
 
-impl TableObject for Indices {
+impl SchemaObject for Indices {
     ghost same_kind = { refl };
 
     ghost same_tree = { λ _. refl };
 }
 
-impl TableObject for Values {
+impl SchemaObject for Values {
     ghost same_kind = { refl };
 
     ghost same_tree = { λ _. refl };
 }
 
-impl TableObject for Sparse {
+impl SchemaObject for Sparse {
     ghost same_kind = { refl };
 
     ghost same_tree = { λ _. refl };
 }
 
-impl TableObject for Accessor {
+impl SchemaObject for Accessor {
     ghost same_kind = { refl };
 
     ghost same_tree = { λ _. refl };
 }
 
-impl TableObject for Buffer {
+impl SchemaObject for Buffer {
     ghost same_kind = { refl };
 
     ghost same_tree = { λ _. refl };
 }
 
-impl TableObject for View {
+impl SchemaObject for View {
     ghost same_kind = { refl };
 
     ghost same_tree = { λ _. refl };
 }
 
-impl TableObject for Image {
+impl SchemaObject for Image {
     ghost same_kind = { refl };
 
     ghost same_tree = { λ _. refl };
 }
 
-impl TableObject for PbrMetallicRoughness {
+impl SchemaObject for PbrMetallicRoughness {
     ghost same_kind = { refl };
 
     ghost same_tree = { λ _. refl };
 }
 
-impl TableObject for NormalTexture {
+impl SchemaObject for NormalTexture {
     ghost same_kind = { refl };
 
     ghost same_tree = { λ _. refl };
 }
 
-impl TableObject for OcclusionTexture {
+impl SchemaObject for OcclusionTexture {
     ghost same_kind = { refl };
 
     ghost same_tree = { λ _. refl };
 }
 
-impl TableObject for gltf_parts::material::Material {
+impl SchemaObject for gltf_parts::material::Material {
     ghost same_kind = { refl };
 
     ghost same_tree = { λ _. refl };
 }
 
-impl TableObject for PbrSpecularGlossiness {
+impl SchemaObject for PbrSpecularGlossiness {
     ghost same_kind = { refl };
 
     ghost same_tree = { λ _. refl };
 }
 
-impl TableObject for Transmission {
+impl SchemaObject for Transmission {
     ghost same_kind = { refl };
 
     ghost same_tree = { λ _. refl };
 }
 
-impl TableObject for Volume {
+impl SchemaObject for Volume {
     ghost same_kind = { refl };
 
     ghost same_tree = { λ _. refl };
 }
 
-impl TableObject for Specular {
+impl SchemaObject for Specular {
     ghost same_kind = { refl };
 
     ghost same_tree = { λ _. refl };
 }
 
-impl TableObject for Ior {
+impl SchemaObject for Ior {
     ghost same_kind = { refl };
 
     ghost same_tree = { λ _. refl };
 }
 
-impl TableObject for EmissiveStrength {
+impl SchemaObject for EmissiveStrength {
     ghost same_kind = { refl };
 
     ghost same_tree = { λ _. refl };
 }
 
-impl TableObject for gltf_parts::extensions::material::Material {
+impl SchemaObject for gltf_parts::extensions::material::Material {
     ghost same_kind = { refl };
 
     ghost same_tree = { λ _. refl };
 }
 
-impl TableObject for gltf_parts::texture::Sampler {
+impl SchemaObject for gltf_parts::texture::Sampler {
     ghost same_kind = { refl };
 
     ghost same_tree = { λ _. refl };
 }
 
-impl TableObject for Texture {
+impl SchemaObject for Texture {
     ghost same_kind = { refl };
 
     ghost same_tree = { λ _. refl };
 }
 
-impl TableObject for TextureTransform {
+impl SchemaObject for TextureTransform {
     ghost same_kind = { refl };
 
     ghost same_tree = { λ _. refl };
 }
 
-impl TableObject for gltf_parts::extensions::texture::Info {
+impl SchemaObject for gltf_parts::extensions::texture::Info {
     ghost same_kind = { refl };
 
     ghost same_tree = { λ _. refl };
 }
 
-impl TableObject for gltf_parts::texture::Info {
+impl SchemaObject for gltf_parts::texture::Info {
     ghost same_kind = { refl };
 
     ghost same_tree = { λ _. refl };
 }
 
-impl TableObject for gltf_root::root::Root {
+impl SchemaObject for gltf_root::root::Root {
     ghost same_kind = { refl };
 
     ghost same_tree = { λ _. refl };
 }
 
-impl TableObject for gltf_root::extensions::root::KhrLightsPunctual {
+impl SchemaObject for gltf_root::extensions::root::KhrLightsPunctual {
     ghost same_kind = { refl };
 
     ghost same_tree = { λ _. refl };
 }
 
-impl TableObject for gltf_root::extensions::root::KhrMaterialsVariants {
+impl SchemaObject for gltf_root::extensions::root::KhrMaterialsVariants {
     ghost same_kind = { refl };
 
     ghost same_tree = { λ _. refl };
 }
 
-impl TableObject for gltf_root::extensions::root::Root {
+impl SchemaObject for gltf_root::extensions::root::Root {
     ghost same_kind = { refl };
 
     ghost same_tree = { λ _. refl };
 }
 
-impl TableObject for gltf_scene::animation::Sampler {
+impl SchemaObject for gltf_scene::animation::Sampler {
     ghost same_kind = { refl };
 
     ghost same_tree = { λ _. refl };
 }
 
-impl TableObject for Target {
+impl SchemaObject for Target {
     ghost same_kind = { refl };
 
     ghost same_tree = { λ _. refl };
 }
 
-impl TableObject for Animation {
+impl SchemaObject for Animation {
     ghost same_kind = { refl };
 
     ghost same_tree = { λ _. refl };
 }
 
-impl TableObject for Asset {
+impl SchemaObject for Asset {
     ghost same_kind = { refl };
 
     ghost same_tree = { λ _. refl };
 }
 
-impl TableObject for Orthographic {
+impl SchemaObject for Orthographic {
     ghost same_kind = { refl };
 
     ghost same_tree = { λ _. refl };
 }
 
-impl TableObject for Perspective {
+impl SchemaObject for Perspective {
     ghost same_kind = { refl };
 
     ghost same_tree = { λ _. refl };
 }
 
-impl TableObject for Camera {
+impl SchemaObject for Camera {
     ghost same_kind = { refl };
 
     ghost same_tree = { λ _. refl };
 }
 
-impl TableObject for gltf_scene::extensions::scene::khr_lights_punctual::KhrLightsPunctual {
+impl SchemaObject for gltf_scene::extensions::scene::khr_lights_punctual::KhrLightsPunctual {
     ghost same_kind = { refl };
 
     ghost same_tree = { λ _. refl };
 }
 
-impl TableObject for Spot {
+impl SchemaObject for Spot {
     ghost same_kind = { refl };
 
     ghost same_tree = { λ _. refl };
 }
 
-impl TableObject for Light {
+impl SchemaObject for Light {
     ghost same_kind = { refl };
 
     ghost same_tree = { λ _. refl };
 }
 
-impl TableObject for Variant {
+impl SchemaObject for Variant {
     ghost same_kind = { refl };
 
     ghost same_tree = { λ _. refl };
 }
 
-impl TableObject for Mapping {
+impl SchemaObject for Mapping {
     ghost same_kind = { refl };
 
     ghost same_tree = { λ _. refl };
 }
 
-impl TableObject for gltf_scene::extensions::mesh::KhrMaterialsVariants {
+impl SchemaObject for gltf_scene::extensions::mesh::KhrMaterialsVariants {
     ghost same_kind = { refl };
 
     ghost same_tree = { λ _. refl };
 }
 
-impl TableObject for gltf_scene::extensions::mesh::Primitive {
+impl SchemaObject for gltf_scene::extensions::mesh::Primitive {
     ghost same_kind = { refl };
 
     ghost same_tree = { λ _. refl };
 }
 
-impl TableObject for MorphTarget {
+impl SchemaObject for MorphTarget {
     ghost same_kind = { refl };
 
     ghost same_tree = { λ _. refl };
 }
 
-impl TableObject for gltf_scene::mesh::Primitive {
+impl SchemaObject for gltf_scene::mesh::Primitive {
     ghost same_kind = { refl };
 
     ghost same_tree = { λ _. refl };
 }
 
-impl TableObject for Mesh {
+impl SchemaObject for Mesh {
     ghost same_kind = { refl };
 
     ghost same_tree = { λ _. refl };
 }
 
-impl TableObject for gltf_scene::extensions::scene::Node {
+impl SchemaObject for gltf_scene::extensions::scene::Node {
     ghost same_kind = { refl };
 
     ghost same_tree = { λ _. refl };
 }
 
-impl TableObject for gltf_scene::scene::Node {
+impl SchemaObject for gltf_scene::scene::Node {
     ghost same_kind = { refl };
 
     ghost same_tree = { λ _. refl };
 }
 
-impl TableObject for Scene {
+impl SchemaObject for Scene {
     ghost same_kind = { refl };
 
     ghost same_tree = { λ _. refl };
 }
 
-impl TableObject for Skin {
+impl SchemaObject for Skin {
     ghost same_kind = { refl };
 
     ghost same_tree = { λ _. refl };
 }
 
-impl InTable for PbrBaseColorFactor {
-    ghost shallow = { (lit≤ tt, lit≤ tt) };
+impl SchemaType for PbrBaseColorFactor {
+    ghost depth_bounds_kind = { (lit≤ tt, lit≤ tt) };
 }
 
-impl InTable for StrengthFactor {
-    ghost shallow = { (lit≤ tt, lit≤ tt) };
+impl SchemaType for StrengthFactor {
+    ghost depth_bounds_kind = { (lit≤ tt, lit≤ tt) };
 }
 
-impl InTable for EmissiveFactor {
-    ghost shallow = { (lit≤ tt, lit≤ tt) };
+impl SchemaType for EmissiveFactor {
+    ghost depth_bounds_kind = { (lit≤ tt, lit≤ tt) };
 }
 
-impl InTable for PbrDiffuseFactor {
-    ghost shallow = { (lit≤ tt, lit≤ tt) };
+impl SchemaType for PbrDiffuseFactor {
+    ghost depth_bounds_kind = { (lit≤ tt, lit≤ tt) };
 }
 
-impl InTable for PbrSpecularFactor {
-    ghost shallow = { (lit≤ tt, lit≤ tt) };
+impl SchemaType for PbrSpecularFactor {
+    ghost depth_bounds_kind = { (lit≤ tt, lit≤ tt) };
 }
 
-impl InTable for TransmissionFactor {
-    ghost shallow = { (lit≤ tt, lit≤ tt) };
+impl SchemaType for TransmissionFactor {
+    ghost depth_bounds_kind = { (lit≤ tt, lit≤ tt) };
 }
 
-impl InTable for ThicknessFactor {
-    ghost shallow = { (lit≤ tt, lit≤ tt) };
+impl SchemaType for ThicknessFactor {
+    ghost depth_bounds_kind = { (lit≤ tt, lit≤ tt) };
 }
 
-impl InTable for AttenuationDistance {
-    ghost shallow = { (lit≤ tt, lit≤ tt) };
+impl SchemaType for AttenuationDistance {
+    ghost depth_bounds_kind = { (lit≤ tt, lit≤ tt) };
 }
 
-impl InTable for AttenuationColor {
-    ghost shallow = { (lit≤ tt, lit≤ tt) };
+impl SchemaType for AttenuationColor {
+    ghost depth_bounds_kind = { (lit≤ tt, lit≤ tt) };
 }
 
-impl InTable for SpecularFactor {
-    ghost shallow = { (lit≤ tt, lit≤ tt) };
+impl SchemaType for SpecularFactor {
+    ghost depth_bounds_kind = { (lit≤ tt, lit≤ tt) };
 }
 
-impl InTable for SpecularColorFactor {
-    ghost shallow = { (lit≤ tt, lit≤ tt) };
+impl SchemaType for SpecularColorFactor {
+    ghost depth_bounds_kind = { (lit≤ tt, lit≤ tt) };
 }
 
-impl InTable for IndexOfRefraction {
-    ghost shallow = { (lit≤ tt, lit≤ tt) };
+impl SchemaType for IndexOfRefraction {
+    ghost depth_bounds_kind = { (lit≤ tt, lit≤ tt) };
 }
 
-impl InTable for EmissiveStrengthFactor {
-    ghost shallow = { (lit≤ tt, lit≤ tt) };
+impl SchemaType for EmissiveStrengthFactor {
+    ghost depth_bounds_kind = { (lit≤ tt, lit≤ tt) };
 }
 
-impl InTable for TextureTransformOffset {
-    ghost shallow = { (lit≤ tt, lit≤ tt) };
+impl SchemaType for TextureTransformOffset {
+    ghost depth_bounds_kind = { (lit≤ tt, lit≤ tt) };
 }
 
-impl InTable for TextureTransformRotation {
-    ghost shallow = { (lit≤ tt, lit≤ tt) };
+impl SchemaType for TextureTransformRotation {
+    ghost depth_bounds_kind = { (lit≤ tt, lit≤ tt) };
 }
 
-impl InTable for TextureTransformScale {
-    ghost shallow = { (lit≤ tt, lit≤ tt) };
+impl SchemaType for TextureTransformScale {
+    ghost depth_bounds_kind = { (lit≤ tt, lit≤ tt) };
 }

@@ -4,7 +4,7 @@
 ghost use Rattle.std.proofs.Common.{lit≤};
 ghost use Rattle.std.specs.Prelude.{refl};
 
-use super::{InTable, TableObject};
+use super::{SchemaObject, SchemaType};
 use gltf_base::validation::USize64;
 use gltf_base::{IndexTo, Names, Real};
 use gltf_parts::buffer::Stride;
@@ -19,7 +19,7 @@ use serde_json::Value;
 
 // ---- the object without members
 
-impl TableObject for Unlit {
+impl SchemaObject for Unlit {
     ghost same_kind = { refl };
 
     ghost same_tree = { λ _. refl };
@@ -27,77 +27,77 @@ impl TableObject for Unlit {
 
 // ---- extensions of which none is known
 
-impl InTable for KeptExtensions {
-    ghost shallow = { (lit≤ tt, lit≤ tt) };
+impl SchemaType for KeptExtensions {
+    ghost depth_bounds_kind = { (lit≤ tt, lit≤ tt) };
 }
 
-impl InTable for DroppedExtensions {
-    ghost shallow = { (lit≤ tt, lit≤ tt) };
+impl SchemaType for DroppedExtensions {
+    ghost depth_bounds_kind = { (lit≤ tt, lit≤ tt) };
 }
 
 // ---- the factor that is never absent
 
-impl InTable for AlphaCutoff {
-    ghost shallow = { (lit≤ tt, lit≤ tt) };
+impl SchemaType for AlphaCutoff {
+    ghost depth_bounds_kind = { (lit≤ tt, lit≤ tt) };
 }
 
 // ---- indexes, numbers, texts and other values
 
-impl<P: Names> InTable for IndexTo<P>
+impl<P: Names> SchemaType for IndexTo<P>
 where
     P::Item: RootItem,
 {
-    ghost shallow = { (lit≤ tt, lit≤ tt) };
+    ghost depth_bounds_kind = { (lit≤ tt, lit≤ tt) };
 }
 
-impl InTable for Stride {
-    ghost shallow = { (lit≤ tt, lit≤ tt) };
+impl SchemaType for Stride {
+    ghost depth_bounds_kind = { (lit≤ tt, lit≤ tt) };
 }
 
-impl InTable for MimeType {
-    ghost shallow = { (lit≤ tt, lit≤ tt) };
+impl SchemaType for MimeType {
+    ghost depth_bounds_kind = { (lit≤ tt, lit≤ tt) };
 }
 
-impl InTable for UnitQuaternion {
-    ghost shallow = { (lit≤ tt, lit≤ tt) };
+impl SchemaType for UnitQuaternion {
+    ghost depth_bounds_kind = { (lit≤ tt, lit≤ tt) };
 }
 
-impl InTable for () {
-    ghost shallow = { (lit≤ tt, lit≤ tt) };
+impl SchemaType for () {
+    ghost depth_bounds_kind = { (lit≤ tt, lit≤ tt) };
 }
 
-impl InTable for bool {
-    ghost shallow = { (lit≤ tt, lit≤ tt) };
+impl SchemaType for bool {
+    ghost depth_bounds_kind = { (lit≤ tt, lit≤ tt) };
 }
 
-impl InTable for u32 {
-    ghost shallow = { (lit≤ tt, lit≤ tt) };
+impl SchemaType for u32 {
+    ghost depth_bounds_kind = { (lit≤ tt, lit≤ tt) };
 }
 
-impl InTable for i32 {
-    ghost shallow = { (lit≤ tt, lit≤ tt) };
+impl SchemaType for i32 {
+    ghost depth_bounds_kind = { (lit≤ tt, lit≤ tt) };
 }
 
-impl InTable for Void {
-    ghost shallow = { (lit≤ tt, lit≤ tt) };
+impl SchemaType for Void {
+    ghost depth_bounds_kind = { (lit≤ tt, lit≤ tt) };
 }
 
-impl InTable for Real {
-    ghost shallow = { (lit≤ tt, lit≤ tt) };
+impl SchemaType for Real {
+    ghost depth_bounds_kind = { (lit≤ tt, lit≤ tt) };
 }
 
-impl<const N: usize> InTable for [Real; N] {
-    ghost shallow = { (lit≤ tt, lit≤ tt) };
+impl<const N: usize> SchemaType for [Real; N] {
+    ghost depth_bounds_kind = { (lit≤ tt, lit≤ tt) };
 }
 
-impl InTable for USize64 {
-    ghost shallow = { (lit≤ tt, lit≤ tt) };
+impl SchemaType for USize64 {
+    ghost depth_bounds_kind = { (lit≤ tt, lit≤ tt) };
 }
 
-impl InTable for String {
-    ghost shallow = { (lit≤ tt, lit≤ tt) };
+impl SchemaType for String {
+    ghost depth_bounds_kind = { (lit≤ tt, lit≤ tt) };
 }
 
-impl InTable for Value {
-    ghost shallow = { (lit≤ tt, lit≤ tt) };
+impl SchemaType for Value {
+    ghost depth_bounds_kind = { (lit≤ tt, lit≤ tt) };
 }

@@ -7,7 +7,7 @@ use Rattle.gltf_validation_clean.proofs.Pushing.{is_last, reported_by_table}
 use Rattle.gltf_validation_clean.proofs.fault.fault_of_last.Goals as goal
 
 pub first_fault-requires : goal.first_fault-requires
-first_fault-requires g c = g.met.T.Object.low.1
+first_fault-requires g c = g.met.T.Object.height_bounds_kind.1
 
 pub returns-in-Some : goal.returns-in-Some
 returns-in-Some g c = λ before item base whole.
@@ -15,4 +15,4 @@ returns-in-Some g c = λ before item base whole.
     let x = c.in-Some.item.now in
     let same = is_last before c.list_of.result.now item x (c.list_of.ensures ∙ whole) c.in-Some.ensures.value in
     c.first_fault.ensures ∙ reported_by_table (Some seen.kind) (item_kind g.T.Listed.list) (seen.tree x) (g.T.RootItem.tree item) (λ context base. [])
-    (under (rules_of c.args.rules.now) (root_tree c.args.root.now)) base (ap Some g.met.T.Item.kinded) (g.met.T.Item.seen x ∙ ap g.T.RootItem.tree same)
+    (under (rules_of c.args.rules.now) (root_tree c.args.root.now)) base (ap Some g.met.T.Item.kind_is_item_kind) (g.met.T.Item.trees_are_equal x ∙ ap g.T.RootItem.tree same)

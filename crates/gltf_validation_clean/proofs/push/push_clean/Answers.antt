@@ -14,7 +14,7 @@ use Rattle.gltf_validation_rules.specs.Context.{rules_of}
 use Rattle.gltf_validation_rules.proofs.Resolving.{count_in-items}
 use Rattle.gltf_validation_clean.specs.Clean.{item_reports}
 use Rattle.gltf_validation_clean.proofs.Pushing.{room_where_made, room_without_memory, told_of_pushed}
-use Rattle.gltf_validation_clean.proofs.Sinking.{no_error}
+use Rattle.gltf_validation_clean.proofs.Sinking.{no_first_fault}
 use Rattle.gltf_validation_clean.proofs.push.push_clean.Goals as goal
 
 pub returns-in-None-clause-pushed : goal.returns-in-None-clause-pushed
@@ -24,11 +24,11 @@ returns-in-None-clause-pushed g c =
     let xs = g.T.RootItem.items old in
     let x = g.T.RootItem.tree c.args.item in
     let by = rules_of c.args.rules.now in
-    let count = count_in-items named (root_tree old) g.T.RootItem.tree xs (g.met.T.RootItem.lists old) in
+    let count = count_in-items named (root_tree old) g.T.RootItem.tree xs (g.met.T.RootItem.tree_lists_items old) in
     let left = c.in-Ok.ensures.pushed in
     let told = c.fault_of_last.ensures xs c.args.item (item_place named (count_in named (root_tree old))) c.in-Ok.ensures.appended in (
       subst (λ n. n < 2 ^ 32 - 1) (sym count) (room_where_made _ _ _ c.in-Ok.ensures.full),
-      no_error (item_reports by named x (root_tree old)) (told_of_pushed by named x (root_tree old) (root_tree c.push_onto.new.root) c.fault_of_last.result left.1 told ∙ c.in-None.is),
+      no_first_fault (item_reports by named x (root_tree old)) (told_of_pushed by named x (root_tree old) (root_tree c.push_onto.new.root) c.fault_of_last.result left.1 told ∙ c.in-None.is),
       left.0 ∙ sym count,
       left.1,
     )
@@ -40,7 +40,7 @@ returns-in-Some-clause-pushed g c =
     let xs = g.T.RootItem.items old in
     let x = g.T.RootItem.tree c.args.item in
     let by = rules_of c.args.rules.now in
-    let count = count_in-items named (root_tree old) g.T.RootItem.tree xs (g.met.T.RootItem.lists old) in
+    let count = count_in-items named (root_tree old) g.T.RootItem.tree xs (g.met.T.RootItem.tree_lists_items old) in
     let left = c.in-Ok.ensures.pushed in
     let told = c.fault_of_last.ensures xs c.args.item (item_place named (count_in named (root_tree old))) c.in-Ok.ensures.appended in
     let last = sym (ap (last_or None) c.in-Ok.ensures.appended ∙ last_or_pop None xs c.args.item) in (
@@ -54,7 +54,7 @@ pub returns-in-Err-Full-clause-pushed : goal.returns-in-Err-Full-clause-pushed
 returns-in-Err-Full-clause-pushed g c =
     let named = g.T.Listed.list in
     let old = c.args.root.now in
-    let count = count_in-items named (root_tree old) g.T.RootItem.tree (g.T.RootItem.items old) (g.met.T.RootItem.lists old) in
+    let count = count_in-items named (root_tree old) g.T.RootItem.tree (g.T.RootItem.items old) (g.met.T.RootItem.tree_lists_items old) in
     let is = c.in-Err-Full.field-0-is in
     let back = subst (IsHandedBack c.args.item) is c.in-Err-Full.ensures.handed_back in
     rw is (subst (λ n. 2 ^ 32 - 1 ≤ n) (sym count) (c.in-Err-Full.ensures.full.0 (ap Err is ∙ ap (λ x. Err (Full x)) back)), back, c.in-Err-Full.ensures.unchanged)
@@ -63,7 +63,7 @@ pub returns-in-Err-Memory-clause-pushed : goal.returns-in-Err-Memory-clause-push
 returns-in-Err-Memory-clause-pushed g c =
     let named = g.T.Listed.list in
     let old = c.args.root.now in
-    let count = count_in-items named (root_tree old) g.T.RootItem.tree (g.T.RootItem.items old) (g.met.T.RootItem.lists old) in
+    let count = count_in-items named (root_tree old) g.T.RootItem.tree (g.T.RootItem.items old) (g.met.T.RootItem.tree_lists_items old) in
     let is = c.in-Err-Memory.field-0-is in
     let back = subst (IsHandedBack c.args.item) is c.in-Err-Memory.ensures.handed_back in
     let full = subst (λ e. (Err e ≡ Err (Full c.args.item)) ↔ (2 ^ 32 - 1 ≤ length (g.T.RootItem.items old))) is c.in-Err-Memory.ensures.full in

@@ -18,7 +18,7 @@ returns-in-Ok-None-clause-replaced g c =
     let xs = g.T.RootItem.items old in
     let n = index_number c.args.index in
     let by = rules_of c.args.rules.now in
-    let count = count_in-items g.T.Listed.list (root_tree old) g.T.RootItem.tree xs (g.met.T.RootItem.lists old) in
+    let count = count_in-items g.T.Listed.list (root_tree old) g.T.RootItem.tree xs (g.met.T.RootItem.tree_lists_items old) in
     let put = c.in-Ok.ensures in (
       subst (λ m. n < m) (sym count) (slice_get_within xs n c.in-Ok.old put.0),
       subst (IsClean by) put.3 (none_found c.in-Ok-None.field-0 (document_reports by (root_tree c.swap_in.new.root)) c.in-Ok-None.field-0-is c.in-Ok-None.ensures.found),
@@ -33,11 +33,11 @@ returns-in-Ok-Some-clause-replaced g c =
     let mid = c.swap_in.new.root in
     let n = index_number c.args.index in
     let by = rules_of c.args.rules.now in
-    let count = count_in-items named (root_tree old) g.T.RootItem.tree xs (g.met.T.RootItem.lists old) in
+    let count = count_in-items named (root_tree old) g.T.RootItem.tree xs (g.met.T.RootItem.tree_lists_items old) in
     let put = c.in-Ok.ensures in
     let found = one_found c.in-Ok-Some.field-0 c.in-Ok-Some.report (document_reports by (root_tree mid)) c.in-Ok-Some.field-0-is c.in-Ok-Some.ensures.found in
     let back = swapped_back g.T.RootItem.tree named n c.args.item c.in-Ok.old c.swap_back.result xs (g.T.RootItem.items mid) old (root_tree mid) (root_tree c.swap_back.new.root)
-    (g.met.T.RootItem.lists old) put c.swap_back.ensures.item c.swap_back.ensures.document in (
+    (g.met.T.RootItem.tree_lists_items old) put c.swap_back.ensures.item c.swap_back.ensures.document in (
       subst (λ m. n < m) (sym count) (slice_get_within xs n c.in-Ok.old put.0),
       ap (λ t. first_report (document_reports by t)) (sym put.3) ∙ found,
       back.0,
@@ -52,11 +52,11 @@ returns-in-Err-first_report-clause-replaced g c =
     let mid = c.swap_in.new.root in
     let n = index_number c.args.index in
     let by = rules_of c.args.rules.now in
-    let count = count_in-items named (root_tree old) g.T.RootItem.tree xs (g.met.T.RootItem.lists old) in
+    let count = count_in-items named (root_tree old) g.T.RootItem.tree xs (g.met.T.RootItem.tree_lists_items old) in
     let put = c.in-Ok.ensures in
     let given = c.swap_back-in-Err-first_report in
     let back = swapped_back g.T.RootItem.tree named n c.args.item c.in-Ok.old given.result xs (g.T.RootItem.items mid) old (root_tree mid) (root_tree given.new.root)
-    (g.met.T.RootItem.lists old) put given.ensures.item given.ensures.document in (
+    (g.met.T.RootItem.tree_lists_items old) put given.ensures.item given.ensures.document in (
       subst (λ m. n < m) (sym count) (slice_get_within xs n c.in-Ok.old put.0),
       λ clean. c.in-Err-first_report.ensures.faulty (subst (IsClean by) (sym put.3) clean),
       back.0,
@@ -66,6 +66,6 @@ returns-in-Err-first_report-clause-replaced g c =
 pub returns-in-Err-clause-replaced : goal.returns-in-Err-clause-replaced
 returns-in-Err-clause-replaced g c =
     let old = c.args.root.now in
-    let count = count_in-items g.T.Listed.list (root_tree old) g.T.RootItem.tree (g.T.RootItem.items old) (g.met.T.RootItem.lists old) in
+    let count = count_in-items g.T.Listed.list (root_tree old) g.T.RootItem.tree (g.T.RootItem.items old) (g.met.T.RootItem.tree_lists_items old) in
     let left = c.in-Err.ensures in
     (subst (λ m. m ≤ index_number c.args.index) (sym count) left.0, left.1, left.2)

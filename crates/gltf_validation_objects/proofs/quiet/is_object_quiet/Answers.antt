@@ -12,11 +12,11 @@ loop-number-preserved g c =
     let whole = outline v.kind (v.tree c.args.object.now) (g.C.HasContext.context c.args.context.now) absent in
     passed whole c.loop-number.number c.in-Quiet.ensures.comes ∙ c.loop-number.invariant
 
-pub returns-in-Loud : goal.returns-in-Loud
-returns-in-Loud g c =
+pub returns-in-Faulty : goal.returns-in-Faulty
+returns-in-Faulty g c =
     let v = g.T.Visitable in
     let whole = outline v.kind (v.tree c.args.object.now) (g.C.HasContext.context c.args.context.now) absent in
-    stopped (rest_after whole c.loop-number.number) c.in-Loud.ensures.comes ∙ c.loop-number.invariant
+    stopped (rest_after whole c.loop-number.number) c.in-Faulty.ensures.comes ∙ c.loop-number.invariant
 
 pub returns-in-Over : goal.returns-in-Over
 returns-in-Over g c =

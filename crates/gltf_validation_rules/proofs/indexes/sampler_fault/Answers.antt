@@ -13,12 +13,12 @@ counted v = count_of-trees (λ x. closed_object (animation_sampler_members x)) v
 
 pub returns-in-Some : goal.returns-in-Some
 returns-in-Some c =
-    let listed = c.args.animation.now.samplers.items in
-    λ base. sym (index_there listed _ _ c.in-Some.field-0.now (counted c.args.animation.now)
+    let items = c.args.animation.now.samplers.items in
+    λ base. sym (index_there items _ _ c.in-Some.field-0.now (counted c.args.animation.now)
     c.in-Some.ensures base)
 
 pub returns-in-None : goal.returns-in-None
 returns-in-None c =
-    let listed = c.args.animation.now.samplers.items in
-    λ base. sym (index_past listed _ _ (counted c.args.animation.now)
+    let items = c.args.animation.now.samplers.items in
+    λ base. sym (index_past items _ _ (counted c.args.animation.now)
     c.in-None.ensures base)

@@ -1,4 +1,4 @@
-use Rattle.gltf_validation_rules.proofs.Parting.{parted_by_place}
+use Rattle.gltf_validation_rules.proofs.SplitByPlace.{parted_by_place}
 use Rattle.gltf_validation_rules.proofs.PushesOnto.{inserted}
 use Rattle.gltf_validation_rules.proofs.laws.pushes_add_reports_of_the_item.Goals as goal
 

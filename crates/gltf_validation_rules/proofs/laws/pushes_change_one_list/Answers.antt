@@ -1,4 +1,4 @@
-use Rattle.gltf_validation_rules.proofs.Growing.{grown, others_kept, members_kept}
+use Rattle.gltf_validation_rules.proofs.LongerLists.{grown, others_kept, members_kept}
 use Rattle.gltf_validation_rules.proofs.laws.pushes_change_one_list.Goals as goal
 
 pub returns-clause-grown : goal.returns-clause-grown

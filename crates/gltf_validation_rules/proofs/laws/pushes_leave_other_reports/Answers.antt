@@ -1,7 +1,7 @@
 use Rattle.gltf_schema.specs.Tree.{absent}
 use Rattle.gltf_root.specs.Pushed.{pushed}
 use Rattle.gltf_root.specs.Root.{root_tree}
-use Rattle.gltf_validation_rules.proofs.Growing.{grows}
+use Rattle.gltf_validation_rules.proofs.LongerLists.{grows}
 use Rattle.gltf_validation_rules.proofs.Pushes.{reports_same}
 use Rattle.gltf_validation_rules.proofs.laws.pushes_leave_other_reports.Goals as goal
 

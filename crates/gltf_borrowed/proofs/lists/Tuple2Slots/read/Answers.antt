@@ -19,8 +19,8 @@ returns-then-branch-clause-taken g c = λ _.
         took.1.1,
         λ before ms h. (
           took.1.2 before ms h.0,
-          subst (λ ns. g.B.Slots.hold b (ns ++ before) (put n d ms)) (sym c.in_ok-read.ensures.named)
-              (g.met.B.Slots.passed b (first ++ before) n d ms (among_first n first before took.0) h.1),
+          subst (λ ns. g.B.Slots.hold_members b (ns ++ before) (put n d ms)) (sym c.in_ok-read.ensures.named)
+              (g.met.B.Slots.earlier_names_change_nothing b (first ++ before) n d ms (among_first n first before took.0) h.1),
         ),
       ),
     )
@@ -38,8 +38,8 @@ returns-clause-taken g c = λ e.
         d,
         subst (λ r. converted of_json (value c.args.depth r) ≡ Some (d, c.read-2.new.reader)) none.2 took.1.1,
         λ before ms h. (
-          subst (λ x. g.A.Slots.hold x before (put n d ms)) (sym none.1) (g.met.A.Slots.apart a before n d ms none.0 h.0),
-          subst (λ x. g.B.Slots.hold c.read-2.new.self (g.A.Slots.names x ++ before) (put n d ms)) (sym none.1) (took.1.2 (first ++ before) ms h.1),
+          subst (λ x. g.A.Slots.hold_members x before (put n d ms)) (sym none.1) (g.met.A.Slots.other_names_change_nothing a before n d ms none.0 h.0),
+          subst (λ x. g.B.Slots.hold_members c.read-2.new.self (g.A.Slots.names x ++ before) (put n d ms)) (sym none.1) (took.1.2 (first ++ before) ms h.1),
         ),
       ),
     )

@@ -1,7 +1,7 @@
 use Rattle.std.proofs.Common.{drop, None, option_map, sym, ap, ◌∙◌}
 use Rattle.serde_json.specs.Data.{no_members}
 use Rattle.gltf_borrowed.specs.Borrowed.{data_of, put_entries}
-use Rattle.gltf_borrowed.proofs.Listed.{or_else, get-put_entries, without-put_entries, none_named}
+use Rattle.gltf_borrowed.proofs.NamedEntries.{or_else, get-put_entries, without-put_entries, none_named}
 use Rattle.gltf_borrowed.proofs.source.BorrowedSource.take.Goals as goal
 
 pub returns-in_err-first-clause-taken : goal.returns-in_err-first-clause-taken

@@ -23,11 +23,11 @@ impl Object for EmissiveStrength {
 
     ghost unknown = { λ _. no_members };
 
-    ghost sound = { emissive_strength_sound };
+    ghost kind_is_sound = { emissive_strength_sound };
 
     ghost height = { 0 };
 
-    ghost low = { (emissive_strength_height.1, lit≤ tt) };
+    ghost height_bounds_kind = { (emissive_strength_height.1, lit≤ tt) };
 
     fn read_members<R: ReadRows>(from: &mut R) -> EmissiveStrength {
         let emissive_strength = from.sometimes("emissiveStrength");

@@ -23,11 +23,11 @@ impl Object for Ior {
 
     ghost unknown = { λ _. no_members };
 
-    ghost sound = { ior_sound };
+    ghost kind_is_sound = { ior_sound };
 
     ghost height = { 0 };
 
-    ghost low = { (ior_height.1, lit≤ tt) };
+    ghost height_bounds_kind = { (ior_height.1, lit≤ tt) };
 
     fn read_members<R: ReadRows>(from: &mut R) -> Ior {
         let ior = from.sometimes("ior");

@@ -25,11 +25,11 @@ impl Object for PbrSpecularGlossiness {
 
     ghost unknown = { λ e. members_view e.others.entries };
 
-    ghost sound = { pbr_specular_glossiness_sound };
+    ghost kind_is_sound = { pbr_specular_glossiness_sound };
 
     ghost height = { 2 };
 
-    ghost low = { (pbr_specular_glossiness_height.1, lit≤ tt) };
+    ghost height_bounds_kind = { (pbr_specular_glossiness_height.1, lit≤ tt) };
 
     fn read_members<R: ReadRows>(from: &mut R) -> PbrSpecularGlossiness {
         let diffuse_factor = from.sometimes("diffuseFactor");

@@ -23,11 +23,11 @@ impl Object for Specular {
 
     ghost unknown = { λ _. no_members };
 
-    ghost sound = { specular_sound };
+    ghost kind_is_sound = { specular_sound };
 
     ghost height = { 2 };
 
-    ghost low = { (specular_height.1, lit≤ tt) };
+    ghost height_bounds_kind = { (specular_height.1, lit≤ tt) };
 
     fn read_members<R: ReadRows>(from: &mut R) -> Specular {
         let specular_factor = from.sometimes("specularFactor");

@@ -23,11 +23,11 @@ impl Object for Transmission {
 
     ghost unknown = { λ _. no_members };
 
-    ghost sound = { transmission_sound };
+    ghost kind_is_sound = { transmission_sound };
 
     ghost height = { 2 };
 
-    ghost low = { (transmission_height.1, lit≤ tt) };
+    ghost height_bounds_kind = { (transmission_height.1, lit≤ tt) };
 
     fn read_members<R: ReadRows>(from: &mut R) -> Transmission {
         let transmission_factor = from.sometimes("transmissionFactor");

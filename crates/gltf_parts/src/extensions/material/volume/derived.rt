@@ -23,11 +23,11 @@ impl Object for Volume {
 
     ghost unknown = { λ _. no_members };
 
-    ghost sound = { volume_sound };
+    ghost kind_is_sound = { volume_sound };
 
     ghost height = { 2 };
 
-    ghost low = { (volume_height.1, lit≤ tt) };
+    ghost height_bounds_kind = { (volume_height.1, lit≤ tt) };
 
     fn read_members<R: ReadRows>(from: &mut R) -> Volume {
         let thickness_factor = from.sometimes("thicknessFactor");

@@ -7,7 +7,7 @@ use Rattle.gltf_schema.specs.Maybe.{◌>>=◌}
 use Rattle.gltf_schema.specs.Outcome.{Reads, Refuses}
 use Rattle.gltf_schema.specs.Read.{read}
 use Rattle.gltf_schema.specs.Tree.{Trees}
-use Rattle.gltf_borrowed.specs.Apart.{Listed, with_lists}
+use Rattle.gltf_borrowed.specs.Apart.{ReadList, with_lists}
 use Rattle.gltf_borrowed.specs.Borrowed.{members_data}
 use Rattle.gltf_borrowed.specs.Slots.{items_tree, IsRest}
 use Rattle.gltf_borrowed.proofs.Levels.{data-Object}
@@ -25,14 +25,14 @@ use Rattle.gltf_root.specs.Apart.{list_names}
 use Rattle.gltf_root.specs.Root.{root_kind, root_rows, root_tree}
 use Rattle.gltf_root.proofs.root.lists.streamed.Goals as goal
 
-abbrev pub list_of : {X : Type 0} → Kind → (X → Trees) → Option (Vec X Global) → Listed
+abbrev pub list_of : {X : Type 0} → Kind → (X → Trees) → Option (Vec X Global) → ReadList
 list_of kind members o = (kind, items_tree (λ x. closed_object (members x)) o)
 
 pub returns-in-Ok-decode_from : goal.returns-in-Ok-decode_from
 unfolding root_rows
 returns-in-Ok-decode_from c =
     let l = c.read_object.new.lists in
-    let first : List Listed = list_of accessor_kind accessor_members l.0.items ∷ list_of animation_kind animation_members l.1.0.items ∷ list_of buffer_kind buffer_members l.1.1.0.items ∷ list_of view_kind view_members l.1.1.1.0.items ∷ list_of camera_kind camera_members l.1.1.1.1.0.items ∷ list_of image_kind image_members l.1.1.1.1.1.0.items ∷ list_of material_kind material_members l.1.1.1.1.1.1.0.items ∷ list_of mesh_kind mesh_members l.1.1.1.1.1.1.1.0.items ∷ list_of node_kind node_members l.1.1.1.1.1.1.1.1.0.items ∷ list_of sampler_kind sampler_members l.1.1.1.1.1.1.1.1.1.0.items ∷ list_of scene_kind scene_members l.1.1.1.1.1.1.1.1.1.1.0.items ∷ list_of skin_kind skin_members l.1.1.1.1.1.1.1.1.1.1.1.0.items ∷ list_of texture_kind texture_members l.1.1.1.1.1.1.1.1.1.1.1.1.items ∷ [] in
+    let first : List ReadList = list_of accessor_kind accessor_members l.0.items ∷ list_of animation_kind animation_members l.1.0.items ∷ list_of buffer_kind buffer_members l.1.1.0.items ∷ list_of view_kind view_members l.1.1.1.0.items ∷ list_of camera_kind camera_members l.1.1.1.1.0.items ∷ list_of image_kind image_members l.1.1.1.1.1.0.items ∷ list_of material_kind material_members l.1.1.1.1.1.1.0.items ∷ list_of mesh_kind mesh_members l.1.1.1.1.1.1.1.0.items ∷ list_of node_kind node_members l.1.1.1.1.1.1.1.1.0.items ∷ list_of sampler_kind sampler_members l.1.1.1.1.1.1.1.1.1.0.items ∷ list_of scene_kind scene_members l.1.1.1.1.1.1.1.1.1.1.0.items ∷ list_of skin_kind skin_members l.1.1.1.1.1.1.1.1.1.1.1.0.items ∷ list_of texture_kind texture_members l.1.1.1.1.1.1.1.1.1.1.1.1.items ∷ [] in
     let got = c.in-Ok.ensures.read c.empty_lists-lists.ensures.empty in
     let left = members_data c.in-Ok.rest.items in
     let held = subst (λ ns. HoldAll (zip ns first) [] got.0) (c.in-Ok.ensures.named ∙ c.empty_lists-lists.ensures.named) got.2 in
@@ -46,7 +46,7 @@ pub returns-in-Err : goal.returns-in-Err
 unfolding root_rows
 returns-in-Err c =
     let l = c.read_object.new.lists in
-    let first : List Listed = list_of accessor_kind accessor_members l.0.items ∷ list_of animation_kind animation_members l.1.0.items ∷ list_of buffer_kind buffer_members l.1.1.0.items ∷ list_of view_kind view_members l.1.1.1.0.items ∷ list_of camera_kind camera_members l.1.1.1.1.0.items ∷ list_of image_kind image_members l.1.1.1.1.1.0.items ∷ list_of material_kind material_members l.1.1.1.1.1.1.0.items ∷ list_of mesh_kind mesh_members l.1.1.1.1.1.1.1.0.items ∷ list_of node_kind node_members l.1.1.1.1.1.1.1.1.0.items ∷ list_of sampler_kind sampler_members l.1.1.1.1.1.1.1.1.1.0.items ∷ list_of scene_kind scene_members l.1.1.1.1.1.1.1.1.1.1.0.items ∷ list_of skin_kind skin_members l.1.1.1.1.1.1.1.1.1.1.1.0.items ∷ list_of texture_kind texture_members l.1.1.1.1.1.1.1.1.1.1.1.1.items ∷ [] in
+    let first : List ReadList = list_of accessor_kind accessor_members l.0.items ∷ list_of animation_kind animation_members l.1.0.items ∷ list_of buffer_kind buffer_members l.1.1.0.items ∷ list_of view_kind view_members l.1.1.1.0.items ∷ list_of camera_kind camera_members l.1.1.1.1.0.items ∷ list_of image_kind image_members l.1.1.1.1.1.0.items ∷ list_of material_kind material_members l.1.1.1.1.1.1.0.items ∷ list_of mesh_kind mesh_members l.1.1.1.1.1.1.1.0.items ∷ list_of node_kind node_members l.1.1.1.1.1.1.1.1.0.items ∷ list_of sampler_kind sampler_members l.1.1.1.1.1.1.1.1.1.0.items ∷ list_of scene_kind scene_members l.1.1.1.1.1.1.1.1.1.1.0.items ∷ list_of skin_kind skin_members l.1.1.1.1.1.1.1.1.1.1.1.0.items ∷ list_of texture_kind texture_members l.1.1.1.1.1.1.1.1.1.1.1.1.items ∷ [] in
     let got = c.in-Ok.ensures.read c.empty_lists-lists.ensures.empty in
     let left = members_data c.in-Ok.rest.items in
     let held = subst (λ ns. HoldAll (zip ns first) [] got.0) (c.in-Ok.ensures.named ∙ c.empty_lists-lists.ensures.named) got.2 in

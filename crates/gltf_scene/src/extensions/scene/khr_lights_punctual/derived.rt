@@ -21,11 +21,11 @@ impl Object for KhrLightsPunctual {
 
     ghost unknown = { λ _. no_members };
 
-    ghost sound = { light_of_node_sound };
+    ghost kind_is_sound = { light_of_node_sound };
 
     ghost height = { 1 };
 
-    ghost low = { (light_of_node_height.1, lit≤ tt) };
+    ghost height_bounds_kind = { (light_of_node_height.1, lit≤ tt) };
 
     fn read_members<R: ReadRows>(from: &mut R) -> KhrLightsPunctual {
         let light = from.required("light");
@@ -46,11 +46,11 @@ impl Object for Spot {
 
     ghost unknown = { λ _. no_members };
 
-    ghost sound = { spot_sound };
+    ghost kind_is_sound = { spot_sound };
 
     ghost height = { 0 };
 
-    ghost low = { (spot_height.1, lit≤ tt) };
+    ghost height_bounds_kind = { (spot_height.1, lit≤ tt) };
 
     fn read_members<R: ReadRows>(from: &mut R) -> Spot {
         let inner_cone_angle = from.sometimes("innerConeAngle");
@@ -100,11 +100,11 @@ impl Object for Light {
 
     ghost unknown = { λ _. no_members };
 
-    ghost sound = { light_sound };
+    ghost kind_is_sound = { light_sound };
 
     ghost height = { 1 };
 
-    ghost low = { (light_height.1, lit≤ tt) };
+    ghost height_bounds_kind = { (light_height.1, lit≤ tt) };
 
     fn read_members<R: ReadRows>(from: &mut R) -> Light {
         let color = from.sometimes("color");

@@ -19,11 +19,11 @@ impl Object for Variant {
 
     ghost unknown = { λ _. no_members };
 
-    ghost sound = { variant_sound };
+    ghost kind_is_sound = { variant_sound };
 
     ghost height = { 0 };
 
-    ghost low = { (variant_height.1, lit≤ tt) };
+    ghost height_bounds_kind = { (variant_height.1, lit≤ tt) };
 
     fn read_members<R: ReadRows>(from: &mut R) -> Variant {
         let name = from.required("name");

@@ -17,7 +17,7 @@ returns-in-Err g c =
     let added : pushed ≡ items ++ x ∷ [] = grind arith in
     let cut = c.truncate.ensures.items ∙ ap (λ n. take n pushed) before ∙ ap (take (length items)) added ∙ take-append_seam items (x ∷ []) in
     let refused = object_refused c.from_members-reading.ensures c.read_members.ensures (sym c.in-Err.is ∙ c.end.ensures) in
-    (cut, rw seen (decoded {X = g.row.T.Denot} (Err c.in-Err.e) t.members t.unknown t.rows t.keeps ms (sound_rows t.rule t.rows g.met.T.Object.sound) refused))
+    (cut, rw seen (decoded {X = g.row.T.Denot} (Err c.in-Err.e) t.members t.unknown t.rows t.keeps ms (sound_rows t.rule t.rows g.met.T.Object.kind_is_sound) refused))
 
 pub returns : goal.returns
 returns g c =
@@ -27,4 +27,4 @@ returns g c =
     let x = c.read_members.result in
     let added : c.push_reserved.new.self.items ≡ c.args.list.now.items ++ x ∷ [] = grind arith in
     let read = object_read c.from_members-reading.ensures c.read_members.ensures (sym c.in_default-end.is ∙ c.end.ensures) in
-    (x, added, rw seen (decoded (Ok x) t.members t.unknown t.rows t.keeps ms (sound_rows t.rule t.rows g.met.T.Object.sound) read))
+    (x, added, rw seen (decoded (Ok x) t.members t.unknown t.rows t.keeps ms (sound_rows t.rule t.rows g.met.T.Object.kind_is_sound) read))

@@ -31,5 +31,5 @@ pub returns-clause-reads_back : goal.returns-clause-reads_back
 unfolding put_rows
 returns-clause-reads_back g c =
     let t = g.T.Object in
-    λ plain. read_back (object_kind t.rule t.rows t.keeps) (object (t.members c.args.self.now) (t.unknown c.args.self.now)) _ g.met.T.Object.sound plain
+    λ plain. read_back (object_kind t.rule t.rows t.keeps) (object (t.members c.args.self.now) (t.unknown c.args.self.now)) _ g.met.T.Object.kind_is_sound plain
     (object_written c.in_ok-encode_members.field-0 _ c.in_ok-encode_members.ensures)

@@ -8,5 +8,5 @@ pub returns : goal.returns
 unfolding put_rows some_invalid
 returns g c =
     let t = g.T.Object in
-    object_printing t.rows (t.members c.args.self.now) (t.unknown c.args.self.now) _ _ _ _ _ (sound_object_distinct t.rule t.rows t.keeps g.met.T.Object.sound)
+    object_printing t.rows (t.members c.args.self.now) (t.unknown c.args.self.now) _ _ _ _ _ (sound_object_distinct t.rule t.rows t.keeps g.met.T.Object.kind_is_sound)
     c.begin_members-outer.ensures c.write_members.ensures c.end_members.ensures

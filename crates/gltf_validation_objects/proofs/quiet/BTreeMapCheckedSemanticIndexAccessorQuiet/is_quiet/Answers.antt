@@ -6,9 +6,9 @@ use Rattle.gltf_base.specs.Lists.{ListName}
 use Rattle.gltf_schema.specs.Fields.{entry_of}
 use Rattle.gltf_root.specs.Lists.{count_in}
 use Rattle.gltf_validation_rules.specs.Faults.{key_faults}
-use Rattle.gltf_validation_objects.specs.OutlineOf.{error_of}
+use Rattle.gltf_validation_objects.specs.OutlineOf.{fault_of_reports}
 use Rattle.gltf_validation_objects.proofs.Leaves.{found_key}
-use Rattle.gltf_validation_objects.proofs.QuietOutlines.{entry_first, error_there}
+use Rattle.gltf_validation_objects.proofs.QuietOutlines.{entry_first, fault_there}
 use Rattle.gltf_validation_objects.proofs.quiet.BTreeMapCheckedSemanticIndexAccessorQuiet.is_quiet.Goals as goal
 use Rattle.gltf_validation_objects.proofs.quiet.BTreeMapCheckedSemanticIndexAccessorQuiet.is_quiet.Goals.{then-is_some-via-then-is_some, then-is_some-via-else-is_some+then-not-is_quiet}
 
@@ -21,7 +21,7 @@ loop-semantic-preserved g c =
     let here : map entry_of c.loop-semantic.semantic-iterator ≡ e ∷ rest = search rules in
     let found : is_none c.choice_fault.result ≡ true = search rules in
     let yes : c.is_quiet.result ≡ true = search rules in
-    let no_key : is_none (error_of (key_faults e.0)) ≡ true = ap is_none (sym (found_key key _ c.choice_fault.ensures)) ∙ found in
+    let no_key : is_none (fault_of_reports (key_faults e.0)) ≡ true = ap is_none (sym (found_key key _ c.choice_fault.ensures)) ∙ found in
     entry_first count _ e rest true here (rw (no_key, sym c.is_quiet.ensures ∙ yes) refl) ∙ c.loop-semantic.invariant
 
 pub returns-then-is_some : goal.returns-then-is_some
@@ -34,7 +34,7 @@ returns-then-is_some g c =
     elim c.then-is_some.branch [
       | then-is_some-via-then-is_some w ↦
           (let found : is_some c.choice_fault.result ≡ true = search rules in
-          let in_key : is_none (error_of (key_faults e.0)) ≡ false = ap is_none (sym (found_key key _ c.choice_fault.ensures)) ∙ error_there _ found in
+          let in_key : is_none (fault_of_reports (key_faults e.0)) ≡ false = ap is_none (sym (found_key key _ c.choice_fault.ensures)) ∙ fault_there _ found in
           entry_first count _ e rest false here (rw in_key refl) ∙ c.loop-semantic.invariant)
       | then-is_some-via-else-is_some+then-not-is_quiet w ↦
           (let no : w.is_quiet.result ≡ false = search rules in

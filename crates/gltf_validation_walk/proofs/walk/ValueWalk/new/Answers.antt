@@ -10,7 +10,7 @@ use Rattle.gltf_validation_walk.proofs.walk.ValueWalk.new.Goals as goal
 pub invariant_of-result : goal.invariant_of-result
 invariant_of-result g c =
     let low = begun_fits g.T.Visitable.kind (g.T.Visitable.tree c.args.value.now) (under (rules_of c.args.rules) (root_tree c.args.root.now)) c.value_ref-start.result _ c.begun_in.ensures c.value_ref-start.ensures in
-    record { fits = omega (arith, low, c.requires); beside = omega (arith, ap length c.begun_in.ensures) }
+    record { reach_is_bounded = omega (arith, low, c.requires); frames_have_steps = omega (arith, ap length c.begun_in.ensures) }
 
 pub returns-clause-reports : goal.returns-clause-reports
 returns-clause-reports g c =

@@ -20,7 +20,7 @@ invariant_of-self c =
     let e = c.in-Some.ensures.items in
     let low = popped_fits context _ _ c.in-Some.frame e in
     let gone = ap length c.pop-in-End.ensures.rest in
-    record { fits = omega (arith, low.0, c.loop-frame.self.fits); beside = omega (arith, c.loop-frame.self.beside, frames_length _ _ _ e, gone, length-take (length c.loop-frame.self.steps.items - 1) c.loop-frame.self.steps.items) }
+    record { reach_is_bounded = omega (arith, low.0, c.loop-frame.self.reach_is_bounded); frames_have_steps = omega (arith, c.loop-frame.self.frames_have_steps, frames_length _ _ _ e, gone, length-take (length c.loop-frame.self.steps.items - 1) c.loop-frame.self.steps.items) }
 
 pub loop-frame-smaller-in-End : goal.loop-frame-smaller-in-End
 loop-frame-smaller-in-End c =
@@ -33,8 +33,8 @@ loop-frame-preserved-in-End c =
     let e = c.in-Some.ensures.items in
     let gone = ap length c.pop-in-End.ensures.rest ∙ length-take (length c.loop-frame.self.steps.items - 1) c.loop-frame.self.steps.items in
     record {
-      same = c.loop-frame.invariant.same ∙ over_goes context _ _ c.in-Some.frame _ _ _ e c.loop-frame.self.beside c.in-End.ensures.comes c.pop-in-End.ensures.items (omega (arith, gone));
-      base = omega (arith, c.loop-frame.invariant.base, frames_length _ _ _ e, gone, c.loop-frame.self.beside);
+      same = c.loop-frame.invariant.same ∙ over_goes context _ _ c.in-Some.frame _ _ _ e c.loop-frame.self.frames_have_steps c.in-End.ensures.comes c.pop-in-End.ensures.items (omega (arith, gone));
+      base = omega (arith, c.loop-frame.invariant.base, frames_length _ _ _ e, gone, c.loop-frame.self.frames_have_steps);
       depth = omega (arith, c.loop-frame.invariant.depth, (popped_fits context _ _ c.in-Some.frame e).0);
     }
 
@@ -44,7 +44,7 @@ pub push-requires : goal.push-requires
 push-requires c =
     let context = context_in c.loop-frame.self in
     let low = popped_fits context _ _ c.in-Some.frame c.in-Some.ensures.items in
-    (omega arith, omega (arith, low.1, c.loop-frame.self.fits))
+    (omega arith, omega (arith, low.1, c.loop-frame.self.reach_is_bounded))
 
 pub invariant_of-self-in-Fault : goal.invariant_of-self-in-Fault
 invariant_of-self-in-Fault c =
@@ -54,8 +54,8 @@ invariant_of-self-in-Fault c =
     let next = c.in-Fault.ensures.rest tt ∙ left_one (outline_left context c.in-Some.frame) in
     let deep = ap height next in
     record {
-      fits = pushed_fits context _ _ _ 10 c.push.ensures.items (omega (arith, low.0, c.loop-frame.self.fits)) (omega (arith, low.1, deep, rest_height (outline_left context c.in-Some.frame), c.loop-frame.self.fits));
-      beside = omega (arith, c.loop-frame.self.beside, frames_length _ _ _ e, frames_length _ _ _ c.push.ensures.items);
+      reach_is_bounded = pushed_fits context _ _ _ 10 c.push.ensures.items (omega (arith, low.0, c.loop-frame.self.reach_is_bounded)) (omega (arith, low.1, deep, rest_height (outline_left context c.in-Some.frame), c.loop-frame.self.reach_is_bounded));
+      frames_have_steps = omega (arith, c.loop-frame.self.frames_have_steps, frames_length _ _ _ e, frames_length _ _ _ c.push.ensures.items);
     }
 
 pub returns-in-Fault-clause-next : goal.returns-in-Fault-clause-next
@@ -65,7 +65,7 @@ returns-in-Fault-clause-next c =
     let next = c.in-Fault.ensures.rest tt ∙ left_one (outline_left context c.in-Some.frame) in
     let steps = map step_of c.loop-frame.self.steps.items in (
       c.loop-frame.invariant.same
-          ∙ (move_made context _ _ _ c.in-Some.frame c.next_event.new.frame c.loop-frame.self.steps.items e c.push.ensures.items next c.loop-frame.self.beside
+          ∙ (move_made context _ _ _ c.in-Some.frame c.next_event.new.frame c.loop-frame.self.steps.items e c.push.ensures.items next c.loop-frame.self.frames_have_steps
           ∙ ap (λ m. reported_by m steps ++ to_come_of steps (outlines_left context c.push.new.self.items)) (sym c.in-Fault.ensures.comes)),
       omega (arith, c.loop-frame.invariant.base, frames_length _ _ _ e, frames_length _ _ _ c.push.ensures.items),
     )
@@ -104,7 +104,7 @@ loop-frame-preserved c =
     let stays = moved_fits context _ _ _ c.in-Some.frame c.next_event.new.frame e d next in
     record {
       same = c.loop-frame.invariant.same
-          ∙ (move_made context _ _ _ c.in-Some.frame c.next_event.new.frame c.loop-frame.self.steps.items e d next c.loop-frame.self.beside
+          ∙ (move_made context _ _ _ c.in-Some.frame c.next_event.new.frame c.loop-frame.self.steps.items e d next c.loop-frame.self.frames_have_steps
           ∙ (ap (λ m. reported_by m steps ++ below) (sym c.in-Enter.ensures.comes) ∙ ap (λ rs. rs ++ below) (silent (steps ++ step_of c.in-Enter.step ∷ []))));
       base = omega (arith, c.loop-frame.invariant.base, frames_length _ _ _ e, frames_length _ _ _ d);
       depth = omega (arith, c.loop-frame.invariant.depth, stays);
@@ -118,8 +118,8 @@ invariant_of-self-else-not-is_quiet c =
     let d = c.push-in-Enter.ensures.items in
     let next = ap height (c.in-Enter.ensures.rest tt ∙ left_one (outline_left context c.in-Some.frame)) in
     record {
-      fits = pushed_fits context _ _ _ 10 d (omega (arith, low.0, c.loop-frame.self.fits)) (omega (arith, low.1, next, rest_height (outline_left context c.in-Some.frame), c.loop-frame.self.fits));
-      beside = omega (arith, c.loop-frame.self.beside, frames_length _ _ _ e, frames_length _ _ _ d);
+      reach_is_bounded = pushed_fits context _ _ _ 10 d (omega (arith, low.0, c.loop-frame.self.reach_is_bounded)) (omega (arith, low.1, next, rest_height (outline_left context c.in-Some.frame), c.loop-frame.self.reach_is_bounded));
+      frames_have_steps = omega (arith, c.loop-frame.self.frames_have_steps, frames_length _ _ _ e, frames_length _ _ _ d);
     }
 
 -- ---- a value that is gone into
@@ -128,7 +128,7 @@ pub push-requires-in-Enter : goal.push-requires-in-Enter
 push-requires-in-Enter c =
     let context = context_in c.loop-frame.self in
     let low = popped_fits context _ _ c.in-Some.frame c.in-Some.ensures.items in
-    (omega arith, omega (arith, low.1, c.loop-frame.self.fits))
+    (omega arith, omega (arith, low.1, c.loop-frame.self.reach_is_bounded))
 
 pub invariant_of-self-then-is_full : goal.invariant_of-self-then-is_full
 invariant_of-self-then-is_full c =
@@ -138,8 +138,8 @@ invariant_of-self-then-is_full c =
     let d = c.push-in-Enter.ensures.items in
     let next = ap height (c.in-Enter.ensures.rest tt ∙ left_one (outline_left context c.in-Some.frame)) in
     record {
-      fits = pushed_fits context _ _ _ 10 d (omega (arith, low.0, c.loop-frame.self.fits)) (omega (arith, low.1, next, rest_height (outline_left context c.in-Some.frame), c.loop-frame.self.fits));
-      beside = omega (arith, c.loop-frame.self.beside, frames_length _ _ _ e, frames_length _ _ _ d);
+      reach_is_bounded = pushed_fits context _ _ _ 10 d (omega (arith, low.0, c.loop-frame.self.reach_is_bounded)) (omega (arith, low.1, next, rest_height (outline_left context c.in-Some.frame), c.loop-frame.self.reach_is_bounded));
+      frames_have_steps = omega (arith, c.loop-frame.self.frames_have_steps, frames_length _ _ _ e, frames_length _ _ _ d);
     }
 
 pub returns-then-is_full-clause-full : goal.returns-then-is_full-clause-full
@@ -161,7 +161,7 @@ pub push-requires-then-not-is_quiet : goal.push-requires-then-not-is_quiet
 push-requires-then-not-is_quiet c =
     let context = context_in c.loop-frame.self in
     let low = popped_fits context _ _ c.in-Some.frame c.in-Some.ensures.items in
-    (omega arith, omega (arith, low.1, c.loop-frame.self.fits, frames_length _ _ _ c.push-in-Enter.ensures.items))
+    (omega arith, omega (arith, low.1, c.loop-frame.self.reach_is_bounded, frames_length _ _ _ c.push-in-Enter.ensures.items))
 
 pub invariant_of-self-then-not-is_quiet : goal.invariant_of-self-then-not-is_quiet
 invariant_of-self-then-not-is_quiet c =
@@ -172,10 +172,10 @@ invariant_of-self-then-not-is_quiet c =
     let d = c.push-in-Enter.ensures.items in
     let next = ap height (c.in-Enter.ensures.rest tt ∙ left_one (outline_left context c.in-Some.frame)) in
     let deep = down_height (outline_left context c.in-Some.frame) (outline_of context c.in-Enter.value) (step_of c.in-Enter.step) c.in-Enter.ensures.comes in
-    let moved = pushed_fits context _ _ _ 10 d (omega (arith, low.0, c.loop-frame.self.fits)) (omega (arith, low.1, next, rest_height (outline_left context c.in-Some.frame), c.loop-frame.self.fits)) in
+    let moved = pushed_fits context _ _ _ 10 d (omega (arith, low.0, c.loop-frame.self.reach_is_bounded)) (omega (arith, low.1, next, rest_height (outline_left context c.in-Some.frame), c.loop-frame.self.reach_is_bounded)) in
     record {
-      fits = pushed_fits context _ _ _ 10 pushed moved (omega (arith, low.1, deep, frames_length _ _ _ d, ap height (begun_left context c.in-Enter.value), c.loop-frame.self.fits));
-      beside = omega (arith, c.loop-frame.self.beside, frames_length _ _ _ e, frames_length _ _ _ d, frames_length _ _ _ pushed, c.push-then-not-is_quiet-2.ensures.len);
+      reach_is_bounded = pushed_fits context _ _ _ 10 pushed moved (omega (arith, low.1, deep, frames_length _ _ _ d, ap height (begun_left context c.in-Enter.value), c.loop-frame.self.reach_is_bounded));
+      frames_have_steps = omega (arith, c.loop-frame.self.frames_have_steps, frames_length _ _ _ e, frames_length _ _ _ d, frames_length _ _ _ pushed, c.push-then-not-is_quiet-2.ensures.len);
     }
 
 pub loop-frame-smaller-then-not-is_quiet : goal.loop-frame-smaller-then-not-is_quiet
@@ -209,10 +209,10 @@ loop-frame-preserved-then-not-is_quiet c =
     let within = pushed_fits context _ _ _ _ pushed stays (omega (arith, low.1, deep, frames_length _ _ _ d, ap height (begun_left context c.in-Enter.value))) in
     record {
       same = c.loop-frame.invariant.same
-          ∙ (move_made context _ _ _ c.in-Some.frame c.next_event.new.frame c.loop-frame.self.steps.items e d next c.loop-frame.self.beside
+          ∙ (move_made context _ _ _ c.in-Some.frame c.next_event.new.frame c.loop-frame.self.steps.items e d next c.loop-frame.self.frames_have_steps
           ∙ (ap (λ m. reported_by m steps ++ to_come_of steps (outlines_left context c.push-in-Enter.new.self.items)) (sym c.in-Enter.ensures.comes)
           ∙ sym (part_entered context _ _ c.in-Enter.value c.loop-frame.self.steps.items _ c.in-Enter.step pushed c.push-then-not-is_quiet-2.ensures.items
-          (omega (arith, frames_length _ _ _ d)) (omega (arith, c.loop-frame.self.beside, frames_length _ _ _ e, frames_length _ _ _ d)))));
+          (omega (arith, frames_length _ _ _ d)) (omega (arith, c.loop-frame.self.frames_have_steps, frames_length _ _ _ e, frames_length _ _ _ d)))));
       base = omega (arith, c.loop-frame.invariant.base, frames_length _ _ _ e, frames_length _ _ _ d, frames_length _ _ _ pushed, c.push-then-not-is_quiet-2.ensures.len);
       depth = omega (arith, c.loop-frame.invariant.depth, within);
     }

@@ -8,7 +8,7 @@ use Rattle.gltf_root.proofs.root.top_level.AnyRootItem.list_of_mut.Goals as goal
 
 pub returns : goal.returns
 returns g c =
-    let there = (g.met.T.TopLevel.itself (root_tree c.args.root.now) Listed).0 in (
+    let there = (g.met.T.TopLevel.needs_no_extension (root_tree c.args.root.now) Listed).0 in (
       refl,
       record {
         writes_back = tt;

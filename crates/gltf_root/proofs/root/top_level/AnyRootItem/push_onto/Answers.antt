@@ -15,5 +15,5 @@ returns-clause-pushed g c =
     IfOk-weaker c.push.result _ _ (λ index h. (
       h.0 ∙ ap vec_len held ∙ (g.T.TopLevel.held old).ok.0,
       one_more tree g.T.Listed.list (root_tree old) (root_tree (g.T.TopLevel.put new old)) (g.T.TopLevel.held old).items new.items c.args.item
-          (g.met.T.TopLevel.stands old) (g.met.T.TopLevel.puts old new).1 (h.1 ∙ ap (λ list. list.items ++ c.args.item ∷ []) held),
+          (g.met.T.TopLevel.tree_lists_items old) (g.met.T.TopLevel.put_replaces_list old new).1 (h.1 ∙ ap (λ list. list.items ++ c.args.item ∷ []) held),
     )) c.push.ensures.pushed

@@ -9,7 +9,7 @@ use Rattle.gltf_schema.specs.Tree.{Tree, whole, index}
 use Rattle.gltf_schema.specs.Kind.{required, ChannelSampler, U32}
 use Rattle.gltf_schema.specs.Read.{read, read_member, small_number}
 use Rattle.gltf_schema.specs.Taken.{without, take_member}
-use Rattle.gltf_schema.specs.Readings.{TakesSource, TakesSampler, TakesMember}
+use Rattle.gltf_schema.specs.RowReading.{TakesSource, TakesSampler, TakesMember}
 
 pub source_taken : TakesSource TakesMember
 unfolding take_member

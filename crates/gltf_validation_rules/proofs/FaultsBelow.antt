@@ -142,7 +142,7 @@ mutual
   reports_below SourceImage t context above base = source_below context.rules.empty_texture (count_in ListName.images context.root) t base
   reports_below ChannelSampler t context above base = index_below (sampler_count above) t base
   reports_below Stride t context above base = stride_below t base
-  reports_below (Choice form listed) t context above base = choice_below t base
+  reports_below (Choice form spellings) t context above base = choice_below t base
   reports_below (Attributes named) t context above base = entries_below (count_in named context.root) (entries_in t) base
   reports_below (ListOf kind) t context above base = items_below (λ x. reports kind x context above) (λ x at. reports_below kind x context above at) 0 (items_in t) base
   reports_below (Object rule rows keeps) t context above base =

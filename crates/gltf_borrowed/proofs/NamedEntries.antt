@@ -7,7 +7,7 @@ use Rattle.serde_json.specs.Find.{get_member}
 use Rattle.serde_json.proofs.Views.{get_member-put, get_member-put_other}
 use Rattle.gltf_schema.specs.Taken.{without}
 use Rattle.gltf_borrowed.specs.Borrowed.{Entry, data_of, put_entries}
-use Rattle.gltf_borrowed.specs.Untaken.{has_named}
+use Rattle.gltf_borrowed.specs.RemainingMembers.{has_named}
 use Rattle.gltf_borrowed.proofs.Ordered.{same, other, flipped, InOrder, InOrder-put, without_put_same, without_put_other}
 
 -- the first value that is there

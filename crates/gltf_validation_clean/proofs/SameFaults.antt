@@ -13,33 +13,33 @@ use Rattle.gltf_validation_objects.specs.OutlineOf.{outline}
 use Rattle.gltf_validation_walk.proofs.OutlineReports.{outline_reports}
 
 -- reports with the same errors, in the same order
-pub data SameErrors : List Report → List Report → Type 0 where
-  nothing : SameErrors [] []
-  one : (a b : List Step) (error : Error) {rs qs : List Report} → SameErrors rs qs → SameErrors (report a error ∷ rs) (report b error ∷ qs)
+pub data SameFaults : List Report → List Report → Type 0 where
+  nothing : SameFaults [] []
+  one : (a b : List Step) (error : Error) {rs qs : List Report} → SameFaults rs qs → SameFaults (report a error ∷ rs) (report b error ∷ qs)
 
-then : {rs qs ts us : List Report} → SameErrors rs qs → SameErrors ts us → SameErrors (rs ++ ts) (qs ++ us)
+then : {rs qs ts us : List Report} → SameFaults rs qs → SameFaults ts us → SameFaults (rs ++ ts) (qs ++ us)
 then nothing h = h
 then (one a b error g) h = one a b error (then g h)
 
 -- ---- the reports of an outline
 
-here_same : (es : List Error) (a b : List Step) → SameErrors (reports_here es a) (reports_here es b)
+here_same : (es : List Error) (a b : List Step) → SameFaults (reports_here es a) (reports_here es b)
 here_same [] a b = nothing
 here_same (error ∷ es) a b = one a b error (here_same es a b)
 
 mutual
-  outline_same : (p : Outline) (a b : List Step) → SameErrors (reports_of p a) (reports_of p b)
+  outline_same : (p : Outline) (a b : List Step) → SameFaults (reports_of p a) (reports_of p b)
   outline_same (place ps es) a b = then (below_same ps a b) (here_same es a b)
 
-  below_same : (ps : Outlines) (a b : List Step) → SameErrors (reports_below ps a) (reports_below ps b)
+  below_same : (ps : Outlines) (a b : List Step) → SameFaults (reports_below ps a) (reports_below ps b)
   below_same outlines.nothing a b = nothing
   below_same (below s p ps) a b = then (outline_same p (a ++ s ∷ []) (b ++ s ∷ [])) (below_same ps a b)
 
 -- ---- the reports of a tree, by its outline
 
 pub reports_same : (kind : Kind) (t : Tree) (context : Context) (above : Tree) (a b : List Step)
-    → SameErrors (reports kind t context above a) (reports kind t context above b)
+    → SameFaults (reports kind t context above a) (reports kind t context above b)
 reports_same kind t context above a b =
     let whole = outline kind t context above in
     let reported = outline_reports kind t context above in
-    subst (λ rs. SameErrors rs (reports kind t context above b)) (reported a) (subst (λ rs. SameErrors (reports_of whole a) rs) (reported b) (outline_same whole a b))
+    subst (λ rs. SameFaults rs (reports kind t context above b)) (reported a) (subst (λ rs. SameFaults (reports_of whole a) rs) (reported b) (outline_same whole a b))

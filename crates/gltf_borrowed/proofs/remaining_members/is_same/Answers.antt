@@ -1,6 +1,6 @@
 use Rattle.std.proofs.Common.{◌≡◌, length, sym, ◌∙◌, arith, ext_get_or}
 use Rattle.std.proofs.lemmas.Slice.Eq.{bytes_eq-Decides}
-use Rattle.gltf_borrowed.proofs.untaken.is_same.Goals as goal
+use Rattle.gltf_borrowed.proofs.remaining_members.is_same.Goals as goal
 
 pub returns : goal.returns
 returns c =

@@ -1,9 +1,9 @@
 use Rattle.std.proofs.Common.{◌≡◌, ◌-◌, length, take, Some}
 use Rattle.std.proofs.lemmas.List.Filters.{FiltersInPlace}
 use Rattle.gltf_borrowed.specs.Borrowed.{data_of}
-use Rattle.gltf_borrowed.proofs.Listed.{last_named}
+use Rattle.gltf_borrowed.proofs.NamedEntries.{last_named}
 use Rattle.gltf_borrowed.proofs.Parted.{apart}
-use Rattle.gltf_borrowed.proofs.untaken.keep_others.Given as goal
+use Rattle.gltf_borrowed.proofs.remaining_members.keep_others.Given as goal
 
 abbrev pub invariant-scan : goal.invariant-scan
 invariant-scan l = record {

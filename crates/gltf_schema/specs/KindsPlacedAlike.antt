@@ -8,11 +8,11 @@ use Rattle.gltf_base.specs.Steps.{Step, field, item, key, value}
 use Rattle.gltf_schema.specs.Tree.{whole, index}
 use Rattle.gltf_schema.specs.Kind.{Mark, required, IndexInto, ChannelSampler, SourceImage, U32}
 use Rattle.gltf_schema.specs.Read.{read, read_member, small_number}
-use Rattle.gltf_schema.specs.ReadAs.{with_index, sampler_member}
-use Rattle.gltf_schema.specs.Readings.{TakesSource, TakesSampler}
+use Rattle.gltf_schema.specs.KindsReadAlike.{with_index, sampler_member}
+use Rattle.gltf_schema.specs.RowReading.{TakesSource, TakesSampler}
 use Rattle.gltf_schema.specs.Refused.{IsMissingOr, IsRefusedAt}
 use Rattle.gltf_schema.specs.Taken.{take_member}
-use Rattle.gltf_schema.specs.Placings.{IsPlaceOfRow, PlacesMember}
+use Rattle.gltf_schema.specs.RowPlacing.{IsPlaceOfRow, PlacesMember}
 
 image_at : (steps : List Step) (d : Data) → IsRefusedAt steps (IndexInto images) d → IsRefusedAt steps SourceImage d
 image_at [] d h = h

@@ -2,10 +2,10 @@ use Rattle.std.proofs.Common.{◌≡◌, ◌+◌, ◌++◌, ℕ, List, Option, t
 use Rattle.std.specs.Prelude.{slice_index_or}
 use Rattle.serde_json.specs.Data.{Data, no_members}
 use Rattle.gltf_borrowed.specs.Borrowed.{Entry, data_of, put_entries}
-use Rattle.gltf_borrowed.specs.Untaken.{IsFirst}
+use Rattle.gltf_borrowed.specs.RemainingMembers.{IsFirst}
 use Rattle.gltf_borrowed.specs.declared.value.Borrowed.{Borrowed}
-use Rattle.gltf_borrowed.proofs.Listed.{parts, without_named, last_named, or_else, get-put_entries, without-put_entries, none_named, without_taken, last_taken, or_none}
-use Rattle.gltf_borrowed.proofs.untaken.Untaken.take_all.Goals as goal
+use Rattle.gltf_borrowed.proofs.NamedEntries.{parts, without_named, last_named, or_else, get-put_entries, without-put_entries, none_named, without_taken, last_taken, or_none}
+use Rattle.gltf_borrowed.proofs.remaining_members.RemainingMembers.take_all.Goals as goal
 
 -- the first entry of the name was taken out
 first_taken : (n : List ℕ) (es after : List Entry) (i : ℕ) (x : Borrowed) → IsFirst n es i → ((e : Entry) → x ≡ (slice_index_or es i e).1) → after ≡ take i es ++ drop (i + 1) es

@@ -10,6 +10,6 @@ given_or t name [] = t
 given_or t name (g ∷ gs) = cond (bytes_eq g.0 name) g.1 (given_or t name gs)
 
 -- each row's member as it is given; the others are missing
-abbrev pub made : Rows → List (List ℕ × Tree) → Trees
-made no_rows gs = end
-made (row name mark kind rows) gs = with_tree (given_or (default_tree mark) name gs) (made rows gs)
+abbrev pub with_defaults : Rows → List (List ℕ × Tree) → Trees
+with_defaults no_rows gs = end
+with_defaults (row name mark kind rows) gs = with_tree (given_or (default_tree mark) name gs) (with_defaults rows gs)

@@ -27,9 +27,9 @@ use Rattle.gltf_validation_rules.specs.Context.{Context}
 use Rattle.gltf_validation_rules.specs.Faults.{items_reports}
 use Rattle.gltf_validation_rules.specs.Reports.{reports, member_reports}
 use Rattle.gltf_validation_rules.specs.Rules.{root_rule}
-use Rattle.gltf_validation_rules.proofs.Growing.{list_by}
+use Rattle.gltf_validation_rules.proofs.LongerLists.{list_by}
 use Rattle.gltf_validation_rules.proofs.Inserting.{name_at, kind_at}
-use Rattle.gltf_validation_rules.proofs.Standing.{StandsBelow, AllBelow, reports_below, required_below}
+use Rattle.gltf_validation_rules.proofs.FaultsBelow.{StandsBelow, AllBelow, reports_below, required_below}
 
 abbrev pub StandsElsewhere : List Step → Report → Type 0
 StandsElsewhere base r = StandsBelow base r → ⊥

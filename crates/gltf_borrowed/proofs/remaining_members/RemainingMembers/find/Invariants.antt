@@ -1,6 +1,6 @@
 use Rattle.std.proofs.Common.{◌≡◌, ◌≤◌, ◌-◌, length, take, false}
-use Rattle.gltf_borrowed.specs.Untaken.{has_named}
-use Rattle.gltf_borrowed.proofs.untaken.Untaken.find.Given as goal
+use Rattle.gltf_borrowed.specs.RemainingMembers.{has_named}
+use Rattle.gltf_borrowed.proofs.remaining_members.RemainingMembers.find.Given as goal
 
 abbrev pub invariant-scan : goal.invariant-scan
 invariant-scan l = record {

@@ -17,11 +17,11 @@ use Rattle.gltf_validation_rules.specs.Context.{Rules, under}
 use Rattle.gltf_validation_rules.specs.Inserted.{IsInserted}
 use Rattle.gltf_validation_rules.specs.Naming.{Avoids}
 use Rattle.gltf_validation_rules.specs.Reports.{document_reports, reports_by_rules}
-use Rattle.gltf_validation_rules.specs.Standing.{same_step, begin_with, is_below}
-use Rattle.gltf_validation_rules.proofs.Elsewhere.{StandsElsewhere, root_elsewhere}
-use Rattle.gltf_validation_rules.proofs.Joining.{joined, first_none, second_none}
+use Rattle.gltf_validation_rules.specs.ReportPlaces.{same_step, begin_with, is_below}
+use Rattle.gltf_validation_rules.proofs.FaultsElsewhere.{StandsElsewhere, root_elsewhere}
+use Rattle.gltf_validation_rules.proofs.TwoParts.{joined, first_none, second_none}
 use Rattle.gltf_validation_rules.proofs.PushesOnto.{inserted}
-use Rattle.gltf_validation_rules.proofs.Standing.{StandsBelow, reports_below}
+use Rattle.gltf_validation_rules.proofs.FaultsBelow.{StandsBelow, reports_below}
 
 -- ---- the test decides what is below a place
 

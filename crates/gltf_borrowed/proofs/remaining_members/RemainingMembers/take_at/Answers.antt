@@ -2,7 +2,7 @@ use Rattle.std.proofs.Common.{◌≡◌, ◌<◌, ◌≤◌, ◌+◌, ◌++◌, 
 use Rattle.std.proofs.lemmas.List.{take-set, drop-set-lt, drop-append-le, drop-take, length-take, length-drop}
 use Rattle.std.proofs.Math.Seq.{drop-drop}
 use Rattle.gltf_borrowed.specs.Borrowed.{Entry}
-use Rattle.gltf_borrowed.proofs.untaken.Untaken.take_at.Goals as goal
+use Rattle.gltf_borrowed.proofs.remaining_members.RemainingMembers.take_at.Goals as goal
 
 -- behind the start, nothing but the entry at i is left out
 removed : (xs : List Entry) (s i : ℕ) (y : Entry) → s + i < length xs

@@ -3,10 +3,10 @@ use Rattle.std.proofs.lemmas.List.{take_all, get_or_default}
 use Rattle.std.proofs.lemmas.List.Filters.{FiltersInPlace-more_no, FiltersInPlace-more_swap, FiltersInPlace-all}
 use Rattle.serde_json.specs.Data.{no_members}
 use Rattle.gltf_borrowed.specs.Borrowed.{Entry, data_of, put_entries}
-use Rattle.gltf_borrowed.proofs.Listed.{last_named, or_else, or_none, get-put_entries, without-put_entries}
+use Rattle.gltf_borrowed.proofs.NamedEntries.{last_named, or_else, or_none, get-put_entries, without-put_entries}
 use Rattle.gltf_borrowed.proofs.Parted.{apart, without_named_is, last_named-more, FiltersInPlace-first, FiltersInPlace-set, not_reached}
-use Rattle.gltf_borrowed.proofs.untaken.keep_others.Goals as goal
-use Rattle.gltf_borrowed.proofs.untaken.keep_others.Goals.{then-is_same, else-is_same}
+use Rattle.gltf_borrowed.proofs.remaining_members.keep_others.Goals as goal
+use Rattle.gltf_borrowed.proofs.remaining_members.keep_others.Goals.{then-is_same, else-is_same}
 
 pub scan-init : goal.scan-init
 scan-init c =

@@ -1,5 +1,5 @@
 use Rattle.std.proofs.Common.{◌≡◌, ℕ, ◌<◌, ◌≤◌, length, get_or}
-use Rattle.gltf_borrowed.proofs.untaken.is_same.Given as goal
+use Rattle.gltf_borrowed.proofs.remaining_members.is_same.Given as goal
 
 -- the bytes from `i` on agree
 abbrev pub invariant-loop-i : goal.invariant-loop-i

@@ -5,7 +5,7 @@ ghost use Rattle.std.specs.Str.{bytes_eq};
 ghost use Rattle.serde_json.specs.Find.{get_member};
 ghost use Rattle.gltf_schema.specs.Taken.{without};
 ghost use Rattle.gltf_borrowed.specs.Borrowed.{Entry, data_of, members_data};
-ghost use Rattle.gltf_borrowed.specs.Untaken.{has_named, IsFirst, FindsFirst};
+ghost use Rattle.gltf_borrowed.specs.RemainingMembers.{has_named, IsFirst, FindsFirst};
 
 use crate::value::Borrowed;
 use std::mem;
@@ -13,19 +13,19 @@ use std::mem;
 /// Members of an object, in the order of the text. Rows mostly ask for them in that order, so the
 /// ones at the front are passed over when they are taken, and the others stay where they are.
 #[derive(Drop)]
-pub struct Untaken<'a> {
+pub struct RemainingMembers<'a> {
     entries: Vec<(&'a str, Borrowed<'a>)>,
     // The entries before this one are taken.
     start: usize,
     ghost within: { start ≤ length entries.items },
 }
 
-impl<'a> Untaken<'a> {
+impl<'a> RemainingMembers<'a> {
     /// All of an object's members.
-    pub(crate) fn new(entries: Vec<(&'a str, Borrowed<'a>)>) -> Untaken<'a>
+    pub(crate) fn new(entries: Vec<(&'a str, Borrowed<'a>)>) -> RemainingMembers<'a>
         ensures { drop result.start result.entries.items ≡ entries.entry.items }
     {
-        Untaken { entries, start: 0 }
+        RemainingMembers { entries, start: 0 }
     }
 
     /// The members that are left.

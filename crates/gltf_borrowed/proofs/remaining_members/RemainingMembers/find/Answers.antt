@@ -2,9 +2,9 @@ use Rattle.std.proofs.Common.{◌≡◌, take, get_or, true, sym, ap, ◌∙◌,
 use Rattle.std.proofs.lemmas.List.{take_more}
 use Rattle.std.specs.Str.{bytes_eq}
 use Rattle.gltf_borrowed.specs.Borrowed.{Entry}
-use Rattle.gltf_borrowed.specs.Untaken.{has_named}
-use Rattle.gltf_borrowed.proofs.Listed.{has_named-push}
-use Rattle.gltf_borrowed.proofs.untaken.Untaken.find.Goals as goal
+use Rattle.gltf_borrowed.specs.RemainingMembers.{has_named}
+use Rattle.gltf_borrowed.proofs.NamedEntries.{has_named-push}
+use Rattle.gltf_borrowed.proofs.remaining_members.RemainingMembers.find.Goals as goal
 
 pub returns-then-is_same : goal.returns-then-is_same
 returns-then-is_same c =

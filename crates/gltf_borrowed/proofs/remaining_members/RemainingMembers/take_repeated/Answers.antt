@@ -2,7 +2,7 @@ use Rattle.std.proofs.Common.{◌≡◌, ◌≤◌, ◌+◌, ◌-◌, ◌++◌, 
 use Rattle.std.proofs.lemmas.List.{take_rest, drop_at, drop-take, take-append-le, take-take, length-take, length-take-le, length-drop, length-append}
 use Rattle.gltf_schema.specs.Taken.{without}
 use Rattle.gltf_borrowed.specs.Borrowed.{Entry, members_data}
-use Rattle.gltf_borrowed.proofs.untaken.Untaken.take_repeated.Goals as goal
+use Rattle.gltf_borrowed.proofs.remaining_members.RemainingMembers.take_repeated.Goals as goal
 
 -- the entries that were handed out are those that are left
 handed : (xs ys : List Entry) (s : ℕ) → ys ≡ xs → take (length ys - s) (drop s ys) ≡ drop s xs

@@ -4,24 +4,24 @@ use std::alloc::{AllocError, Global};
 use std::test::Fail;
 
 /// The size of a spare block, in bytes.
-const PEBBLE_LEN: usize = 64;
+const SPARE_LEN: usize = 64;
 
 /// How often something is tried at most.
 const TRIES: usize = 4096;
 
 /// Holds all memory that the process can have. Every growth is then refused.
 #[derive(Drop)]
-pub struct Hog {
-    pebbles: Vec<Vec<u8>>,
+pub struct HeldMemory {
+    spare_blocks: Vec<Vec<u8>>,
     _blocks: Vec<Vec<u8>>,
 }
 
-impl Hog {
+impl HeldMemory {
     /// Takes all memory, of which so many spare blocks can be freed.
-    pub fn take_all(alloc: Global, pebble_count: usize) -> Result<Hog, AllocError> {
-        let mut pebbles = Vec::with_capacity(alloc, pebble_count)?;
-        for _ in 0..pebble_count {
-            pebbles.push(Vec::with_capacity(alloc, PEBBLE_LEN)?)?;
+    pub fn take_all(alloc: Global, spare_count: usize) -> Result<HeldMemory, AllocError> {
+        let mut spare_blocks = Vec::with_capacity(alloc, spare_count)?;
+        for _ in 0..spare_count {
+            spare_blocks.push(Vec::with_capacity(alloc, SPARE_LEN)?)?;
         }
         let mut blocks = Vec::with_capacity(alloc, 1 << 17)?;
         let mut size: usize = 1 << 46;
@@ -32,15 +32,15 @@ impl Hog {
                 Err(_) => size /= 2,
             }
         }
-        Ok(Hog {
-            pebbles,
+        Ok(HeldMemory {
+            spare_blocks,
             _blocks: blocks,
         })
     }
 
     /// Frees one spare block, and returns whether there was one.
     pub fn give_back(&mut self) -> bool {
-        self.pebbles.pop().is_some()
+        self.spare_blocks.pop().is_some()
     }
 }
 
@@ -64,13 +64,13 @@ pub(crate) trait Tried {
 /// Returns how often a call is refused that is tried without memory, and each time with one more
 /// free block, until it succeeds.
 pub(crate) fn refusal_count<T: Tried>(alloc: Global, tried: &mut T) -> Result<usize, Fail> {
-    let mut hog = Hog::take_all(alloc, TRIES)?;
+    let mut held_memory = HeldMemory::take_all(alloc, TRIES)?;
     for refusals in 0..TRIES {
         match tried.attempt(alloc) {
             End::Whole => return Ok(refusals),
             End::Wrong => return Err(Fail::from("neither whole nor refused")),
             End::Refused => {
-                hog.give_back();
+                held_memory.give_back();
             }
         }
     }

@@ -1,5 +1,5 @@
 -- The outlines of the objects of a material, from what was found in them.
-use Rattle.std.specs.Prelude.{ℕ, List, [], Bool, cond, codes, Option, Some, None}
+use Rattle.std.specs.Prelude.{[], Bool, cond, codes, Option, Some, None}
 use Rattle.gltf_base.specs.Lists.{textures}
 use Rattle.gltf_base.specs.Steps.{field}
 use Rattle.gltf_base.specs.declared.validation.Error.{Error}

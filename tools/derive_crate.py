@@ -252,25 +252,16 @@ class CrateTexts:
     def header(self):
         return header([self.made.source(), self.made.spec_path()], "--")
 
-    def inner_objects(self, made):
-        """The objects with rows that the rows are of, each once, in the rows' order."""
-        found = []
-        for row in made.rows:
-            inner = self.table.object_of(made, row.kind)
-            if inner and inner.crate != SCHEMA and inner not in found:
-                found.append(inner)
-        return found
-
     def sound(self):
         made = self.made
         unfolded, lemmas = [f"{made.base}_rows"], []
         defaults = {text_of(row.mark[1]) for row in made.rows
                     if row.mark[1:] and isinstance(row.mark[1], tuple)}
-        for inner in self.inner_objects(made):
+        for inner in inner_objects(self.table, made):
             if f"closed_object (defaults {inner.base}_rows)" in defaults:
                 # The default of a row is computed from these rows, which shows that they are sound.
                 unfolded.append(f"{inner.base}_rows")
-                lemmas += self.inner_objects(inner)
+                lemmas += inner_objects(self.table, inner)
             elif inner.base != "no":
                 lemmas.append(inner)
         names = [*dict.fromkeys(f"{inner.base}_sound" for inner in lemmas)]
@@ -281,7 +272,7 @@ class CrateTexts:
     def height(self):
         made = self.made
         names = []
-        for inner in self.inner_objects(made):
+        for inner in inner_objects(self.table, made):
             base = inner.base if inner.base != "no" else inner.kind.removesuffix("_kind")
             names.append(f"{base}_height.0")
             if not self.table.is_flat(inner):
@@ -298,3 +289,13 @@ def rewritten(names, end):
     if not names:
         return end
     return f"rw {names[0] if len(names) == 1 else '(' + ', '.join(names) + ')'} {end}"
+
+
+def inner_objects(table, made):
+    """The objects with rows that the rows are of, each once, in the rows' order."""
+    found = []
+    for row in made.rows:
+        inner = table.object_of(made, row.kind)
+        if inner and inner.crate != SCHEMA and inner not in found:
+            found.append(inner)
+    return found

@@ -6,9 +6,9 @@ import textwrap
 LINE = 100
 
 # The crates, by what they have.
-SCHEMA, FAULTS, ROOT_CRATE = "gltf_schema", "gltf_validation_rules", "gltf_root"
-VISITS, EVENTS, VALIDATION = "gltf_validation_objects", "gltf_validation_values", "gltf_validation"
-BASE, PATHS = "gltf_base", "gltf_base"
+SCHEMA, RULES, ROOT_CRATE = "gltf_schema", "gltf_validation_rules", "gltf_root"
+OBJECTS, VALUES, VALIDATION = "gltf_validation_objects", "gltf_validation_values", "gltf_validation"
+BASE = "gltf_base"
 
 # Definitions of std, the kit and the crates without objects, by their modules.
 MODULES = {
@@ -17,11 +17,11 @@ MODULES = {
     "Rattle.std.proofs.Common": "lit≤ ap",
     "Rattle.serde_json.specs.Data": "no_members",
     "Rattle.serde_json.specs.View": "members_view",
-    f"Rattle.{PATHS}.specs.Lists": "ListName",
-    f"Rattle.{PATHS}.specs.Steps": "field",
-    f"Rattle.{FAULTS}.specs.Rules": "accessor_rule light_rule",
-    f"Rattle.{VISITS}.proofs.Leaves": "found_leaf",
-    f"Rattle.{VISITS}.proofs.Items": "items_same",
+    f"Rattle.{BASE}.specs.Lists": "ListName",
+    f"Rattle.{BASE}.specs.Steps": "field",
+    f"Rattle.{RULES}.specs.Rules": "accessor_rule light_rule",
+    f"Rattle.{OBJECTS}.proofs.Leaves": "found_leaf",
+    f"Rattle.{OBJECTS}.proofs.Items": "items_same",
     f"Rattle.{SCHEMA}.specs.Tree": "absent items_in tree_or_absent",
     f"Rattle.{SCHEMA}.specs.Kind":
         "Number Numbers ListOf IndexInto Attributes",
@@ -30,22 +30,22 @@ MODULES = {
     f"Rattle.{SCHEMA}.specs.Floats": "float_or floats_or",
     f"Rattle.{SCHEMA}.specs.Fields":
         "closed_object list_tree real_tree reals_tree index_tree text_tree attributes_tree",
-    f"Rattle.{FAULTS}.specs.Context": "Context context_of",
-    f"Rattle.{VISITS}.specs.Outline": "Outline place leaf quiet move_at down",
-    f"Rattle.{VISITS}.specs.OutlineOf":
+    f"Rattle.{RULES}.specs.Context": "Context context_of",
+    f"Rattle.{OBJECTS}.specs.Outline": "Outline place leaf quiet move_at down",
+    f"Rattle.{OBJECTS}.specs.OutlineOf":
         "outline entry_outline at_positions item_outlines name_outline faults_outline",
-    f"Rattle.{VISITS}.specs.References":
+    f"Rattle.{OBJECTS}.specs.References":
         "reference_outline one_texture two_textures material_outline extensions_outline",
-    f"Rattle.{VISITS}.specs.MemberNames": "member_text",
-    f"Rattle.{VISITS}.specs.ValueRefs": "outline_of is_looked_at IsNumbered",
-    f"Rattle.{VISITS}.specs.Moves": "IsGiven IsMore",
+    f"Rattle.{OBJECTS}.specs.MemberNames": "member_text",
+    f"Rattle.{OBJECTS}.specs.ValueRefs": "outline_of is_looked_at IsNumbered",
+    f"Rattle.{OBJECTS}.specs.Moves": "IsGiven IsMore",
 }
 
 # Types, traits and functions that derived code uses, by their paths.
 RUST = {
     f"{SCHEMA}": "Object ReadRows WriteRows Tabled",
     f"{BASE}": "Step",
-    f"{FAULTS}": "Context HasContext data_fault position_faults projection_fault source_fault "
+    f"{RULES}": "Context HasContext data_fault position_faults projection_fault source_fault "
                  "spot_fault",
     "crate::always_valid": "AlwaysValid",
     "crate::event": "EventBuilder",
@@ -63,7 +63,7 @@ RUST = {
 # The types that variants of `ValueRef` hold.
 VALUE_TYPES = {
     "Error": f"{BASE}::validation", "Checked": f"{BASE}::validation", "Index": BASE,
-    "Semantic": f"{BASE}::mesh", "BTreeMap": "std::collections", "PositionFaults": FAULTS,
+    "Semantic": f"{BASE}::mesh", "BTreeMap": "std::collections", "PositionFaults": RULES,
     "MaterialFaults": "crate::material", "ReferenceState": "crate::references",
     "MemberName": "crate::member_name",
 }

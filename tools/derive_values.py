@@ -4,7 +4,7 @@ import re
 
 from derive_exceptions import BY_HAND, QUIET_BY_HAND, VALUE_REFS, VARIANT_NAMES, VARIANTS
 from derive_layout import call, header, indented
-from derive_names import EVENTS, FAULTS, RUST_NAMES, VALUE_TYPES, VISITS, antt_uses, rust_uses
+from derive_names import VALUES, RULES, RUST_NAMES, VALUE_TYPES, OBJECTS, antt_uses, rust_uses
 from derive_sources import CRATES
 
 # The methods that the events call.
@@ -95,7 +95,7 @@ class Values:
                 text, used[name] = re.sub(rf"{path}\b", name, text), module
         enum = [*ENUM_DOC.strip("\n").split("\n"), *indented(text.split("\n")), "}"]
         used.update(VALUE_TYPES)
-        self.files.whole(CRATES / VISITS / "src/value_ref.rt", [
+        self.files.whole(CRATES / OBJECTS / "src/value_ref.rt", [
             *header(FROM, "//!"), "", *rust_uses(enum, {}, used), *enum])
 
     def write_outlines(self):
@@ -134,8 +134,8 @@ class Values:
             "abbrev pub is_looked_at : ValueRef → Bool", *looked, "is_looked_at v = is_found v"]
         own = ("outline_of", "is_looked_at", "IsNumbered", "is_found")
         known = {name: path for name, path in self.table.ghost_names().items() if name not in own}
-        declared = f"use Rattle.{VISITS}.specs.declared.value_ref.ValueRef"
-        self.files.whole(CRATES / VISITS / "specs/ValueRefs.antt", [
+        declared = f"use Rattle.{OBJECTS}.specs.declared.value_ref.ValueRef"
+        self.files.whole(CRATES / OBJECTS / "specs/ValueRefs.antt", [
             *header(FROM, "--"), *antt_uses("\n".join(lines), known), f"{declared}.{{ValueRef}}",
             f"{declared}.TheVariants as value_ref", "", *lines])
 
@@ -169,11 +169,11 @@ class Values:
                  *indented(events, 2), "    }", "}", "",
                  *QUIET_DOC.strip("\n").split("\n"), "{", "    match value {",
                  *indented(looks, 2), "    }", "}"]
-        names = {name: VISITS if module.startswith("crate::") else module
+        names = {name: OBJECTS if module.startswith("crate::") else module
                  for name, module in RUST_NAMES.items()}
         calls = re.findall(r"[a-z_]+(?=\()", "\n".join(events + looks))
-        names.update({name: VISITS for name in calls if name not in METHODS})
-        names.update({"FromEvent": "super", "HasContext": FAULTS})
-        self.files.whole(CRATES / EVENTS / "src/derived.rt", [
+        names.update({name: OBJECTS for name in calls if name not in METHODS})
+        names.update({"FromEvent": "super", "HasContext": RULES})
+        self.files.whole(CRATES / VALUES / "src/derived.rt", [
             *header(FROM, "//!"), "",
             *rust_uses(lines, self.table.ghost_names(), names, ["Events", "Quiet"]), *lines])

@@ -7,7 +7,7 @@ from derive_exceptions import (
 )
 from derive_layout import LINE, block, call, ghosts, header, indented
 from derive_names import (
-    RUST_NAMES, ROOT_CRATE, VALIDATION, VISITS, antt_uses, rust_uses, tactic_names,
+    RUST_NAMES, ROOT_CRATE, VALIDATION, OBJECTS, antt_uses, rust_uses, tactic_names,
 )
 from derive_sources import CRATES
 from derive_values import Values
@@ -45,7 +45,7 @@ class Walk:
         for group in self.groups.values():
             self.write_group(group)
         names = [f"mod {group.name};" for group in self.groups.values() if group.blocks]
-        self.files.whole(CRATES / VISITS / "src/derived.rt", [
+        self.files.whole(CRATES / OBJECTS / "src/derived.rt", [
             *header(["the rows and the structs of all objects"], "//!"), "", *sorted(names)])
         self.write_member_names()
         self.values.write()
@@ -72,7 +72,7 @@ class Walk:
     def write_group(self, group):
         if not group.blocks:
             return
-        names, paths = self.local_names([path for path, _ in group.blocks], VISITS)
+        names, paths = self.local_names([path for path, _ in group.blocks], OBJECTS)
         lines = []
         for path, block_lines in group.blocks:
             lines += ["", *[line.replace("§", names[path]) for line in block_lines]]
@@ -83,7 +83,7 @@ class Walk:
         sources = dict.fromkeys(path for made in group.owners
                                 for path in (made.source(), made.spec_path()))
         uses = rust_uses(lines, self.ghosts, {**RUST_NAMES, **paths})
-        self.files.whole(CRATES / VISITS / "src/derived" / f"{group.name}.rt", [
+        self.files.whole(CRATES / OBJECTS / "src/derived" / f"{group.name}.rt", [
             *header(sorted(sources), "//!"), *attribute, "", *uses, *lines[1:]])
 
     def local_names(self, paths, crate):
@@ -181,10 +181,10 @@ class Walk:
         row, text = EVENT_ANSWERS[made.base]
         lines = text.strip("\n").replace("§", str(at[row])).split("\n")
         module = f"derived.{self.group.name}.{made.name}Events.event"
-        self.files.whole(CRATES / VISITS / "proofs" / module.replace(".", "/") / "Answers.antt", [
+        self.files.whole(CRATES / OBJECTS / "proofs" / module.replace(".", "/") / "Answers.antt", [
             *header([made.source(), made.spec_path(), "tools/derive_exceptions.py"], "--"),
             *antt_uses("\n".join(lines), self.ghosts),
-            f"use Rattle.{VISITS}.proofs.{module}.Goals as goal", "", *lines])
+            f"use Rattle.{OBJECTS}.proofs.{module}.Goals as goal", "", *lines])
         self.files.count(made, lines)
 
     def write_textures(self, rows):
@@ -233,16 +233,16 @@ class Walk:
                 "    }",
                 "}"])]
         self.files.count(of, source)
-        self.files.whole(CRATES / VISITS / "src/member_name.rt", [
+        self.files.whole(CRATES / OBJECTS / "src/member_name.rt", [
             *head, "", *rust_uses(source, self.ghosts, {}), *source])
-        declared = f"use Rattle.{VISITS}.specs.declared.member_name.MemberName"
+        declared = f"use Rattle.{OBJECTS}.specs.declared.member_name.MemberName"
         lines = ["-- the names of members that refer to textures",
                  "abbrev pub member_text : MemberName → List ℕ",
                  *[f'member_text member_name.{name} = codes "{text}"'
                    for name, text in names.items()]]
         self.files.count(of, lines)
         own = {name: path for name, path in self.ghosts.items() if name != "member_text"}
-        self.files.whole(CRATES / VISITS / "specs/MemberNames.antt", [
+        self.files.whole(CRATES / OBJECTS / "specs/MemberNames.antt", [
             *header(["the rows of the objects that refer to textures"], "--"),
             *antt_uses("\n".join(lines), own), f"{declared}.{{MemberName}}",
             f"{declared}.TheVariants as member_name", "", *lines])

@@ -14,10 +14,10 @@ pub mod Primitives
 pub mod Silent
 pub mod Enabled
 pub mod InvalidReported
-pub mod ReportedData
-pub mod ReportedMaterials
-pub mod ReportedScenes
 pub mod ReportedDocuments
+pub mod ReportedParts
+pub mod ReportedScene
+pub mod ReportedRoot
 pub mod PlainPushes
 pub mod Shifting
 pub mod Widening

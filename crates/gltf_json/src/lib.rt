@@ -79,7 +79,7 @@ pub mod root {
 /// Validation: the faults of a document, and reports of them.
 pub mod validation {
     pub use gltf_base::validation::{Checked, Error, USize64};
-    pub use gltf_sinks::{By, Collect, Count, Never, Sink, Stop, Take};
+    pub use gltf_sinks::{By, Collect, Count, Sink, Stop, Take};
     pub use gltf_validation::validation::Validate;
     pub use gltf_validation_clean::{Clean, CleanError, Item, Refused, Report};
     pub use gltf_validation_rules::Rules;

@@ -57,16 +57,6 @@ impl<R: Display> Display for Stop<R> {
 
 impl<R: Debug + Display + Drop> std::error::Error for Stop<R> {}
 
-/// Why a sink refuses a report, if it refuses none: a type without values.
-#[derive(Clone, Copy, Debug, Drop, PartialEq, Eq)]
-pub enum Never {}
-
-impl Display for Never {
-    fn fmt<W: Write>(&self, _f: &mut Formatter<W>) -> fmt::Result {
-        match *self {}
-    }
-}
-
 /// A sink that counts reports. It refuses none, and stops rising at the greatest number it can
 /// hold.
 #[derive(Clone, Debug, Drop)]
@@ -91,7 +81,7 @@ impl Count {
 }
 
 impl Sink for Count {
-    type Refusal = Never;
+    type Refusal = ();
 
     ghost State = { ℕ };
 
@@ -101,7 +91,7 @@ impl Sink for Count {
 
     ghost refuses = { λ _ _ _ _ _. ⊥ };
 
-    fn report(&mut self, _path: &Steps<'_>, _error: Error) -> Result<(), Never> {
+    fn report(&mut self, _path: &Steps<'_>, _error: Error) -> Result<(), ()> {
         self.count = self.count.saturating_add(1);
         Ok(())
     }

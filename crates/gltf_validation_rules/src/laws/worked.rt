@@ -113,7 +113,7 @@ pub fn worked_documents()
 {}
 
 /// What is wrong in documents by the caller's rules.
-#[tactic(auto, unfolding(gltf_root::specs::Root::root_rows, gltf_root::specs::Asset::asset_rows, gltf_parts::specs::Texture::texture_rows))]
+#[tactic(auto, unfolding(gltf_root::specs::Root::root_rows, gltf_scene::specs::Asset::asset_rows, gltf_parts::specs::Texture::texture_rows))]
 pub fn worked_rules()
     ensures no_image { reports_ruled true enabled_with_empty_textures
         (with_one (codes "textures") no_members) ≡ Some [] }
@@ -135,7 +135,7 @@ pub fn worked_rules()
 {}
 
 /// What documents are written as.
-#[tactic(auto, unfolding(gltf_root::specs::Root::root_rows, gltf_root::specs::Asset::asset_rows, gltf_parts::specs::Accessor::accessor_rows, gltf_parts::specs::Texture::texture_rows, gltf_scene::specs::Scene::node_rows, gltf_scene::specs::Scene::node_extension_rows, gltf_scene::specs::Animation::animation_rows))]
+#[tactic(auto, unfolding(gltf_root::specs::Root::root_rows, gltf_scene::specs::Asset::asset_rows, gltf_parts::specs::Accessor::accessor_rows, gltf_parts::specs::Texture::texture_rows, gltf_scene::specs::Scene::node_rows, gltf_scene::specs::Scene::node_extension_rows, gltf_scene::specs::Animation::animation_rows))]
 pub fn worked_writings()
     ensures bare { written_of (with_asset no_members) ≡ Some (with_asset no_members) }
     ensures no_image { written_of (with_one (codes "textures") no_members)
@@ -165,7 +165,7 @@ pub fn worked_writings()
 {}
 
 /// Documents with an item pushed onto a list, and their reports.
-#[tactic(auto, unfolding(gltf_root::specs::Root::root_rows, gltf_root::specs::RootExtension::root_extension_rows, gltf_root::specs::RootExtension::lights_rows, gltf_root::specs::RootExtension::variants_rows, gltf_root::specs::Asset::asset_rows, gltf_scene::specs::Light::light_rows, gltf_scene::specs::Light::variant_rows, gltf_parts::specs::Buffer::view_rows, gltf_scene::specs::Scene::node_rows))]
+#[tactic(auto, unfolding(gltf_root::specs::Root::root_rows, gltf_root::specs::RootExtension::root_extension_rows, gltf_root::specs::RootExtension::lights_rows, gltf_root::specs::RootExtension::variants_rows, gltf_scene::specs::Asset::asset_rows, gltf_scene::specs::Light::light_rows, gltf_scene::specs::Light::variant_rows, gltf_parts::specs::Buffer::view_rows, gltf_scene::specs::Scene::node_rows))]
 pub fn worked_pushes()
     // A light makes the objects that it is listed in.
     ensures first_light { pushed_in ListName.lights point_light (with_asset no_members)
@@ -199,7 +199,7 @@ pub fn worked_pushes()
 {}
 
 /// Which documents and objects are plain.
-#[tactic(auto, unfolding(gltf_root::specs::Root::root_rows, gltf_root::specs::RootExtension::root_extension_rows, gltf_root::specs::Asset::asset_rows, gltf_parts::specs::Accessor::accessor_rows, gltf_parts::specs::Accessor::sparse_indices_rows, gltf_scene::specs::Scene::node_extension_rows, gltf_scene::specs::Light::light_of_node_rows))]
+#[tactic(auto, unfolding(gltf_root::specs::Root::root_rows, gltf_root::specs::RootExtension::root_extension_rows, gltf_scene::specs::Asset::asset_rows, gltf_parts::specs::Accessor::accessor_rows, gltf_parts::specs::Accessor::sparse_indices_rows, gltf_scene::specs::Scene::node_extension_rows, gltf_scene::specs::Light::light_of_node_rows))]
 pub fn worked_plainness()
     ensures what_is_read { plain_in (with_accessor (accessor_of (whole 1) (whole 5126) no_members))
         ≡ Some true }

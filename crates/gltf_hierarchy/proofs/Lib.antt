@@ -3,4 +3,10 @@ pub mod Above
 pub mod Adopting
 pub mod Parenting
 pub mod Trees
+pub mod Trailing
+pub mod Rounds
+pub mod Listing
 pub mod Deepening
+pub mod Ordered
+pub mod Carrying
+pub mod Meeting

@@ -5,3 +5,9 @@ pub mod Order
 pub mod Sorting
 pub mod Depths
 pub mod Forest
+pub mod Joints
+pub mod Gathering
+pub mod Cycles
+pub mod Trailing
+pub mod Faults
+pub mod Listing

@@ -21,6 +21,13 @@ pub record IsOrder (parents : List (Option ℕ)) (order : List ℕ) : Type 0 whe
   pub once : (i j n : ℕ) → slice_get order i ≡ Some n → slice_get order j ≡ Some n → i ≡ j
   pub parents_first : (i n p : ℕ) → slice_get order i ≡ Some n → IsParent parents n p → (j : ℕ) × (j < i) × (slice_get order j ≡ Some p)
 
+-- the same, without a choice of places
+pub record IsOrdered (parents : List (Option ℕ)) (order : List ℕ) : Type 0 where
+  pub nodes : (i n : ℕ) → slice_get order i ≡ Some n → n < length parents
+  pub each : (n : ℕ) → n < length parents → ((i : ℕ) → slice_get order i ≡ Some n → ⊥) → ⊥
+  pub once : (i j n : ℕ) → slice_get order i ≡ Some n → slice_get order j ≡ Some n → i ≡ j
+  pub parents_first : (i j n p : ℕ) → slice_get order i ≡ Some n → IsParent parents n p → slice_get order j ≡ Some p → j < i
+
 -- a cycle, if it isn't out of memory
 abbrev pub IsAtFault : List (Option ℕ) → HierarchyFault → Type 0
 IsAtFault parents (Cycle n) = (k : ℕ) × IsAbove parents (suc k) n n

@@ -1,5 +1,5 @@
 -- What holds while nodes are put in order.
-use Rattle.std.specs.Prelude.{◌≡◌, ℕ, [], replicate, ◌<◌, ◌≤◌, ◌+◌, ◌-◌, List, length, Option, Some, None, ◌⊎◌}
+use Rattle.std.specs.Prelude.{◌≡◌, ℕ, [], replicate, ◌<◌, ◌≤◌, ◌+◌, ◌-◌, List, length, Option, Some, None, ◌⊎◌, ◌==◌, if◌then◌else◌}
 use Rattle.std.proofs.Common.{get_or}
 use Rattle.gltf_hierarchy.specs.declared.sorter.Sorter.{Sorter}
 
@@ -45,3 +45,7 @@ pub record IsNew (count : ℕ) (s : Sorter) : Type 0 where
   pub steps : s.steps.items ≡ replicate count 0
   pub order : s.order.items ≡ []
   pub chain : s.chain.items ≡ []
+
+-- 1 for a node that was never in a chain
+abbrev pub unseen : ℕ → ℕ
+unseen step = if step == 0 then 1 else 0

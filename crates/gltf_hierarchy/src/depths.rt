@@ -28,7 +28,7 @@ pub fn depths_of(
 }
 
 /// So many zeros.
-fn zeros(alloc: Global, count: usize) -> Result<Vec<usize>, AllocError>
+pub fn zeros(alloc: Global, count: usize) -> Result<Vec<usize>, AllocError>
     ensures { IfOk result (λ depths. depths.items ≡ replicate count 0) }
 {
     vec![in alloc; 0; count]

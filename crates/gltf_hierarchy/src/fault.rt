@@ -37,3 +37,19 @@ pub enum HierarchyFault {
     #[error("out of memory")]
     Memory(AllocError),
 }
+
+/// Why joints have no answer.
+#[derive(Debug, Drop, Error)]
+pub enum JointFault {
+    /// A joint is the number of no node.
+    #[error("joint {place} is node {node}, which does not exist")]
+    NoSuchNode {
+        /// The place of the joint in the list.
+        place: usize,
+        /// The number that is no node's.
+        node: u32,
+    },
+    /// Out of memory.
+    #[error("out of memory")]
+    Memory(AllocError),
+}

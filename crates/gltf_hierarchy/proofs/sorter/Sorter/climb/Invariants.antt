@@ -1,6 +1,6 @@
-use Rattle.std.proofs.Common.{◌≡◌, ℕ, ◌<◌, List, length, get_or, Option, Some, ◌⊎◌, if◌then◌else◌}
-use Rattle.std.specs.Prelude.{sum_by, ◌==◌}
-use Rattle.gltf_hierarchy.specs.Sorting.{Holds, IsAt}
+use Rattle.std.proofs.Common.{◌≡◌, ℕ, ◌<◌, List, length, get_or, Option, Some, ◌⊎◌}
+use Rattle.std.specs.Prelude.{sum_by}
+use Rattle.gltf_hierarchy.specs.Sorting.{Holds, IsAt, unseen}
 use Rattle.gltf_hierarchy.proofs.sorter.Sorter.climb.Given as goal
 use Rattle.gltf_hierarchy.specs.declared.sorter.Sorter.{Sorter}
 
@@ -13,10 +13,6 @@ pub record IsClimbing (parents : List (Option ℕ)) (start : ℕ) (old s : Sorte
 
 abbrev pub invariant-loop-at : goal.invariant-loop-at
 invariant-loop-at l = IsClimbing l.parents l.start l.initial.self l.self l.at
-
--- 1 for a node that was never in a chain
-abbrev pub unseen : ℕ → ℕ
-unseen step = if step == 0 then 1 else 0
 
 abbrev pub decreases-loop-at : goal.decreases-loop-at
 decreases-loop-at l = sum_by unseen l.self.steps.items

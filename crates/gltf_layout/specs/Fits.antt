@@ -1,5 +1,5 @@
 -- Accessors that fit their views, and views that fit their buffers (glTF 2.0, section 3.6.2.4).
-use Rattle.std.specs.Prelude.{◌≡◌, ◌≢◌, ℕ, ◌+◌, ◌-◌, ◌*◌, ◌%◌, ◌<◌, ◌≤◌, Option, unwrap_or}
+use Rattle.std.specs.Prelude.{◌≡◌, ◌≢◌, ℕ, ◌+◌, ◌-◌, ◌*◌, ◌%◌, ◌<◌, ◌≤◌, unwrap_or}
 use Rattle.gltf_layout.specs.declared.view.ViewLayout.{ViewLayout}
 use Rattle.gltf_layout.specs.declared.span.AccessorLayout.{AccessorLayout}
 use Rattle.gltf_layout.specs.declared.span.Span.{Span}

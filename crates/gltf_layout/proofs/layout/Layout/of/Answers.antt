@@ -1,0 +1,27 @@
+use Rattle.std.proofs.Common.{◌≡◌, length, ◌<◌, refl, subst, arith}
+use Rattle.gltf_layout.specs.Places.{HavePlaces}
+use Rattle.gltf_layout.proofs.Checked.{pushed, have_places}
+use Rattle.gltf_layout.proofs.Truths.{no_accessor_place}
+use Rattle.gltf_layout.proofs.layout.Layout.of.Goals as goal
+
+pub returns-in-Err-clause-only : goal.returns-in-Err-clause-only
+returns-in-Err-clause-only g c = λ layout.
+    let d = g.D.Storage.stored c.args.document.now in
+    let small : c.loop-accessor.accessor < length d.accessors = omega arith in
+    let found = layout.1 c.loop-accessor.accessor c.accessor.result (omega arith) small c.accessor.ensures in
+    no_accessor_place d c.accessor.result c.in-Err.fault found.0 c.in-Err.ensures.fault found.1
+
+pub returns-in-Err-clause-fault : goal.returns-in-Err-clause-fault
+returns-in-Err-clause-fault g c =
+    let d = g.D.Storage.stored c.args.document.now in
+    let small : c.loop-accessor.accessor < length d.accessors = omega arith in
+    (c.in_default.ensures.none refl, (omega arith, small, have_places d c.loop-accessor.places.items c.loop-accessor.accessor c.loop-accessor.invariant, c.accessor.result, c.accessor.ensures, c.in-Err.ensures.fault))
+
+pub loop-accessor-preserved : goal.loop-accessor-preserved
+loop-accessor-preserved g c = pushed (g.D.Storage.stored c.args.document.now) c.loop-accessor.places.items c.push.new.self.items c.loop-accessor.accessor c.accessor.result c.in-Ok.place c.in_default-push.ensures.items c.loop-accessor.invariant c.accessor.ensures c.in-Ok.ensures.place
+
+pub returns-clause-layout : goal.returns-clause-layout
+returns-clause-layout g c =
+    let d = g.D.Storage.stored c.args.document.now in
+    let all : c.loop-accessor.accessor ≡ length d.accessors = omega arith in
+    (c.in_default.ensures.none refl, subst (λ n. HavePlaces d 0 n) all (have_places d c.loop-accessor.places.items c.loop-accessor.accessor c.loop-accessor.invariant))

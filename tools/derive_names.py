@@ -8,7 +8,7 @@ LINE = 100
 # The crates, by what they have.
 SCHEMA, RULES, ROOT_CRATE = "gltf_schema", "gltf_validation_rules", "gltf_root"
 OBJECTS, VALUES, VALIDATION = "gltf_validation_objects", "gltf_validation_values", "gltf_validation"
-BASE = "gltf_base"
+BASE, CORPUS, FACADE = "gltf_base", "gltf_vectors_corpus", "gltf_json"
 
 # Definitions of std, the kit and the crates without objects, by their modules.
 MODULES = {

@@ -182,9 +182,7 @@ class Table:
                         f"{made.source().relative_to(ROOT)}")
         made.fields = {one.name: one.signature.partition(": ")[2] for one in item.members}
         made.drops = "Drop" in item.derives
-        made.constants = {one.name for block in self.sources.module(rust[:-1]).impls
-                          if block.signature == f"impl {made.name}" for one in block.members
-                          if one.kind == "const"}
+        made.constants = self.sources.constants(rust)
         self.fit_members(made)
         self.fit_fields(made)
 

@@ -69,6 +69,12 @@ class Sources:
             module = module[:-1]
         return (*module, name)
 
+    def constants(self, path):
+        """The names of the constants of a type."""
+        return {one.name for block in self.module(path[:-1]).impls
+                if block.signature == f"impl {path[-1]}" for one in block.members
+                if one.kind == "const"}
+
     def item(self, path):
         holder = self.module(path[:-1]) if len(path) > 1 else None
         return holder.items.get(path[-1]) if holder else None

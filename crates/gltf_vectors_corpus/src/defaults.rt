@@ -1,89 +1,16 @@
 //! Compares what absent numbers mean with what `data/objects.json` expects. Each constant is under
-//! the names of the object and of the member that may be absent.
+//! the names of the object and of the member that may be absent (`derived.rt`).
 
 use crate::objects::{are_same, object_at};
 use anyhow::Result;
 use gltf_json::Value;
-use gltf_json::extensions::material::{
-    AttenuationColor, AttenuationDistance, EmissiveStrengthFactor, IndexOfRefraction,
-    PbrDiffuseFactor, PbrSpecularFactor, SpecularColorFactor, SpecularFactor, ThicknessFactor,
-    TransmissionFactor,
-};
-use gltf_json::extensions::scene::khr_lights_punctual::{Light, Spot};
-use gltf_json::extensions::texture::{
-    TextureTransformOffset, TextureTransformRotation, TextureTransformScale,
-};
-use gltf_json::material::{
-    AlphaCutoff, EmissiveFactor, NormalTexture, PbrBaseColorFactor, StrengthFactor,
-};
-use gltf_json::scene::Node;
+use gltf_json::extensions::material::AttenuationDistance;
 use serde_json::{Map, Number};
 use std::alloc::{AllocError, Global};
 
-/// What one absent number means.
-const NUMBERS: &[(&str, f64)] = &[
-    (
-        "EmissiveStrength.emissiveStrength",
-        EmissiveStrengthFactor::DEFAULT,
-    ),
-    ("Ior.ior", IndexOfRefraction::DEFAULT),
-    ("Light.intensity", Light::DEFAULT_INTENSITY),
-    ("Material.alphaCutoff", AlphaCutoff::DEFAULT),
-    ("NormalTexture.scale", NormalTexture::DEFAULT_SCALE),
-    ("OcclusionTexture.strength", StrengthFactor::DEFAULT),
-    (
-        "PbrMetallicRoughness.metallicFactor",
-        StrengthFactor::DEFAULT,
-    ),
-    (
-        "PbrMetallicRoughness.roughnessFactor",
-        StrengthFactor::DEFAULT,
-    ),
-    (
-        "PbrSpecularGlossiness.glossinessFactor",
-        StrengthFactor::DEFAULT,
-    ),
-    ("Specular.specularFactor", SpecularFactor::DEFAULT),
-    ("Spot.innerConeAngle", Spot::DEFAULT_INNER_CONE_ANGLE),
-    ("Spot.outerConeAngle", Spot::DEFAULT_OUTER_CONE_ANGLE),
-    (
-        "TextureTransform.rotation",
-        TextureTransformRotation::DEFAULT,
-    ),
-    (
-        "Transmission.transmissionFactor",
-        TransmissionFactor::DEFAULT,
-    ),
-    ("Volume.thicknessFactor", ThicknessFactor::DEFAULT),
-];
+mod derived;
 
-/// What absent arrays of numbers mean.
-const ARRAYS: &[(&str, &[f64])] = &[
-    ("Light.color", &Light::DEFAULT_COLOR),
-    ("Material.emissiveFactor", &EmissiveFactor::DEFAULT),
-    ("Node.rotation", &Node::DEFAULT_ROTATION),
-    ("Node.scale", &Node::DEFAULT_SCALE),
-    ("Node.translation", &Node::DEFAULT_TRANSLATION),
-    (
-        "PbrMetallicRoughness.baseColorFactor",
-        &PbrBaseColorFactor::DEFAULT,
-    ),
-    (
-        "PbrSpecularGlossiness.diffuseFactor",
-        &PbrDiffuseFactor::DEFAULT,
-    ),
-    (
-        "PbrSpecularGlossiness.specularFactor",
-        &PbrSpecularFactor::DEFAULT,
-    ),
-    (
-        "Specular.specularColorFactor",
-        &SpecularColorFactor::DEFAULT,
-    ),
-    ("TextureTransform.offset", &TextureTransformOffset::DEFAULT),
-    ("TextureTransform.scale", &TextureTransformScale::DEFAULT),
-    ("Volume.attenuationColor", &AttenuationColor::DEFAULT),
-];
+use derived::{ARRAYS, NUMBERS};
 
 /// A number of JSON; null for what JSON has no number for.
 fn value_of(number: Option<f64>) -> Value {

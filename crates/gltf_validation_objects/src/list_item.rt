@@ -2,8 +2,8 @@
 
 ghost use Rattle.std.specs.Prelude.{◌≡◌};
 ghost use Rattle.gltf_base.specs.Lists.{ListName};
-ghost use Rattle.gltf_schema.specs.Fields.{list_tree};
-ghost use Rattle.gltf_schema.specs.Kind.{ListOf};
+ghost use Rattle.gltf_schema.specs.Fields.{index_tree, list_tree};
+ghost use Rattle.gltf_schema.specs.Kind.{IndexInto, ListOf};
 ghost use Rattle.gltf_schema.specs.Tree.{absent};
 ghost use Rattle.gltf_validation_rules.specs.Context.{Context as SpecContext};
 ghost use Rattle.gltf_validation_objects.specs.ValueRefs.{outline_of};
@@ -40,8 +40,20 @@ impl<T: ListItem> Quiet for Vec<T> {
     }
 }
 
-impl ListItem for Index<Node> {
-    fn list_ref<'a>(items: &'a Vec<Index<Node>>) -> ValueRef<'a> {
-        ValueRef::NodeIndexes(items)
+// Not by `ListItem`: of an impl of a trait for `Index<Node>`, whose `Quiet` is generic, the checker
+// makes a statement that it refuses itself.
+impl Visitable for Vec<Index<Node>> {
+    ghost kind = { ListOf (IndexInto ListName.nodes) };
+
+    ghost tree = { λ v. list_tree index_tree v.items };
+
+    fn value_ref<'a>(&'a self, _context: &Context<'_>) -> ValueRef<'a> {
+        ValueRef::NodeIndexes(self)
+    }
+}
+
+impl Quiet for Vec<Index<Node>> {
+    fn is_quiet<C: HasContext>(&self, context: &C) -> bool {
+        are_quiet(self, context)
     }
 }

@@ -1,7 +1,6 @@
 //! The tests that only code can be: results of calls that no document shows, devices and memory
-//! that fail, objects that are made by hand, and types of users. What a document can show, calls on
-//! it among them, is in `gltf_vectors_corpus`. The tests are here because a crate with tests is proved
-//! twice.
+//! that fail, values built by hand, and types of users. All that a document can show is in
+//! `gltf_vectors_corpus`. The tests are here because a crate with tests is proved twice.
 //!
 //! Each comparison is a function of its own that returns whether it holds. A test that asserts
 //! while it holds what it read, or goes over an array of tuples, takes many times as long to prove.
@@ -10,9 +9,9 @@
 #[cfg(test)]
 mod base;
 #[cfg(test)]
-mod documents;
+mod borrowed;
 #[cfg(test)]
-mod errors;
+mod documents;
 #[cfg(test)]
 mod lines;
 #[cfg(test)]

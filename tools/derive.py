@@ -2,14 +2,16 @@
 
 Writes what follows from the struct, the rows, the kind and the members of each object of the table,
 in files of their own: derive_crate.py says what of its own crate, derive_walk.py and
-derive_values.py what of the crates above, derive_reported.py what a law depends on, and
-derive_defaults.py which constants the corpus compares. `Drop` has to stand beside the struct: it is
-between two marks. What can't be derived is in derive_exceptions.py, and the names of crates are in
-derive_names.py. With `--check` it writes nothing, prints what differs, and ends with status 1 if a
-file has another text. With `--report` it only prints how many lines of each object are derived."""
+derive_values.py what of the crates above, derive_reported.py what a law depends on,
+derive_defaults.py which constants the corpus compares, and derive_choices.py what follows from a
+choice of gltf_base. `Drop` has to stand beside the struct: it is between two marks. What can't be
+derived is in derive_exceptions.py, and the names of crates are in derive_names.py. With `--check`
+it writes nothing, prints what differs, and ends with status 1 if a file has another text. With
+`--report` it only prints how many lines of each object are derived."""
 import re
 import sys
 
+from derive_choices import write_choices
 from derive_crate import Modules
 from derive_defaults import write_defaults
 from derive_exceptions import BY_HAND
@@ -29,6 +31,7 @@ def derive(table):
     Walk(table, files).write()
     write_reported(table, files)
     write_defaults(table, files)
+    write_choices(table.sources, files)
     for path in sorted(CRATES.glob("*/*/**/*")):
         if path.suffix in (".rt", ".antt") and path not in files.after:
             if re.match(r"\S+ Written by tools/derive\.py from", path.read_text()):

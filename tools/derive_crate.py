@@ -1,15 +1,26 @@
 """What an object's own crate has of it: `Drop` beside the struct, and in files of their own
-`Object`, the answers of `read_members` and of `write_members`, the values of factors, and in
-`specs/` that its kind is sound and how high it is."""
+`Object`, the answers of `read_rows` and of `write_members`, the values of factors, and in `specs/`
+that its kind is sound and how high it is."""
 from derive_exceptions import FACTS, Fact
 from derive_factors import Factor, object_values
 from derive_layout import block, call, ghosts, header, indented, struct
-from derive_names import RUST_NAMES, SCHEMA, antt_uses, rust_uses
-from derive_rows import text_of
+from derive_names import RUST_NAMES, SCHEMA, antt_uses, rust_uses, tactic_names
+from derive_rows import Wrong, text_of
 from derive_sources import CRATES
 
 # The name of the module with the derived text of a module.
 DERIVED = "derived"
+# A value of each type that isn't an object, for a member that has to be there.
+ANY_VALUES = {
+    "u32": "0",
+    "USize64": "USize64(0)",
+    "Real": "Real::from_i64(0)",
+    "String": "String::new(alloc)",
+    "Index": "Index::new(0)",
+    "Checked": "Checked::Invalid",
+    "Vec": "Vec::new(alloc)",
+    "BTreeMap": "BTreeMap::new(alloc)",
+}
 
 
 class Modules:
@@ -83,6 +94,17 @@ class Modules:
         return {name: module for name, module in self.ghosts.items() if name not in own}
 
 
+class Calls:
+    """The facts of a function's calls: those of one name are numbered from the second on."""
+
+    def __init__(self):
+        self.counts = {}
+
+    def next(self, name):
+        self.counts[name] = self.counts.get(name, 0) + 1
+        return f"c.{name}-{self.counts[name]}" if self.counts[name] > 1 else f"c.{name}"
+
+
 class CrateTexts:
     """The texts of one object in its own crate."""
 
@@ -101,7 +123,7 @@ class CrateTexts:
         if values := object_values(made):
             modules.add(made, made.crate, made.module, values)
         folder = (CRATES / made.crate / "proofs").joinpath(*made.module, DERIVED)
-        for function, lines in (("read_members", self.read_answers()),
+        for function, lines in (("read_rows", self.read_answers()),
                                 ("write_members", self.write_answers())):
             files.whole(folder / f"{made.name}Object" / function / "Answers.antt", lines)
             files.count(made, lines)
@@ -129,25 +151,53 @@ class CrateTexts:
             ("height_bounds_kind", f"({made.base}_height.1, lit≤ tt)"),
         ])
         return block(f"impl Object for {made.name}",
-                     [*members, *self.read_members(), "", *self.write_members()])
+                     [*members, *self.start(), "", *self.count_required(), "",
+                      *self.read_rows(), "", *self.write_members()])
 
-    def read_members(self):
+    def unfolding(self, *words):
+        """The attribute of a function that `auto` proves by the definitions of these words."""
+        module = f"crate.specs.{self.made.spec}"
+        names = ", ".join(tactic_names(module, f"{self.made.base}_{word}") for word in words)
+        return f"#[tactic(auto, unfolding({names}))]"
+
+    def start(self):
         made = self.made
-        lines = [line for row in made.rows for line in self.read_row(row)]
-        if not self.is_plain:
-            lines.append("let others = from.others();")
-        fields = [self.field_of(row) for row in made.rows] + ["others"] * (not self.is_plain)
-        lines += struct(made.name, fields)
-        return [f"fn read_members<R: ReadRows>(from: &mut R) -> {made.name} {{",
-                *indented(lines), "}"]
+        fields = [f"{row.field}: {self.first_value(row)}" for row in made.rows]
+        fields += ["others: Map::new(alloc)"] * (not self.is_plain)
+        body = struct(made.name, fields)
+        alloc = "alloc" if any("(alloc)" in line for line in body) else "_alloc"
+        return [self.unfolding("rows", "members"),
+                f"fn start({alloc}: Global) -> {made.name} {{", *indented(body), "}"]
 
-    def field_of(self, row):
-        """The field of a row, from the value that was read."""
-        if row.kind == ("ChannelSampler",):
-            return f"{row.field}: Index::new({row.field})"
+    def first_value(self, row):
+        """The value of a row's field before its member is read."""
         if self.table.factor_of(self.made, row.type):
-            return f"{row.field}: {row.type.split('::')[-1]}({row.field})"
-        return row.field
+            return f"{row.type.split('::')[-1]}(None)"
+        if row.mark[0] == "required":
+            return self.any_value(row)
+        if row.is_list():
+            return "Vec::new(alloc)"
+        return self.table.default(self.made, row) if row.default() else "None"
+
+    def any_value(self, row):
+        """A value of a row's field that means nothing, because a member has to take its place."""
+        head = row.type.partition("<")[0]
+        if head in ANY_VALUES:
+            return ANY_VALUES[head]
+        if not self.table.object_of(self.made, row.kind):
+            raise Wrong(self.made.spec_path(), row.line, f"the row '{row.name}' is required, and "
+                        f"derive_crate.py has no value of '{row.type}' in ANY_VALUES")
+        return f"{row.type}::start(alloc)"
+
+    def count_required(self):
+        return [self.unfolding("rows"), "fn count_required() -> usize {",
+                *indented([str(self.made.count_required())]), "}"]
+
+    def read_rows(self):
+        lines = [line for row in self.made.rows for line in self.read_row(row)]
+        if not self.is_plain:
+            lines.append("from.others(&mut self.others);")
+        return ["fn read_rows<R: ReadRows>(&mut self, from: &mut R) {", *indented(lines), "}"]
 
     def method(self, row):
         """The methods of `ReadRows` and of `WriteRows` for a row."""
@@ -157,14 +207,18 @@ class CrateTexts:
             "sometimes": ("sometimes", "optional"),
             "or_null": ("optional", "or_null"),
             "always": ("or_default", "always"),
-            "unless": ("list", "list") if row.is_list() else ("or_default", "unless"),
+            "unless": ("or_default", "list" if row.is_list() else "unless"),
         }[row.mark[0]]
 
     def read_row(self, row):
-        typed = ": u32" if row.kind == ("ChannelSampler",) else ""
-        method = self.method(row)[0]
-        default = [self.table.default(self.made, row)] if method == "or_default" else []
-        return call(f"let {row.field}{typed} = from.{method}", [f'"{row.name}"', *default], ";", 2)
+        place = f"&mut self.{row.field}"
+        if row.kind == ("ChannelSampler",):
+            return [f"let mut number = self.{row.field}.number();",
+                    *call("from.required", [f'"{row.name}"', "&mut number"], ";", 2),
+                    f"self.{row.field} = Index::new(number);"]
+        if self.table.factor_of(self.made, row.type):
+            place += ".0"
+        return call(f"from.{self.method(row)[0]}", [f'"{row.name}"', place], ";", 2)
 
     def by_name(self):
         """The rows in the byte order of their names."""
@@ -182,32 +236,30 @@ class CrateTexts:
         return ["fn write_members<W: WriteRows>(&self, to: &mut W) {", *indented(lines), "}"]
 
     def read_answers(self):
-        facts = []
+        facts, calls = [], Calls()
         for row in self.made.rows:
             method, mark = self.method(row)[0], row.mark[0]
-            fact = f"c.{method}-{row.field}.ensures"
+            fact = f"{calls.next(method)}.ensures"
             if method == "optional":
                 fact += ".or_null" if mark == "or_null" else ".left_out"
             elif method == "or_default":
-                fact += f".{mark}"
+                fact = f"({fact}.{mark} _)"
             facts.append(self.around(row, "read").text.format(fact))
         extra = self.extra("read")
         used = sorted(["all_read" if self.is_plain else "all_kept", "read_none", "read_row",
                        *extra.names])
-        end = "" if self.is_plain else " c.others-others.ensures"
+        end = "" if self.is_plain else " c.others.ensures"
         return [*self.header(),
                 "-- Each row is read in the table's order.",
                 *extra.uses,
                 f"use Rattle.{SCHEMA}.proofs.RowByRow.{{{', '.join(used)}}}",
-                *self.answers("read_members", used[0], "read", facts, end)]
+                *self.answers("read_rows", used[0], "read", facts, end)]
 
     def write_answers(self):
-        facts, calls = [], {}
+        facts, calls = [], Calls()
         for row in self.by_name():
             method, mark = self.method(row)[1], row.mark[0]
-            calls[method] = calls.get(method, 0) + 1
-            number = f"-{calls[method]}" if calls[method] > 1 else ""
-            fact = f"c.{method}{number}.ensures"
+            fact = f"{calls.next(method)}.ensures"
             if method in ("always", "optional"):
                 fact += f".{mark}"
             if mark == "always":

@@ -21,29 +21,24 @@ class Fact:
 
 
 AP = "use Rattle.std.proofs.Common.{ap}"
-KIND = f"use Rattle.{SCHEMA}.specs.Kind"
+SYM = "use Rattle.std.proofs.Common.{sym}"
 INDEX = f"use Rattle.{SCHEMA}.specs.Tree.{{index}}"
 
 # By the base of the object, the row, and what is done with it.
 FACTS = {
-    # A sampler is read as a number, of which the index is made: no list of a document holds it.
+    # A sampler is read as the number of its index: no list of a document holds it.
     ("animation_channel", "sampler", "read"): Fact(
-        "(sampler_read g.met.R.ReadRows.as_sampler c.new.ensures {})", ["sampler_read"]),
+        "(sampler_read g.met.R.ReadRows.as_sampler (sym c.number-number.ensures) "
+        "c.new-self.ensures {})",
+        ["sampler_read"], (SYM,)),
     ("animation_channel", "sampler", "write"): Fact(
-        "(sampler_written (sym c.number.ensures) {})", ["sampler_written"],
-        ("use Rattle.std.proofs.Common.{sym}",)),
-    # The default is an index that a call makes, and the kind is that of an image.
+        "(sampler_written (sym c.number.ensures) {})", ["sampler_written"], (SYM,)),
+    # The kind is that of an image, and the default is an index that a call makes.
     ("texture", "source", "read"): Fact(
-        "(marked (ap (λ i. unless (index i)) c.new.ensures) "
-        "(source_read g.met.R.ReadRows.as_source {}))",
-        ["marked", "source_read"], (AP, INDEX, f"{KIND}.{{unless}}")),
+        "(source_read g.met.R.ReadRows.as_source {})", ["source_read"]),
     ("texture", "source", "write"): Fact(
         "(default_as (ap index c.new.ensures) (source_written {}))",
         ["default_as", "source_written"], (AP, INDEX)),
-    # The default is an object that a call makes.
-    ("material", "pbrMetallicRoughness", "read"): Fact(
-        "(marked (ap (λ ts. always (closed_object ts)) c.new.ensures) {})", ["marked"],
-        (AP, f"{KIND}.{{always}}", f"use Rattle.{SCHEMA}.specs.Fields.{{closed_object}}")),
 }
 
 # The blocks that are written by hand, with the reason.

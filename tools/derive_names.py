@@ -47,6 +47,7 @@ RUST = {
     f"{BASE}": "Step",
     f"{RULES}": "Context HasContext data_fault position_faults projection_fault source_fault "
                  "spot_fault",
+    "std::alloc": "Global",
     "crate::always_valid": "AlwaysValid",
     "crate::event": "EventBuilder",
     "crate::events": "Events",

@@ -12,6 +12,8 @@ from specs import OWN, Definitions
 
 # A pattern that no type has.
 NO_TYPE = "(?!)"
+# What `MOST_REQUIRED` is in the crate that reads rows.
+MOST_REQUIRED = 8
 
 
 @dataclass
@@ -51,6 +53,10 @@ class Object:
     def path(self):
         """The path of the struct in Rust."""
         return (self.crate, *self.module, self.name)
+
+    def count_required(self):
+        """How many members have to be there."""
+        return sum(1 for row in self.rows if row.mark[0] == "required")
 
     def of_tree(self, value):
         """The tree of a value."""
@@ -167,6 +173,10 @@ class Table:
     def read_object(self, made):
         path = made.spec_path()
         made.rows = Terms(path, f"{made.base}_rows").rows()
+        if made.count_required() > MOST_REQUIRED:
+            row = [row for row in made.rows if row.mark[0] == "required"][MOST_REQUIRED]
+            raise Wrong(path, row.line, f"the row '{row.name}' is required, and an object can have "
+                        f"at most {MOST_REQUIRED} such rows (MOST_REQUIRED of {SCHEMA})")
         line = line_of(path, rf"unfoldable pub {made.base}_members : ")
         typed = re.search(rf"(?m)^unfoldable pub {made.base}_members : (\w+) → Trees$",
                           path.read_text())

@@ -1,8 +1,9 @@
 #!/usr/bin/env python3
 """gen_cases.py: documents that gltf_vectors_corpus reads and writes in two ways, and what becomes of them.
 
-It writes crates/gltf_vectors_corpus/data/cases.jsonl, a case a line, and their number into the last line of
-crates/gltf_vectors_corpus/stdout, or compares both (`--check`). A case has a title, a text or bytes, and
+It writes cases.jsonl, reports.jsonl and built.jsonl in crates/gltf_vectors_corpus/data, a case a line, and
+their numbers into the last lines of crates/gltf_vectors_corpus/stdout, or compares all (`--check`). The
+latter two are those of built_cases.py. A case of the first has a title, a text or bytes, and
 what becomes of them: the line that the document is written as, or the error. A case may also have
 members that objects are to keep in `others`, under the names of src/kept.rt, and extras, and the
 place that the table refuses, as a path and as a JSON pointer.
@@ -10,6 +11,7 @@ What is expected is worked out by hand or by Python's json, never taken from the
 """
 import json
 
+from built_cases import BUILT, FAULTY, FAULTY_WRITTEN, MAPPED, REPORTS, SIX
 from settle import settle
 from sources import ROOT
 
@@ -21,6 +23,9 @@ INVALID = "invalid item"
 
 ASSET = '"asset":{"version":"2.0"}'
 LEAST = "{" + ASSET + "}"
+
+# What gltf_vectors_corpus prints in front of the lines that are written here.
+FIRST_LINE = "# objects: as expected\n"
 
 CASES = []
 
@@ -638,18 +643,52 @@ def invalid():
     invalid_at("two invalid items", two)
 
 
+def fronts():
+    """No front of a document is JSON, but the whole is."""
+    lit = document(behind='"extensions":{"KHR_lights_punctual":{"lights":[{"type":"spot"}]}},'
+                   '"nodes":[{"extensions":{"KHR_lights_punctual":{"light":1}}}]')
+    for text in (LEAST, lit):
+        for length in range(len(text)):
+            case(f"front of {length} bytes: {text}", text[:length], NO_JSON)
+        case(f"whole: {text}", text, None)
+
+
+def single():
+    """Values of each kind with blanks and escapes, a choice past 32 bits, and a byte of no text."""
+    for value, written in (
+        *(("null", None), (" true ", "true"), ("-0.5e+3", "-500.0"), ('"a\\u00e9\\n"', '"aé\\n"')),
+        *(("[[], {}]", "[[],{}]"), ('{"a": 1, "b": [{"a": 2}], "a": 3}', '{"a":3,"b":[{"a":2}]}')),
+    ):
+        becomes = LEAST if written is None else document(behind=f'"extras":{written}')
+        case(f"a value: {value}", document(behind=f'"extras":{value}'), becomes)
+    past = document(behind='"buffers":[{"byteLength":4}],"bufferViews":[{"buffer":0,'
+                    '"byteLength":4}],"accessors":[{"bufferView":0,"count":1,'
+                    '"componentType":4294972416,"type":"SCALAR"}]')
+    case("a choice past 32 bits", past, INVALID)
+    case("a document with a report", FAULTY, FAULTY_WRITTEN)
+    case("a document with a mapping", MAPPED, None)
+    case("a document of six reports", SIX, INVALID)
+    case("a byte of no text", b'{"asset":{"version":"\xff"}}', NO_JSON)
+
+
 def main():
     for make in (
         *(numbers, names_twice, lists, places, attributes, texts, nesting, ends, no_text, keeping),
-        invalid,
+        *(invalid, fronts, single),
     ):
         make()
-    lines = [json.dumps(case_, separators=(",", ":")) for case_ in CASES]
     there = (CORPUS / "stdout").read_text()
-    before = there[:there.rfind("# both ways")] if "# both ways" in there else there
-    last = f"# both ways, and {len(CASES)} cases: as expected\n"
-    cases = "".join(line_ + "\n" for line_ in lines)
-    settle({CORPUS / "data" / "cases.jsonl": cases, CORPUS / "stdout": before + last})
+    before = there[:there.index(FIRST_LINE)] + FIRST_LINE
+    last = (
+        f"# reports, {len(REPORTS)} cases: as expected\n"
+        f"# documents by calls, {len(BUILT)} cases: as expected\n"
+        f"# both ways, and {len(CASES)} cases: as expected\n"
+    )
+    files = {CORPUS / "stdout": before + last}
+    for name, listed in (("cases", CASES), ("reports", REPORTS), ("built", BUILT)):
+        lines = [json.dumps(case_, separators=(",", ":")) + "\n" for case_ in listed]
+        files[CORPUS / "data" / f"{name}.jsonl"] = "".join(lines)
+    settle(files)
 
 
 if __name__ == "__main__":

@@ -1,51 +1,17 @@
 //! The choices of accessors.
 
 ghost use Rattle.std.specs.Prelude.{◌≡◌, map};
-ghost use Rattle.gltf_base.specs.Spelling.{by_number, by_name, item_spelled};
-ghost use Rattle.gltf_base.specs.Choices.{component_type_spelling, generic_component_type_spelling, generic_component_types, index_component_type_spelling, index_component_types, accessor_type_spelling, accessor_types};
-ghost use Rattle.gltf_base.specs.GlNames.{component_type_name};
+ghost use Rattle.gltf_base.specs.Spelling.{by_number, by_name};
+ghost use Rattle.gltf_base.specs.Choices.{generic_component_type_spelling, generic_component_types, index_component_type_spelling, index_component_types, accessor_type_spelling, accessor_types};
 ghost use Rattle.gltf_base.specs.Elements.{component_size, component_count};
 
-use crate::choice::{Choice, Form, Spelling, item_of};
-use crate::validation::Checked;
+mod derived;
+
 pub use AccessorType as Type;
-use std::fmt::{self, Display, Formatter, Write};
-
-/// `GL_BYTE`.
-pub const BYTE: u32 = 5120;
-
-/// `GL_UNSIGNED_BYTE`.
-pub const UNSIGNED_BYTE: u32 = 5121;
-
-/// `GL_SHORT`.
-pub const SHORT: u32 = 5122;
-
-/// `GL_UNSIGNED_SHORT`.
-pub const UNSIGNED_SHORT: u32 = 5123;
-
-/// `GL_UNSIGNED_INT`.
-pub const UNSIGNED_INT: u32 = 5125;
-
-/// `GL_FLOAT`.
-pub const FLOAT: u32 = 5126;
-
-/// The numbers of the component types.
-pub const VALID_COMPONENT_TYPES: &[u32] = &[
-    BYTE,
-    UNSIGNED_BYTE,
-    SHORT,
-    UNSIGNED_SHORT,
-    UNSIGNED_INT,
-    FLOAT,
-];
-
-/// The numbers of the component types of indices.
-pub const VALID_INDEX_TYPES: &[u32] = &[UNSIGNED_BYTE, UNSIGNED_SHORT, UNSIGNED_INT];
-
-/// The names of the accessor types.
-pub const VALID_ACCESSOR_TYPES: &[&str] = &[
-    "SCALAR", "VEC2", "VEC3", "VEC4", "MAT2", "MAT3", "MAT4",
-];
+pub use derived::{
+    BYTE, FLOAT, SHORT, UNSIGNED_BYTE, UNSIGNED_INT, UNSIGNED_SHORT, VALID_ACCESSOR_TYPES,
+    VALID_COMPONENT_TYPES, VALID_INDEX_TYPES,
+};
 
 /// The data type of a component (glTF 2.0, section 5.1.3).
 #[derive(Clone, Copy, Debug, PartialEq, Eq)]
@@ -75,171 +41,15 @@ impl ComponentType {
             ComponentType::U32 | ComponentType::F32 => 4,
         }
     }
-
-    /// Returns the number that stands for the type in a document.
-    pub fn as_gl_enum(self) -> u32
-        ensures { by_number result ≡ component_type_spelling self }
-    {
-        match self {
-            ComponentType::I8 => BYTE,
-            ComponentType::U8 => UNSIGNED_BYTE,
-            ComponentType::I16 => SHORT,
-            ComponentType::U16 => UNSIGNED_SHORT,
-            ComponentType::U32 => UNSIGNED_INT,
-            ComponentType::F32 => FLOAT,
-        }
-    }
-
-    /// The name that the specification gives to the number that spells it, as `FLOAT`.
-    pub fn name(self) -> &'static str
-        ensures { result.now ≡ component_type_name self }
-    {
-        match self {
-            ComponentType::I8 => "BYTE",
-            ComponentType::U8 => "UNSIGNED_BYTE",
-            ComponentType::I16 => "SHORT",
-            ComponentType::U16 => "UNSIGNED_SHORT",
-            ComponentType::U32 => "UNSIGNED_INT",
-            ComponentType::F32 => "FLOAT",
-        }
-    }
-}
-
-impl Display for ComponentType {
-    ghost use Rattle.std.specs.Prelude.{Some};
-    ghost use Rattle.gltf_base.specs.Spelling.{spelling_text};
-
-    ghost output = { λ item. Some (spelling_text (component_type_spelling item)) };
-
-    fn fmt<W: Write>(&self, f: &mut Formatter<W>) -> fmt::Result {
-        Display::fmt(&self.as_gl_enum(), f)
-    }
 }
 
 /// A component type of an accessor.
 #[derive(Clone, Copy, Debug)]
 pub struct GenericComponentType(pub ComponentType);
 
-impl Choice for GenericComponentType {
-    ghost use Rattle.std.specs.Prelude.{refl};
-    ghost use Rattle.gltf_base.specs.declared.choice.Form.TheVariants.{Number};
-
-    ghost spelling = { generic_component_type_spelling };
-
-    ghost listed = { generic_component_types };
-
-    ghost form = { Number };
-
-    ghost reads_back = { (refl, (refl, (refl, (refl, (refl, (refl, tt)))))) };
-
-    fn form() -> Form {
-        Form::Number
-    }
-
-    fn listed() -> &'static [GenericComponentType] {
-        &[
-            GenericComponentType(ComponentType::I8),
-            GenericComponentType(ComponentType::U8),
-            GenericComponentType(ComponentType::I16),
-            GenericComponentType(ComponentType::U16),
-            GenericComponentType(ComponentType::U32),
-            GenericComponentType(ComponentType::F32),
-        ]
-    }
-
-    fn spelling(self) -> Spelling<'static> {
-        Spelling::Number(u64::from(self.as_gl_enum()))
-    }
-}
-
-impl Display for GenericComponentType {
-    ghost use Rattle.std.specs.Prelude.{Some};
-    ghost use Rattle.gltf_base.specs.Spelling.{spelling_text};
-
-    ghost output = { λ item. Some (spelling_text (generic_component_type_spelling item)) };
-
-    fn fmt<W: Write>(&self, f: &mut Formatter<W>) -> fmt::Result {
-        Display::fmt(&self.spelling(), f)
-    }
-}
-
-impl GenericComponentType {
-    /// Returns the component type with this number, or `Invalid` if there is none.
-    pub fn from_gl_enum(number: u64) -> Checked<GenericComponentType>
-        ensures { result ≡ item_spelled generic_component_type_spelling generic_component_types
-            (by_number number) }
-    {
-        item_of::<GenericComponentType>(Spelling::Number(number))
-    }
-
-    /// Returns the number that stands for the type in a document.
-    pub fn as_gl_enum(self) -> u32
-        ensures { by_number result ≡ generic_component_type_spelling self }
-    {
-        self.0.as_gl_enum()
-    }
-}
-
 /// A component type of indices. It may hold any of the six; three of them are read.
 #[derive(Clone, Copy, Debug)]
 pub struct IndexComponentType(pub ComponentType);
-
-impl Choice for IndexComponentType {
-    ghost use Rattle.std.specs.Prelude.{refl};
-    ghost use Rattle.gltf_base.specs.declared.choice.Form.TheVariants.{Number};
-
-    ghost spelling = { index_component_type_spelling };
-
-    ghost listed = { index_component_types };
-
-    ghost form = { Number };
-
-    ghost reads_back = { (refl, (refl, (refl, tt))) };
-
-    fn form() -> Form {
-        Form::Number
-    }
-
-    fn listed() -> &'static [IndexComponentType] {
-        &[
-            IndexComponentType(ComponentType::U8),
-            IndexComponentType(ComponentType::U16),
-            IndexComponentType(ComponentType::U32),
-        ]
-    }
-
-    fn spelling(self) -> Spelling<'static> {
-        Spelling::Number(u64::from(self.as_gl_enum()))
-    }
-}
-
-impl Display for IndexComponentType {
-    ghost use Rattle.std.specs.Prelude.{Some};
-    ghost use Rattle.gltf_base.specs.Spelling.{spelling_text};
-
-    ghost output = { λ item. Some (spelling_text (index_component_type_spelling item)) };
-
-    fn fmt<W: Write>(&self, f: &mut Formatter<W>) -> fmt::Result {
-        Display::fmt(&self.spelling(), f)
-    }
-}
-
-impl IndexComponentType {
-    /// Returns the component type of indices with this number, or `Invalid` if there is none.
-    pub fn from_gl_enum(number: u64) -> Checked<IndexComponentType>
-        ensures { result ≡ item_spelled index_component_type_spelling index_component_types
-            (by_number number) }
-    {
-        item_of::<IndexComponentType>(Spelling::Number(number))
-    }
-
-    /// Returns the number that stands for the type in a document, also of one that isn't read.
-    pub fn as_gl_enum(self) -> u32
-        ensures { by_number result ≡ index_component_type_spelling self }
-    {
-        self.0.as_gl_enum()
-    }
-}
 
 /// Whether elements are scalars, vectors or matrices (glTF 2.0, section 5.1.6).
 #[derive(Clone, Copy, Debug, PartialEq, Eq)]
@@ -260,50 +70,6 @@ pub enum AccessorType {
     Mat4,
 }
 
-impl Choice for AccessorType {
-    ghost use Rattle.std.specs.Prelude.{refl};
-    ghost use Rattle.gltf_base.specs.declared.choice.Form.TheVariants.{Name};
-
-    ghost spelling = { accessor_type_spelling };
-
-    ghost listed = { accessor_types };
-
-    ghost form = { Name };
-
-    ghost reads_back = { (refl, (refl, (refl, (refl, (refl, (refl, (refl, tt))))))) };
-
-    fn form() -> Form {
-        Form::Name
-    }
-
-    fn listed() -> &'static [AccessorType] {
-        &[
-            AccessorType::Scalar,
-            AccessorType::Vec2,
-            AccessorType::Vec3,
-            AccessorType::Vec4,
-            AccessorType::Mat2,
-            AccessorType::Mat3,
-            AccessorType::Mat4,
-        ]
-    }
-
-    fn spelling(self) -> Spelling<'static> {
-        Spelling::Name(self.name())
-    }
-}
-
-impl Display for AccessorType {
-    ghost use Rattle.std.specs.Prelude.{Some};
-    ghost use Rattle.gltf_base.specs.Spelling.{spelling_text};
-
-    ghost output = { λ item. Some (spelling_text (accessor_type_spelling item)) };
-
-    fn fmt<W: Write>(&self, f: &mut Formatter<W>) -> fmt::Result {
-        Display::fmt(&self.spelling(), f)
-    }
-}
-
 impl AccessorType {
     /// Returns the number of components of an element.
     pub fn multiplicity(&self) -> usize
@@ -316,28 +82,6 @@ impl AccessorType {
             AccessorType::Vec4 | AccessorType::Mat2 => 4,
             AccessorType::Mat3 => 9,
             AccessorType::Mat4 => 16,
-        }
-    }
-
-    /// Returns the type with this name, or `Invalid` if there is none.
-    pub fn from_name(name: &str) -> Checked<AccessorType>
-        ensures { result ≡ item_spelled accessor_type_spelling accessor_types (by_name name.now) }
-    {
-        item_of::<AccessorType>(Spelling::Name(name))
-    }
-
-    /// Returns the name that stands for the type in a document.
-    pub fn name(self) -> &'static str
-        ensures { by_name result.now ≡ accessor_type_spelling self }
-    {
-        match self {
-            AccessorType::Scalar => "SCALAR",
-            AccessorType::Vec2 => "VEC2",
-            AccessorType::Vec3 => "VEC3",
-            AccessorType::Vec4 => "VEC4",
-            AccessorType::Mat2 => "MAT2",
-            AccessorType::Mat3 => "MAT3",
-            AccessorType::Mat4 => "MAT4",
         }
     }
 }

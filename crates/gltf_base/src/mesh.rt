@@ -7,12 +7,15 @@ ghost use Rattle.std.specs.String.{string_bytes};
 ghost use Rattle.gltf_base.specs.Keys.{Key, key_text};
 ghost use Rattle.gltf_base.specs.Names.{behind, set_number, set_key, plain_key, key_named, is_named};
 ghost use Rattle.gltf_base.specs.Semantics.{semantic_key, checked_key};
-ghost use Rattle.gltf_base.specs.Spelling.{by_number, item_spelled};
+ghost use Rattle.gltf_base.specs.Spelling.{by_number};
 ghost use Rattle.gltf_base.specs.Choices.{mode_spelling, modes};
-ghost use Rattle.gltf_base.specs.GlNames.{mode_name};
 
-use crate::choice::{Choice, Form, Spelling, item_of};
+mod derived;
+
 use crate::validation::Checked;
+pub use derived::{
+    LINE_LOOP, LINE_STRIP, LINES, POINTS, TRIANGLE_FAN, TRIANGLE_STRIP, TRIANGLES, VALID_MODES,
+};
 use std::alloc::{AllocError, Global};
 use std::fmt::{self, Display, Formatter, Write};
 
@@ -169,38 +172,6 @@ pub fn texts_are_read_back()
     ensures { (key : Key) → IsTrue (is_named key) → key_named (key_text key) ≡ key }
 {}
 
-/// `GL_POINTS`.
-pub const POINTS: u32 = 0;
-
-/// `GL_LINES`.
-pub const LINES: u32 = 1;
-
-/// `GL_LINE_LOOP`.
-pub const LINE_LOOP: u32 = 2;
-
-/// `GL_LINE_STRIP`.
-pub const LINE_STRIP: u32 = 3;
-
-/// `GL_TRIANGLES`.
-pub const TRIANGLES: u32 = 4;
-
-/// `GL_TRIANGLE_STRIP`.
-pub const TRIANGLE_STRIP: u32 = 5;
-
-/// `GL_TRIANGLE_FAN`.
-pub const TRIANGLE_FAN: u32 = 6;
-
-/// The numbers of the modes.
-pub const VALID_MODES: &[u32] = &[
-    POINTS,
-    LINES,
-    LINE_LOOP,
-    LINE_STRIP,
-    TRIANGLES,
-    TRIANGLE_STRIP,
-    TRIANGLE_FAN,
-];
-
 /// The attributes that a morph target may displace (glTF 2.0, section 3.7.2.2).
 pub const VALID_MORPH_TARGETS: &[&str] = &["POSITION", "NORMAL", "TANGENT"];
 
@@ -230,89 +201,6 @@ impl Default for Mode {
 
     fn default() -> Mode {
         Mode::Triangles
-    }
-}
-
-impl Choice for Mode {
-    ghost use Rattle.std.specs.Prelude.{refl};
-    ghost use Rattle.gltf_base.specs.declared.choice.Form.TheVariants.{Number};
-
-    ghost spelling = { mode_spelling };
-
-    ghost listed = { modes };
-
-    ghost form = { Number };
-
-    ghost reads_back = { (refl, (refl, (refl, (refl, (refl, (refl, (refl, tt))))))) };
-
-    fn form() -> Form {
-        Form::Number
-    }
-
-    fn listed() -> &'static [Mode] {
-        &[
-            Mode::Points,
-            Mode::Lines,
-            Mode::LineLoop,
-            Mode::LineStrip,
-            Mode::Triangles,
-            Mode::TriangleStrip,
-            Mode::TriangleFan,
-        ]
-    }
-
-    fn spelling(self) -> Spelling<'static> {
-        Spelling::Number(u64::from(self.as_gl_enum()))
-    }
-}
-
-impl Display for Mode {
-    ghost use Rattle.std.specs.Prelude.{Some};
-    ghost use Rattle.gltf_base.specs.Spelling.{spelling_text};
-
-    ghost output = { λ item. Some (spelling_text (mode_spelling item)) };
-
-    fn fmt<W: Write>(&self, f: &mut Formatter<W>) -> fmt::Result {
-        Display::fmt(&self.spelling(), f)
-    }
-}
-
-impl Mode {
-    /// Returns the mode with this number, or `Invalid` if there is none.
-    pub fn from_gl_enum(number: u64) -> Checked<Mode>
-        ensures { result ≡ item_spelled mode_spelling modes (by_number number) }
-    {
-        item_of::<Mode>(Spelling::Number(number))
-    }
-
-    /// Returns the number that stands for the mode in a document.
-    pub fn as_gl_enum(self) -> u32
-        ensures { by_number result ≡ mode_spelling self }
-    {
-        match self {
-            Mode::Points => POINTS,
-            Mode::Lines => LINES,
-            Mode::LineLoop => LINE_LOOP,
-            Mode::LineStrip => LINE_STRIP,
-            Mode::Triangles => TRIANGLES,
-            Mode::TriangleStrip => TRIANGLE_STRIP,
-            Mode::TriangleFan => TRIANGLE_FAN,
-        }
-    }
-
-    /// The name that the specification gives to the number that spells it, as `TRIANGLE_FAN`.
-    pub fn name(self) -> &'static str
-        ensures { result.now ≡ mode_name self }
-    {
-        match self {
-            Mode::Points => "POINTS",
-            Mode::Lines => "LINES",
-            Mode::LineLoop => "LINE_LOOP",
-            Mode::LineStrip => "LINE_STRIP",
-            Mode::Triangles => "TRIANGLES",
-            Mode::TriangleStrip => "TRIANGLE_STRIP",
-            Mode::TriangleFan => "TRIANGLE_FAN",
-        }
     }
 }
 

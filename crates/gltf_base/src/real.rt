@@ -6,6 +6,7 @@ ghost use Rattle.serde_json.specs.View.{view};
 
 use serde_json::{Number, Value};
 use std::alloc::AllocError;
+use std::mem::forget;
 
 /// A JSON number, kept as it was read.
 #[derive(Debug)]
@@ -73,11 +74,13 @@ impl Real {
     }
 }
 
-// One call drops it, wherever it is held (docs/DECISIONS.md, "Large values"). Only here are the six
-// kinds of a JSON value tested for.
+// A number owns no memory: nothing has to be dropped, and no code tests for the six kinds of a JSON
+// value (docs/DECISIONS.md, "Large values").
 impl Drop for Real {
     fn drop(self) {
-        let Real { value: _ } = self;
+        let Real { value } = self;
+        prove!(value.is_number());
+        forget(value)
     }
 }
 
@@ -87,7 +90,12 @@ impl Clone for Real {
     ghost is_clone = { λ from to. real_number to ≡ real_number from };
 
     fn clone(&self) -> Result<Real, AllocError> {
-        let value = self.value.clone()?;
-        Ok(Real { value })
+        match &self.value {
+            Value::Number(number) => Ok(Real {
+                value: Value::Number(*number),
+            }),
+            // It holds a number.
+            _ => unreachable!(),
+        }
     }
 }

@@ -1,4 +1,4 @@
--- Section 3.7.3: the joints of a skin have a common root, which may be a joint itself.
+-- Section 3.7.3.2: the joints of a skin have a common root, which may be a joint itself.
 use Rattle.std.specs.Prelude.{◌≡◌, ℕ, ◌<◌, ◌≤◌, List, length, slice_get, Option, Some, None, ◌⊎◌}
 use Rattle.gltf_hierarchy.specs.declared.fault.JointFault.{JointFault}
 use Rattle.gltf_hierarchy.specs.declared.fault.JointFault.TheVariants.{NoSuchNode, Memory}

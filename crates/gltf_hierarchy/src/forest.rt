@@ -135,8 +135,8 @@ impl Forest {
         }
     }
 
-    /// Returns the common root of the joints of a skin (glTF 2.0, section 3.7.3): the deepest node
-    /// that is each of these nodes or above it. `None` if there is no joint, or if they are of
+    /// Returns the common root of the joints of a skin (glTF 2.0, section 3.7.3.2): the deepest
+    /// node that is each of these nodes or above it. `None` if there is no joint, or if they are of
     /// different trees. Fails with the first joint that is no node. It takes time and memory in
     /// proportion to the nodes of the forest and the joints, and does not recurse.
     pub fn common_root(&self, alloc: Global, joints: &[u32]) -> Result<Option<u32>, JointFault>

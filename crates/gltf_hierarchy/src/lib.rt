@@ -2,7 +2,7 @@
 //! nodes are whatever says what the children of each are.
 //!
 //! `Forest::of` returns the forest that nodes are, or a fault, and `Forest::faults` lists every
-//! fault. `Forest::common_root` finds the common root of joints (section 3.7.3). Each takes time
+//! fault. `Forest::common_root` finds the common root of joints (section 3.7.3.2). Each takes time
 //! and memory in proportion to the nodes, their children and the joints, and does not recurse.
 #![tactic(auto)]
 

@@ -78,14 +78,15 @@ pub fn read_to_end<R: ByteIn>(
 {
     let mut bytes = Vec::new(alloc);
     let mut piece = vec![in alloc; 0u8; PIECE_LEN]?;
-    fill(reader, &mut bytes, &mut piece, most_bytes, most_calls)?;
+    read_to_end_into(reader, &mut bytes, &mut piece, most_bytes, most_calls)?;
     Ok(bytes)
 }
 
-/// Appends all bytes up to the end, piece by piece.
-// It is a function of its own: a proof that knows what a new piece holds computes all its zeros.
+/// Reads all bytes of a reader up to its end, as [`read_to_end`] does, into an empty vector. It reads
+/// one piece at a time. A caller with many readers makes one piece for all of them.
+// A proof that knows what a new piece holds computes all its zeros, which this one doesn't know.
 #[tactic(auto, using(crate::proofs::DeviceLemmas::reads))]
-fn fill<R: ByteIn>(
+pub fn read_to_end_into<R: ByteIn>(
     reader: &mut R,
     bytes: &mut Vec<u8>,
     piece: &mut [u8],

@@ -5,5 +5,5 @@
 mod device;
 mod watched;
 
-pub use device::{ByteIn, ByteOut, Failed, read_to_end, write_all};
+pub use device::{ByteIn, ByteOut, Failed, read_to_end, read_to_end_into, write_all};
 pub use watched::Watched;

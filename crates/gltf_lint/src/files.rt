@@ -1,8 +1,8 @@
 //! What there is to check: files, and folders of files.
 
 use crate::refusal::Refusal;
-use gltf_io::{ByteIn, Watched, read_to_end};
-use std::alloc::Global;
+use gltf_io::{ByteIn, Watched, read_to_end_into};
+use std::alloc::{AllocError, Global};
 use std::collections::BTreeMap;
 use std::fs::DirEntry;
 use std::{fs, io};
@@ -70,18 +70,50 @@ impl Entries {
     }
 }
 
-/// The bytes that a reader gives.
-fn bytes_of<R: ByteIn>(alloc: Global, reader: &mut R) -> Result<Vec<u8>, Refusal> {
-    read_to_end(alloc, reader, MOST_BYTES, MOST_CALLS).map_err(Refusal::Unread)
+/// How many bytes of a file are read at a time.
+const PIECE_LEN: usize = 65536;
+
+/// What files are read into, one after the other.
+#[derive(Drop)]
+pub struct Buffers {
+    bytes: Vec<u8>,
+    piece: Vec<u8>,
 }
 
-/// The bytes of a file, or of standard input.
-pub fn read(rt: &HostRuntime, path: &str) -> Result<Vec<u8>, Refusal> {
-    if path == STANDARD_INPUT {
-        return bytes_of(rt.alloc(), &mut Watched::new(rt.reader()));
+impl Buffers {
+    pub fn new(alloc: Global) -> Result<Buffers, AllocError> {
+        Ok(Buffers {
+            bytes: Vec::new(alloc),
+            piece: vec![in alloc; 0u8; PIECE_LEN]?,
+        })
     }
-    match fs::open(rt, path) {
-        Ok(file) => bytes_of(rt.alloc(), &mut Watched::new(file)),
-        Err(error) => Err(Refusal::Unreadable(error)),
+
+    /// The bytes of a file, or of standard input.
+    pub fn read(&mut self, rt: &HostRuntime, path: &str) -> Result<&[u8], Refusal> {
+        if path == STANDARD_INPUT {
+            return self.read_all(&mut Watched::new(rt.reader()));
+        }
+        match fs::open(rt, path) {
+            Ok(file) => self.read_all(&mut Watched::new(file)),
+            Err(error) => Err(Refusal::Unreadable(error)),
+        }
+    }
+
+    /// The bytes that a reader gives.
+    fn read_all<R: ByteIn>(&mut self, reader: &mut R) -> Result<&[u8], Refusal> {
+        self.bytes.clear();
+        if self.piece.is_empty() {
+            return Err(Refusal::Memory);
+        }
+        match read_to_end_into(
+            reader,
+            &mut self.bytes,
+            &mut self.piece,
+            MOST_BYTES,
+            MOST_CALLS,
+        ) {
+            Ok(()) => Ok(&self.bytes),
+            Err(error) => Err(Refusal::Unread(error)),
+        }
     }
 }

@@ -2,7 +2,7 @@
 
 use crate::arguments::Options;
 use crate::document::document_of;
-use crate::files::{Entries, Kind, read};
+use crate::files::{Buffers, Entries, Kind};
 use crate::lines::{Found, found_in};
 use crate::messages::{refusal_line, summary_line};
 use crate::refusal::Refusal;
@@ -17,16 +17,18 @@ pub struct Linter<'a> {
     /// Paths, of which the first one is at the end.
     waiting: Vec<(String, Kind)>,
     tally: Tally,
+    buffers: Buffers,
 }
 
 impl<'a> Linter<'a> {
-    pub fn new(rt: &'a HostRuntime, options: Options<'a>) -> Linter<'a> {
-        Linter {
+    pub fn new(rt: &'a HostRuntime, options: Options<'a>) -> Result<Linter<'a>> {
+        Ok(Linter {
             rt,
             options,
             waiting: Vec::new(rt.alloc()),
             tally: Tally::new(),
-        }
+            buffers: Buffers::new(rt.alloc())?,
+        })
     }
 
     /// Checks what these arguments name, in their order, and prints the reports.
@@ -93,10 +95,10 @@ impl<'a> Linter<'a> {
     }
 
     /// What is wrong in a file.
-    fn found(&self, path: &str) -> Result<Found, Refusal> {
+    fn found(&mut self, path: &str) -> Result<Found, Refusal> {
         let alloc = self.rt.alloc();
-        let bytes = read(self.rt, path)?;
-        let root = document_of(alloc, path, &bytes)?;
+        let bytes = self.buffers.read(self.rt, path)?;
+        let root = document_of(alloc, path, bytes)?;
         Ok(found_in(alloc, &self.options, path, &root)?)
     }
 

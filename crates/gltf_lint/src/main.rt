@@ -22,7 +22,7 @@ use tally::REFUSED;
 /// Checks what the arguments name, prints a summary and returns the exit status.
 fn check(rt: &HostRuntime, matches: &ArgMatches<'_>) -> Result<u8> {
     let enabled = enabled_extensions(rt.alloc(), matches)?;
-    let mut linter = Linter::new(rt, Options::of(matches, &enabled));
+    let mut linter = Linter::new(rt, Options::of(matches, &enabled))?;
     linter.check_all(matches.get_strs("FILE").unwrap_or(&[]))?;
     linter.finish()
 }

@@ -1,3 +1,4 @@
+pub mod Documents
 pub mod Named
 pub mod Roots
 pub mod Spans

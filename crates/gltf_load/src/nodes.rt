@@ -11,7 +11,7 @@ use std::alloc::Global;
 
 /// The nodes of a document, each with the children that it names.
 #[derive(Clone, Copy)]
-struct Nodes<'a>(&'a [Node]);
+pub struct Nodes<'a>(pub &'a [Node]);
 
 impl Hierarchy for Nodes<'_> {
     ghost children = { λ s. children_named s.0.now };

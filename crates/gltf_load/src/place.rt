@@ -75,7 +75,7 @@ fn accessor_layout(accessor: &Accessor) -> Result<AccessorLayout, LayoutFault>
 }
 
 /// What a view says of bytes.
-fn view_layout(view: &View) -> ViewLayout
+pub fn view_layout(view: &View) -> ViewLayout
     ensures { result ≡ view_layout view.now }
 {
     ViewLayout {
@@ -86,21 +86,15 @@ fn view_layout(view: &View) -> ViewLayout
 }
 
 /// The number that an offset is.
-fn offset_or_0(offset: Option<USize64>) -> u64
+pub fn offset_or_0(offset: Option<USize64>) -> u64
     ensures { result ≡ offset_or_0 offset }
 {
-    match offset {
-        Some(offset) => offset.0,
-        None => 0,
-    }
+    offset.map_or(0, |offset| offset.0)
 }
 
 /// The number that a stride is.
 fn stride(stride: Option<Stride>) -> Option<u64>
     ensures { result ≡ option_map (λ s. s.0) stride }
 {
-    match stride {
-        Some(stride) => Some(stride.0 as u64),
-        None => None,
-    }
+    stride.map(|stride| stride.0 as u64)
 }

@@ -1,5 +1,10 @@
 //! Forests, places and faults that are worked by hand.
 
+mod documents;
+mod held_memory;
+mod hostile;
+mod refused_growths;
+
 use crate::{HierarchyFault, LayoutFault, Misfit, Span, forest_of, is_scene_of, span_of};
 use gltf_base::Index;
 use gltf_base::accessor::{AccessorType, ComponentType};
@@ -15,6 +20,16 @@ fn over(alloc: Global, child: u32) -> Result<Node, AllocError> {
     let mut node = Node::new();
     node.children = Some(vec![in alloc; Index::new(child)]?);
     Ok(node)
+}
+
+/// Nodes of which each has the next one as its child, and the last one has `child`.
+fn chain(alloc: Global, count: u32, child: u32) -> Result<Vec<Node>, AllocError> {
+    let mut nodes = Vec::new(alloc);
+    for number in 1..count {
+        nodes.push(over(alloc, number)?)?;
+    }
+    nodes.push(over(alloc, child)?)?;
+    Ok(nodes)
 }
 
 #[test]

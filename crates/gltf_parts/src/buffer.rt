@@ -15,7 +15,8 @@ pub use gltf_base::buffer::{
 };
 use gltf_base::validation::{Checked, USize64};
 use gltf_base::{Index, Listed};
-use gltf_schema::{Error, Refusal, Schema, Source, Tabled, whole_or_refused};
+use gltf_schema::{Error, Refusal, Schema, Source, Stream, Tabled, Unread, whole_or_refused};
+use json::Token;
 use serde_json::Value;
 use std::alloc::Global;
 
@@ -36,6 +37,10 @@ impl Schema for Stride {
 
     fn decode_from<S: Source>(_alloc: Global, source: S) -> Result<Stride, Error> {
         Ok(Stride(source.whole().ok_or(Error::Schema)? as usize))
+    }
+
+    fn from_token<'a>(token: Token<'a>, from: &mut Stream<'a>) -> Result<Stride, Unread> {
+        Ok(Stride(USize64::from_token(token, from)?.0 as usize))
     }
 
     fn decode_or_place<S: Source>(alloc: Global, source: S) -> Result<Stride, Refusal> {

@@ -13,7 +13,8 @@ use crate::extensions;
 use crate::extras::Extras;
 pub use gltf_base::image::VALID_MIME_TYPES;
 use gltf_base::{Index, Listed};
-use gltf_schema::{Error, Refusal, Schema, Source, Tabled};
+use gltf_schema::{Error, Refusal, Schema, Source, Stream, Tabled, Unread};
+use json::Token;
 use serde_json::Value;
 use std::alloc::Global;
 
@@ -34,6 +35,10 @@ impl Schema for MimeType {
 
     fn decode_from<S: Source>(alloc: Global, source: S) -> Result<MimeType, Error> {
         Ok(MimeType(String::decode_from(alloc, source)?))
+    }
+
+    fn from_token<'a>(token: Token<'a>, from: &mut Stream<'a>) -> Result<MimeType, Unread> {
+        Ok(MimeType(String::from_token(token, from)?))
     }
 
     fn decode_or_place<S: Source>(alloc: Global, source: S) -> Result<MimeType, Refusal> {

@@ -11,6 +11,6 @@ pub mod material;
 pub mod texture;
 
 pub use gltf_schema::{
-    Blank, DroppedExtensions, Error, KeptExtensions, Object, Omittable, OwnedStep, Printing,
-    ReadRows, Reading, Refusal, Schema, Source, Tabled, Tokens, Unlisted, WriteRows, Writing,
+    DroppedExtensions, Error, KeptExtensions, Object, Omittable, OwnedStep, Printing, ReadRows,
+    Reading, Refusal, Schema, Source, Stream, Tabled, Tokens, Unlisted, Unread, WriteRows, Writing,
 };

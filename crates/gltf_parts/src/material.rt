@@ -15,7 +15,8 @@ use crate::texture::{Info, Texture};
 pub use gltf_base::material::{AlphaMode, VALID_ALPHA_MODES};
 use gltf_base::validation::Checked;
 use gltf_base::{Index, Listed, Real};
-use gltf_schema::{Blank, Error, Refusal, Schema, Source, Tabled};
+use gltf_schema::{Error, Refusal, Schema, Source, Stream, Tabled, Unread};
+use json::Token;
 use serde_json::Value;
 use std::alloc::Global;
 
@@ -153,12 +154,6 @@ impl PbrMetallicRoughness {
     }
 }
 
-impl Blank for PbrMetallicRoughness {
-    fn blank(_alloc: Global) -> PbrMetallicRoughness {
-        PbrMetallicRoughness::new()
-    }
-}
-
 /// A reference to a normal texture.
 #[derive(Clone, Debug)]
 pub struct NormalTexture {
@@ -279,6 +274,10 @@ impl Schema for AlphaCutoff {
 
     fn decode_from<S: Source>(alloc: Global, source: S) -> Result<AlphaCutoff, Error> {
         Ok(AlphaCutoff(Real::decode_from(alloc, source)?))
+    }
+
+    fn from_token<'a>(token: Token<'a>, from: &mut Stream<'a>) -> Result<AlphaCutoff, Unread> {
+        Ok(AlphaCutoff(Real::from_token(token, from)?))
     }
 
     fn decode_or_place<S: Source>(alloc: Global, source: S) -> Result<AlphaCutoff, Refusal> {

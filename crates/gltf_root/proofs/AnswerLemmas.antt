@@ -9,7 +9,7 @@ use Rattle.serde_json.specs.Read.{read as read_json}
 use Rattle.gltf_schema.specs.Outcome.{Reads}
 use Rattle.gltf_schema.specs.Plain.{is_plain}
 use Rattle.gltf_schema.proofs.ReadPlain.{decoded_plain}
-use Rattle.gltf_borrowed.specs.Decoded.{IsDecoded}
+use Rattle.gltf_root.specs.Decoded.{IsDecoded}
 use Rattle.gltf_schema.specs.Read.{read}
 use Rattle.gltf_schema.specs.Tree.{Tree}
 use Rattle.gltf_base.specs.declared.error.Error.{Error}

@@ -2,13 +2,14 @@ pub mod Root
 pub mod RootExtension
 pub mod Named
 pub mod Lists
-pub mod Apart
 pub mod Lending
 pub mod Pushed
 pub mod Undone
 pub mod Items
 pub mod ItemTrees
 pub mod Answer
+pub mod Decoded
+pub mod Place
 pub mod Written
 pub mod Rewritten
 pub mod RootDerived

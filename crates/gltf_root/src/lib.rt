@@ -5,3 +5,6 @@
 pub mod extensions;
 pub mod laws;
 pub mod root;
+mod text;
+
+pub use text::{Place, decode_text, refused_in_text};

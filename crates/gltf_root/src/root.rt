@@ -23,15 +23,14 @@ use std::alloc::{AllocError, Global};
 mod derived;
 mod extended;
 mod get;
-mod lists;
 mod mark;
 mod parse;
 mod print;
 mod refused;
 mod top_level;
 
+pub use crate::text::Place;
 pub use get::{Get, RootItem};
-pub use gltf_borrowed::Place;
 pub use mark::Mark;
 pub use top_level::TopLevel;
 

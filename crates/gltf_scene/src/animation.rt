@@ -15,8 +15,6 @@ use gltf_base::validation::Checked;
 use gltf_base::{Index, Listed};
 use gltf_parts::accessor::Accessor;
 use gltf_parts::extras::Extras;
-use gltf_schema::Blank;
-use std::alloc::Global;
 
 mod derived;
 
@@ -125,17 +123,6 @@ impl Target {
         Target {
             node,
             path: Checked::Valid(path),
-            extensions: None,
-            extras: None,
-        }
-    }
-}
-
-impl Blank for Target {
-    fn blank(_alloc: Global) -> Target {
-        Target {
-            node: Index::new(0),
-            path: Checked::Invalid,
             extensions: None,
             extras: None,
         }

@@ -5,7 +5,6 @@ ghost use Rattle.gltf_scene.specs.Asset.{asset_members, asset_of_version};
 
 use crate::extensions;
 use gltf_parts::extras::Extras;
-use gltf_schema::Blank;
 use std::alloc::{AllocError, Global};
 
 mod derived;
@@ -62,11 +61,5 @@ impl Asset {
             extensions: None,
             extras: None,
         }
-    }
-}
-
-impl Blank for Asset {
-    fn blank(alloc: Global) -> Asset {
-        Asset::of_version(String::new(alloc))
     }
 }

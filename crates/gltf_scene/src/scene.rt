@@ -15,7 +15,8 @@ use crate::mesh::Mesh;
 use crate::skin::Skin;
 use gltf_base::{Index, Listed, Real};
 use gltf_parts::extras::Extras;
-use gltf_schema::{Error, Refusal, Schema, Source, Tabled};
+use gltf_schema::{Error, Refusal, Schema, Source, Stream, Tabled, Unread};
+use json::Token;
 use serde_json::Value;
 use std::alloc::Global;
 
@@ -198,6 +199,10 @@ impl Schema for UnitQuaternion {
 
     fn decode_from<S: Source>(alloc: Global, source: S) -> Result<UnitQuaternion, Error> {
         Ok(UnitQuaternion(Schema::decode_from(alloc, source)?))
+    }
+
+    fn from_token<'a>(token: Token<'a>, from: &mut Stream<'a>) -> Result<UnitQuaternion, Unread> {
+        Ok(UnitQuaternion(Schema::from_token(token, from)?))
     }
 
     fn decode_or_place<S: Source>(alloc: Global, source: S) -> Result<UnitQuaternion, Refusal> {

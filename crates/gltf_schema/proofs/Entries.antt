@@ -49,9 +49,13 @@ number_back : (read : Option ℕ) → option_map number_in (option_map index rea
 number_back None = refl
 number_back (Some n) = refl
 
+-- what is read as an index has its number
+pub small_of : (d : Data) (n : ℕ) → option_map index (small_number d) ≡ Some (index n) → small_number d ≡ Some n
+small_of d n h = sym (number_back (small_number d)) ∙ ap (option_map number_in) h
+
 -- one member, and those after it
 pub entry_read : (es : List (Key × ℕ)) (name : List ℕ) (d : Data) (ms : Members) (n : ℕ) → option_map index (small_number d) ≡ Some (index n)
     → read_entries (insert_entry key_cmp es (key_named name) n) ms ≡ read_entries es (member name d ms)
 entry_read es name d ms n h =
-    let number : small_number d ≡ Some n = sym (number_back (small_number d)) ∙ ap (option_map number_in) h in
+    let number = small_of d n h in
     rw number refl

@@ -50,7 +50,7 @@ abbrev pub InOrder : Members → Type 0
 InOrder no_members = ⊤
 InOrder (member n d ds) = NamesAbove n ds × InOrder ds
 
-put_before : (n : List ℕ) (d : Data) (ds : Members) → NamesAbove n ds → put n d ds ≡ member n d ds
+pub put_before : (n : List ℕ) (d : Data) (ds : Members) → NamesAbove n ds → put n d ds ≡ member n d ds
 put_before n d no_members above = refl
 put_before n d (member l e ds) above = rw (above.0) refl
 

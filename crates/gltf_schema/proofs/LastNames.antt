@@ -39,7 +39,7 @@ module _ {K V : Type 0} {R : K → K → Ordering} (o : IsTotalOrder R) (q : K) 
   found_at Equal k v e es is later = rw (alike_right o k e.0 q is) (twice (is_eq (R q e.0)) (Some v) (Some e.1) (lookup (is_at (R q)) es))
   found_at Greater k v e es is later = rw later (either_first (is_eq (R q e.0)) (is_eq (R q k)) (Some e.1) (Some v) (lookup (is_at (R q)) es) (apart o q k e.0 is))
 
-  found : (es : List (K × V)) (k : K) (v : V) → lookup (is_at (R q)) (insert_entry R es k v) ≡ cond (is_eq (R q k)) (Some v) (lookup (is_at (R q)) es)
+  pub found : (es : List (K × V)) (k : K) (v : V) → lookup (is_at (R q)) (insert_entry R es k v) ≡ cond (is_eq (R q k)) (Some v) (lookup (is_at (R q)) es)
   found [] k v = refl
   found (e ∷ es) k v = found_at (R k e.0) k v e es refl (found es k v)
 

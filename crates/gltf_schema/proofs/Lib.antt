@@ -1,6 +1,7 @@
 pub mod TakingOut
 pub mod Items
 pub mod Choosing
+pub mod FromStart
 pub mod RowByRow
 pub mod OneRow
 pub mod Placed
@@ -30,3 +31,10 @@ pub mod RowSteps
 pub mod RowsPrinted
 pub mod ObjectPrinted
 pub mod RowPrinting
+pub mod OthersPut
+pub mod Turns
+pub mod Values
+pub mod Digits
+pub mod OneToken
+pub mod Standing
+pub mod TextOrder

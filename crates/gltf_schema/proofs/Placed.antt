@@ -14,15 +14,16 @@ use Rattle.gltf_schema.specs.Maybe.{◌>>=◌}
 use Rattle.gltf_schema.specs.Tree.{Tree, index, numbers, attributes, object, list, Trees, end, with_tree}
 use Rattle.gltf_schema.specs.Kind.{Mark, Kind, IndexInto, Number, Numbers, Attributes, ListOf, Object, Rows, no_rows, row, has_row, Rule}
 use Rattle.gltf_schema.specs.Read.{read, read_member, read_items, read_entries, read_rows, all_numbers, small_number}
-use Rattle.gltf_schema.specs.RowReading.{RowsFrom, OthersFrom, ReadsMembers}
+use Rattle.gltf_schema.specs.RowReading.{ReadsMembers, Starts, FromStart}
 use Rattle.gltf_schema.specs.Refused.{refused_row, refused_item, refused_entry, IsMissingOr, IsRefusedAt}
 use Rattle.gltf_schema.specs.Sound.{is_sound, are_sound}
 use Rattle.gltf_schema.specs.Taken.{without, take_member, take_rows, take_all}
 use Rattle.gltf_schema.specs.declared.placing.OwnedStep.{OwnedStep}
 use Rattle.gltf_schema.specs.declared.placing.Refusal.{Refusal}
 use Rattle.gltf_schema.specs.declared.placing.Refusal.TheVariants.{At}
-use Rattle.gltf_schema.specs.RowPlacing.{owned_step, place_of, IsWithin, IsInside, IsPlaceIn, IsPlaceUnder, IsPlaceOfRow, PlacesMember, PlacesOthers}
+use Rattle.gltf_schema.specs.RowPlacing.{owned_step, place_of, IsWithin, IsInside, IsPlaceIn, IsPlaceUnder, IsPlaceOfRow, PlacesMember, PlacesOthers, PlacesLeft}
 use Rattle.gltf_schema.proofs.ArrayOfNumbers.{numbers_are_items}
+use Rattle.gltf_schema.proofs.FromStart.{RowsTakenFrom, OthersTakenFrom, from_start, others_start}
 use Rattle.gltf_schema.proofs.RowByRow.{row_taken, all_taken}
 use Rattle.gltf_schema.proofs.TakingOut.{get_without, decoded, sound_row, sound_rows}
 
@@ -205,7 +206,7 @@ both_from (Ok ms) (Err place) new n mark kind rows t ts apart h k =
     subst (λ r. RowsPlaced (Ok ms) (row n mark kind rows) (with_tree t ts) r) (sym k) (row_refused place n mark kind rows t ts ms h)
 both_from (Err place) mid new n mark kind rows t ts apart h k = subst (λ (r : Result Members (Option (List Step))). RowsPlaced r rows ts new) h k
 
-rows_placed : (old : Result Members (Option (List Step))) (rows : Rows) (ts : Trees) (new : Result Members (Option (List Step))) → are_sound rows ≡ true → RowsFrom PlacesMember old rows ts new → RowsPlaced old rows ts new
+rows_placed : (old : Result Members (Option (List Step))) (rows : Rows) (ts : Trees) (new : Result Members (Option (List Step))) → are_sound rows ≡ true → RowsTakenFrom PlacesMember old rows ts new → RowsPlaced old rows ts new
 rows_placed old no_rows end new sound h = none_from old new h
 rows_placed old no_rows (with_tree t ts) new sound h = absurd h
 rows_placed old (row n mark kind rows) end new sound h = absurd h
@@ -240,13 +241,15 @@ kept (Err place) new rows ts unknown ms h taken =
     subst (λ (s : Result Members (Option (List Step))). AllPlaced s rows true ts unknown ms) (sym taken) (same_place place rows true ts unknown ms h)
 
 others_placed : (keeps : Bool) (s new : Result Members (Option (List Step))) (rows : Rows) (ts : Trees) (unknown ms : Members)
-    → RowsPlaced (Ok ms) rows ts s → OthersFrom PlacesOthers keeps s unknown new → AllPlaced new rows keeps ts unknown ms
+    → RowsPlaced (Ok ms) rows ts s → OthersTakenFrom PlacesOthers keeps s unknown new → AllPlaced new rows keeps ts unknown ms
 others_placed true s new rows ts unknown ms h taken = kept s new rows ts unknown ms h taken
 others_placed false s new rows ts unknown ms h taken = rw (taken.0, taken.1) (closed s rows ts ms h)
 
-members_placed : {new : Result Members (Option (List Step))} {rows : Rows} {keeps : Bool} {ts : Trees} {unknown ms : Members}
-    → are_sound rows ≡ true → ReadsMembers PlacesMember PlacesOthers rows keeps ts unknown (Ok ms) new → AllPlaced new rows keeps ts unknown ms
-members_placed {new} {rows} {keeps} {ts} {unknown} {ms} sound h = others_placed keeps h.mid new rows ts unknown ms (rows_placed (Ok ms) rows ts h.mid sound h.rows_from) h.others_from
+members_placed : {new : Result Members (Option (List Step))} {rows : Rows} {keeps : Bool} {ts ts' : Trees} {others unknown ms : Members}
+    → are_sound rows ≡ true → Starts rows ts → ReadsMembers (FromStart PlacesMember) PlacesLeft rows keeps ts ts' others unknown (Ok ms) new → AllPlaced new rows keeps ts' unknown ms
+members_placed {new} {rows} {keeps} {ts} {ts'} {others} {unknown} {ms} sound start h =
+    others_placed keeps h.mid new rows ts' unknown ms (rows_placed (Ok ms) rows ts' h.mid sound (from_start PlacesMember (Ok ms) h.mid rows ts ts' start h.rows_from))
+    (others_start PlacesOthers keeps h.mid new others unknown h.others_from)
 
 placed_in : (place : Option (List Step)) (rule : Rule) (rows : Rows) (keeps : Bool) (ts : Trees) (unknown ms : Members)
     → AllPlaced (Err place) rows keeps ts unknown ms → IsPlaceIn place (Object rule rows keeps) (json.object ms)
@@ -261,23 +264,25 @@ inside_object (Some []) rows keeps ts unknown ms h = h
 inside_object (Some (step ∷ steps)) rows keeps ts unknown ms h = tt
 
 -- an object is read if each row is
-pub object_read : {X : Type 0} (f : X → Trees) (g : X → Members) (x : X) (rule : Rule) (rows : Rows) (keeps : Bool) (ms rest : Members) (new : Result Members (Option (List Step)))
-    → is_sound (Object rule rows keeps) ≡ true → ReadsMembers PlacesMember PlacesOthers rows keeps (f x) (g x) (Ok ms) new → new ≡ Ok rest → read (Object rule rows keeps) (json.object ms) ≡ Some (object (f x) (g x))
-object_read {X} f g x rule rows keeps ms rest new sound h is =
+pub object_read : {X : Type 0} {ts : Trees} {others : Members} (f : X → Trees) (g : X → Members) (x : X) (rule : Rule) (rows : Rows) (keeps : Bool) (ms rest : Members) (new : Result Members (Option (List Step)))
+    → is_sound (Object rule rows keeps) ≡ true → Starts rows ts → ReadsMembers (FromStart PlacesMember) PlacesLeft rows keeps ts (f x) others (g x) (Ok ms) new → new ≡ Ok rest
+    → read (Object rule rows keeps) (json.object ms) ≡ Some (object (f x) (g x))
+object_read {X} {ts} {others} f g x rule rows keeps ms rest new sound start h is =
     let lines = sound_rows rule rows sound in
-    decoded (Ok x) f g rows keeps ms lines (subst (λ s. AllPlaced s rows keeps (f x) (g x) ms) is (members_placed lines h))
+    decoded (Ok x) f g rows keeps ms lines (subst (λ s. AllPlaced s rows keeps (f x) (g x) ms) is (members_placed lines start h))
 
 -- and is refused at the first row that is refused
-pub object_refused : (place : Option (List Step)) (rule : Rule) (rows : Rows) (keeps : Bool) (ts : Trees) (unknown ms : Members) (new : Result Members (Option (List Step)))
-    → is_sound (Object rule rows keeps) ≡ true → ReadsMembers PlacesMember PlacesOthers rows keeps ts unknown (Ok ms) new → new ≡ Err place → IsPlaceIn place (Object rule rows keeps) (json.object ms)
-object_refused place rule rows keeps ts unknown ms new sound h is =
-    placed_in place rule rows keeps ts unknown ms (subst (λ s. AllPlaced s rows keeps ts unknown ms) is (members_placed (sound_rows rule rows sound) h))
+pub object_refused : {ts ts' : Trees} {others unknown : Members} (place : Option (List Step)) (rule : Rule) (rows : Rows) (keeps : Bool) (ms : Members) (new : Result Members (Option (List Step)))
+    → is_sound (Object rule rows keeps) ≡ true → Starts rows ts → ReadsMembers (FromStart PlacesMember) PlacesLeft rows keeps ts ts' others unknown (Ok ms) new → new ≡ Err place
+    → IsPlaceIn place (Object rule rows keeps) (json.object ms)
+object_refused {ts} {ts'} {others} {unknown} place rule rows keeps ms new sound start h is =
+    placed_in place rule rows keeps ts' unknown ms (subst (λ s. AllPlaced s rows keeps ts' unknown ms) is (members_placed (sound_rows rule rows sound) start h))
 
 -- so the place is one of its members, or in it
-pub object_refused_inside : (place : Option (List Step)) (rule : Rule) (rows : Rows) (keeps : Bool) (ts : Trees) (unknown ms : Members) (new : Result Members (Option (List Step)))
-    → is_sound (Object rule rows keeps) ≡ true → ReadsMembers PlacesMember PlacesOthers rows keeps ts unknown (Ok ms) new → new ≡ Err place → IsInside place
-object_refused_inside place rule rows keeps ts unknown ms new sound h is =
-    inside_object place rows keeps ts unknown ms (subst (λ s. AllPlaced s rows keeps ts unknown ms) is (members_placed (sound_rows rule rows sound) h))
+pub object_refused_inside : {ts ts' : Trees} {others unknown : Members} (place : Option (List Step)) (rule : Rule) (rows : Rows) (keeps : Bool) (ms : Members) (new : Result Members (Option (List Step)))
+    → is_sound (Object rule rows keeps) ≡ true → Starts rows ts → ReadsMembers (FromStart PlacesMember) PlacesLeft rows keeps ts ts' others unknown (Ok ms) new → new ≡ Err place → IsInside place
+object_refused_inside {ts} {ts'} {others} {unknown} place rule rows keeps ms new sound start h is =
+    inside_object place rows keeps ts' unknown ms (subst (λ s. AllPlaced s rows keeps ts' unknown ms) is (members_placed (sound_rows rule rows sound) start h))
 
 -- ---- an array of what was read
 

@@ -11,48 +11,44 @@ use Rattle.gltf_base.specs.Lists.{images}
 use Rattle.gltf_schema.specs.Kind.{Mark, required, Kind, IndexInto, SourceImage, ChannelSampler, U32, Rows, no_rows, row}
 use Rattle.gltf_schema.specs.Read.{left}
 use Rattle.gltf_schema.specs.Taken.{take_member, take_rows, take_all}
-use Rattle.gltf_schema.specs.RowReading.{ReadsRow, ReadsOthers, RowsFrom, OthersFrom, ReadsMembers, TakesSource, TakesSampler, TakesMember, TakesOthers, ended}
+use Rattle.gltf_schema.specs.RowReading.{ReadsRow, ReadsOthers, RowsFrom, ReadsMembers, Starts, TakesSource, TakesSampler, FromStart, TakesMember, TakesOthers, TakesLeft, ended}
+use Rattle.gltf_schema.proofs.FromStart.{RowsTakenFrom, OthersTakenFrom, from_start, others_start}
 use Rattle.gltf_schema.proofs.TakingOut.{refused_through, refused}
 
 -- ---- rows, whatever they are read from
 
 -- each row was read, in the rows' order
-pub record ReadsRows {S : Type 0} (Takes : S → List ℕ → Mark → Kind → Tree → S → Type 0) (old : S) (rows : Rows) (ts : Trees) (new : S) : Type 0 where
-  pub is : RowsFrom Takes old rows ts new
+pub record ReadsRows {S : Type 0} (Takes : S → List ℕ → Mark → Kind → Tree → Tree → S → Type 0) (old : S) (rows : Rows) (ts ts' : Trees) (new : S) : Type 0 where
+  pub is : RowsFrom Takes old rows ts ts' new
 
 -- no row is left to read
-pub read_none : {S : Type 0} {Takes : S → List ℕ → Mark → Kind → Tree → S → Type 0} {s : S} → ReadsRows Takes s no_rows end s
+pub read_none : {S : Type 0} {Takes : S → List ℕ → Mark → Kind → Tree → Tree → S → Type 0} {s : S} → ReadsRows Takes s no_rows end end s
 read_none {S} {Takes} {s} = record { is = refl }
 
 -- one row, and those after it
-pub read_row : {S : Type 0} {Takes : S → List ℕ → Mark → Kind → Tree → S → Type 0} {old mid new : S} {n : List ℕ} {mark : Mark} {kind : Kind} {rows : Rows} {t : Tree} {ts : Trees}
-    → ReadsRow Takes old n mark kind t mid → ReadsRows Takes mid rows ts new → ReadsRows Takes old (row n mark kind rows) (with_tree t ts) new
-read_row {S} {Takes} {old} {mid} {new} {n} {mark} {kind} {rows} {t} {ts} h k = record { is = (mid, h.is, k.is) }
+pub read_row : {S : Type 0} {Takes : S → List ℕ → Mark → Kind → Tree → Tree → S → Type 0} {old mid new : S} {n : List ℕ} {mark : Mark} {kind : Kind} {rows : Rows} {t t' : Tree} {ts ts' : Trees}
+    → ReadsRow Takes old n mark kind t t' mid → ReadsRows Takes mid rows ts ts' new → ReadsRows Takes old (row n mark kind rows) (with_tree t ts) (with_tree t' ts') new
+read_row {S} {Takes} {old} {mid} {new} {n} {mark} {kind} {rows} {t} {t'} {ts} {ts'} h k = record { is = (mid, h.is, k.is) }
 
 -- each row of an object that keeps no unknown members
-pub all_read : {S : Type 0} {Takes : S → List ℕ → Mark → Kind → Tree → S → Type 0} {Leaves : S → Members → S → Type 0} {rows : Rows} {ts : Trees} {old new : S}
-    → ReadsRows Takes old rows ts new → ReadsMembers Takes Leaves rows false ts no_members old new
-all_read {S} {Takes} {Leaves} {rows} {ts} {old} {new} h = record { mid = new; rows_from = h.is; others_from = (refl, refl) }
+pub all_read : {S : Type 0} {Takes : S → List ℕ → Mark → Kind → Tree → Tree → S → Type 0} {Leaves : S → Members → Members → S → Type 0} {rows : Rows} {ts ts' : Trees} {ms : Members} {old new : S}
+    → ReadsRows Takes old rows ts ts' new → ReadsMembers Takes Leaves rows false ts ts' ms no_members old new
+all_read {S} {Takes} {Leaves} {rows} {ts} {ts'} {ms} {old} {new} h = record { mid = new; rows_from = h.is; others_from = (refl, refl) }
 
 -- each row of one that keeps them
-pub all_kept : {S : Type 0} {Takes : S → List ℕ → Mark → Kind → Tree → S → Type 0} {Leaves : S → Members → S → Type 0} {rows : Rows} {ts : Trees} {unknown : Members} {old mid new : S}
-    → ReadsRows Takes old rows ts mid → ReadsOthers Leaves mid unknown new → ReadsMembers Takes Leaves rows true ts unknown old new
-all_kept {S} {Takes} {Leaves} {rows} {ts} {unknown} {old} {mid} {new} h k = record { mid = mid; rows_from = h.is; others_from = k.is }
-
--- a row's mark said in another way
-pub marked : {S : Type 0} {Takes : S → List ℕ → Mark → Kind → Tree → S → Type 0} {old new : S} {n : List ℕ} {mark mark' : Mark} {kind : Kind} {t : Tree}
-    → mark ≡ mark' → ReadsRow Takes old n mark kind t new → ReadsRow Takes old n mark' kind t new
-marked {S} {Takes} {old} {new} {n} {mark} {mark'} {kind} {t} is h = subst (λ m. ReadsRow Takes old n m kind t new) is h
+pub all_kept : {S : Type 0} {Takes : S → List ℕ → Mark → Kind → Tree → Tree → S → Type 0} {Leaves : S → Members → Members → S → Type 0} {rows : Rows} {ts ts' : Trees} {ms ms' : Members} {old mid new : S}
+    → ReadsRows Takes old rows ts ts' mid → ReadsOthers Leaves mid ms ms' new → ReadsMembers Takes Leaves rows true ts ts' ms ms' old new
+all_kept {S} {Takes} {Leaves} {rows} {ts} {ts'} {ms} {ms'} {old} {mid} {new} h k = record { mid = mid; rows_from = h.is; others_from = k.is }
 
 -- the image of a texture is read as an index into the images
-pub source_read : {S : Type 0} {Takes : S → List ℕ → Mark → Kind → Tree → S → Type 0} {old new : S} {n : List ℕ} {mark : Mark} {t : Tree}
-    → TakesSource Takes → ReadsRow Takes old n mark (IndexInto images) t new → ReadsRow Takes old n mark SourceImage t new
-source_read {S} {Takes} {old} {new} {n} {mark} {t} law h = record { is = law old new n mark t h.is }
+pub source_read : {S : Type 0} {Takes : S → List ℕ → Mark → Kind → Tree → Tree → S → Type 0} {old new : S} {n : List ℕ} {mark : Mark} {t t' : Tree}
+    → TakesSource Takes → ReadsRow Takes old n mark (IndexInto images) t t' new → ReadsRow Takes old n mark SourceImage t t' new
+source_read {S} {Takes} {old} {new} {n} {mark} {t} {t'} law h = record { is = law old new n mark t t' h.is }
 
 -- the sampler of a channel is read as the number that its index is
-pub sampler_read : {S : Type 0} {Takes : S → List ℕ → Mark → Kind → Tree → S → Type 0} {old new : S} {n : List ℕ} {i number : ℕ}
-    → TakesSampler Takes → i ≡ number → ReadsRow Takes old n required U32 (whole number) new → ReadsRow Takes old n required ChannelSampler (index i) new
-sampler_read {S} {Takes} {old} {new} {n} {i} {number} law e h = rw e (record { is = law old new n number h.is })
+pub sampler_read : {S : Type 0} {Takes : S → List ℕ → Mark → Kind → Tree → Tree → S → Type 0} {old new : S} {n : List ℕ} {i j number number' : ℕ}
+    → TakesSampler Takes → i ≡ number → j ≡ number' → ReadsRow Takes old n required U32 (whole number) (whole number') new → ReadsRow Takes old n required ChannelSampler (index i) (index j) new
+sampler_read {S} {Takes} {old} {new} {n} {i} {j} {number} {number'} law e e' h = rw (e, e') (record { is = law old new n number number' h.is })
 
 -- ---- members taken out of a map
 
@@ -100,7 +96,7 @@ both_from (Ok ms) (Err e) new n mark kind rows t ts h k =
     subst (λ r. Reads (λ left. (with_tree t ts, left)) r (take_rows (row n mark kind rows) ms)) (sym k) (row_refused e n mark kind rows ms h)
 both_from (Err e) mid new n mark kind rows t ts h k = subst (λ (r : Result Members Error). RowsTaken r rows ts new) h k
 
-rows_taken : (old : Result Members Error) (rows : Rows) (ts : Trees) (new : Result Members Error) → RowsFrom TakesMember old rows ts new → RowsTaken old rows ts new
+rows_taken : (old : Result Members Error) (rows : Rows) (ts : Trees) (new : Result Members Error) → RowsTakenFrom TakesMember old rows ts new → RowsTaken old rows ts new
 rows_taken old no_rows end new h = none_from old new h
 rows_taken old no_rows (with_tree t ts) new h = absurd h
 rows_taken old (row n mark kind rows) end new h = absurd h
@@ -145,14 +141,14 @@ kept (Ok rest) (Err e) rows ts unknown ms h taken = memory_only e _ _ taken
 kept (Err e) new rows ts unknown ms h taken = subst (λ (s : Result Members Error). AllTaken s rows true ts unknown ms) (sym taken) (all_refused e rows true ms h)
 
 others_taken : (keeps : Bool) (s new : Result Members Error) (rows : Rows) (ts : Trees) (unknown ms : Members)
-    → Reads (λ left. (ts, left)) s (take_rows rows ms) → OthersFrom TakesOthers keeps s unknown new → AllTaken new rows keeps ts unknown ms
+    → Reads (λ left. (ts, left)) s (take_rows rows ms) → OthersTakenFrom TakesOthers keeps s unknown new → AllTaken new rows keeps ts unknown ms
 others_taken true s new rows ts unknown ms h taken = kept s new rows ts unknown ms h taken
 others_taken false s new rows ts unknown ms h taken = rw (taken.0, taken.1) (closed s rows ts ms h)
 
 members_taken : (keeps : Bool) (s mid new : Result Members Error) (rows : Rows) (ts : Trees) (unknown ms : Members)
-    → s ≡ Ok ms → RowsFrom TakesMember s rows ts mid → OthersFrom TakesOthers keeps mid unknown new → AllTaken new rows keeps ts unknown ms
+    → s ≡ Ok ms → RowsTakenFrom TakesMember s rows ts mid → OthersTakenFrom TakesOthers keeps mid unknown new → AllTaken new rows keeps ts unknown ms
 members_taken keeps s mid new rows ts unknown ms is h taken =
-    others_taken keeps mid new rows ts unknown ms (rows_taken (Ok ms) rows ts mid (subst (λ (r : Result Members Error). RowsFrom TakesMember r rows ts mid) is h)) taken
+    others_taken keeps mid new rows ts unknown ms (rows_taken (Ok ms) rows ts mid (subst (λ (r : Result Members Error). RowsTakenFrom TakesMember r rows ts mid) is h)) taken
 
 read_well : (s : Result Members Error) (rows : Rows) (keeps : Bool) (ts : Trees) (unknown ms : Members)
     → Ok tt ≡ ended s → AllTaken s rows keeps ts unknown ms → take_all rows keeps ms ≡ Some (ts, unknown)
@@ -167,11 +163,15 @@ read_ill (Err e') rows keeps ts unknown ms e ill h = let same : e' ≡ e = cc in
 -- ---- an object of what was read
 
 -- each row was read
-pub object_read : {s new : Result Members Error} {rows : Rows} {keeps : Bool} {ts : Trees} {unknown ms : Members}
-    → s ≡ Ok ms → ReadsMembers TakesMember TakesOthers rows keeps ts unknown s new → Ok tt ≡ ended new → take_all rows keeps ms ≡ Some (ts, unknown)
-object_read {s} {new} {rows} {keeps} {ts} {unknown} {ms} is h well = read_well new rows keeps ts unknown ms well (members_taken keeps s h.mid new rows ts unknown ms is h.rows_from h.others_from)
+pub object_read : {s new : Result Members Error} {rows : Rows} {keeps : Bool} {ts ts' : Trees} {others unknown ms : Members}
+    → s ≡ Ok ms → Starts rows ts → ReadsMembers (FromStart TakesMember) TakesLeft rows keeps ts ts' others unknown s new → Ok tt ≡ ended new → take_all rows keeps ms ≡ Some (ts', unknown)
+object_read {s} {new} {rows} {keeps} {ts} {ts'} {others} {unknown} {ms} is start h well =
+    read_well new rows keeps ts' unknown ms well
+    (members_taken keeps s h.mid new rows ts' unknown ms is (from_start TakesMember s h.mid rows ts ts' start h.rows_from) (others_start TakesOthers keeps h.mid new others unknown h.others_from))
 
 -- a row was refused
-pub object_refused : {s new : Result Members Error} {rows : Rows} {keeps : Bool} {ts : Trees} {unknown ms : Members} {e : Error}
-    → s ≡ Ok ms → ReadsMembers TakesMember TakesOthers rows keeps ts unknown s new → Err e ≡ ended new → Refuses e (take_all rows keeps ms)
-object_refused {s} {new} {rows} {keeps} {ts} {unknown} {ms} {e} is h ill = read_ill new rows keeps ts unknown ms e ill (members_taken keeps s h.mid new rows ts unknown ms is h.rows_from h.others_from)
+pub object_refused : {s new : Result Members Error} {rows : Rows} {keeps : Bool} {ts ts' : Trees} {others unknown ms : Members} {e : Error}
+    → s ≡ Ok ms → Starts rows ts → ReadsMembers (FromStart TakesMember) TakesLeft rows keeps ts ts' others unknown s new → Err e ≡ ended new → Refuses e (take_all rows keeps ms)
+object_refused {s} {new} {rows} {keeps} {ts} {ts'} {others} {unknown} {ms} {e} is start h ill =
+    read_ill new rows keeps ts' unknown ms e ill
+    (members_taken keeps s h.mid new rows ts' unknown ms is (from_start TakesMember s h.mid rows ts ts' start h.rows_from) (others_start TakesOthers keeps h.mid new others unknown h.others_from))

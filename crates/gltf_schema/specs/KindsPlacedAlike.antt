@@ -9,7 +9,7 @@ use Rattle.gltf_schema.specs.Tree.{whole, index}
 use Rattle.gltf_schema.specs.Kind.{Mark, required, IndexInto, ChannelSampler, SourceImage, U32}
 use Rattle.gltf_schema.specs.Read.{read, read_member, small_number}
 use Rattle.gltf_schema.specs.KindsReadAlike.{with_index, sampler_member}
-use Rattle.gltf_schema.specs.RowReading.{TakesSource, TakesSampler}
+use Rattle.gltf_schema.specs.RowReading.{TakesSource, TakesSampler, FromStart}
 use Rattle.gltf_schema.specs.Refused.{IsMissingOr, IsRefusedAt}
 use Rattle.gltf_schema.specs.Taken.{take_member}
 use Rattle.gltf_schema.specs.RowPlacing.{IsPlaceOfRow, PlacesMember}
@@ -30,11 +30,11 @@ image_row None n mark ms h = tt
 image_row (Some []) n mark ms h = h
 image_row (Some (step ∷ steps)) n mark ms h = (h.0, h.1, image_in steps (get_member n ms) h.2)
 
-pub source_placed : TakesSource PlacesMember
+pub source_placed : TakesSource (FromStart PlacesMember)
 unfolding take_member
-source_placed (Ok ms) (Ok left) n mark t h = h
-source_placed (Ok ms) (Err place) n mark t h = image_row place n mark ms h
-source_placed (Err place) new n mark t h = h
+source_placed (Ok ms) (Ok left) n mark t t' h = λ start. h start
+source_placed (Ok ms) (Err place) n mark t t' h = λ start. image_row place n mark ms (h start)
+source_placed (Err place) new n mark t t' h = λ start. h start
 
 none_indexed : (r : Option ℕ) → option_map whole r ≡ None → option_map index r ≡ None
 none_indexed None h = refl
@@ -60,7 +60,7 @@ number_row None n ms h = tt
 number_row (Some []) n ms h = h
 number_row (Some (step ∷ steps)) n ms h = (h.0, number_none (get_member n ms) h.1, number_in steps (get_member n ms) h.2)
 
-pub sampler_placed : TakesSampler PlacesMember
-sampler_placed (Ok ms) (Ok left) n i h = sampler_member n ms ∙ ap (option_map with_index) h
-sampler_placed (Ok ms) (Err place) n i h = number_row place n ms h
-sampler_placed (Err place) new n i h = h
+pub sampler_placed : TakesSampler (FromStart PlacesMember)
+sampler_placed (Ok ms) (Ok left) n i j h = λ start. sampler_member n ms ∙ ap (option_map with_index) (h start)
+sampler_placed (Ok ms) (Err place) n i j h = λ start. number_row place n ms (h start)
+sampler_placed (Err place) new n i j h = λ start. h start

@@ -9,12 +9,12 @@ use Rattle.gltf_schema.specs.Tree.{Tree, whole, index}
 use Rattle.gltf_schema.specs.Kind.{required, ChannelSampler, U32}
 use Rattle.gltf_schema.specs.Read.{read, read_member, small_number}
 use Rattle.gltf_schema.specs.Taken.{without, take_member}
-use Rattle.gltf_schema.specs.RowReading.{TakesSource, TakesSampler, TakesMember}
+use Rattle.gltf_schema.specs.RowReading.{TakesSource, TakesSampler, FromStart, TakesMember}
 
-pub source_taken : TakesSource TakesMember
+pub source_taken : TakesSource (FromStart TakesMember)
 unfolding take_member
-source_taken (Ok ms) new n mark t h = h
-source_taken (Err e) new n mark t h = h
+source_taken (Ok ms) new n mark t t' h = λ start. h start
+source_taken (Err e) new n mark t t' h = λ start. h start
 
 -- a row's number as an index
 abbrev pub with_index : Tree × Members → Tree × Members
@@ -39,7 +39,7 @@ sampler_refused (errors.Memory e) n ms h = h
 sampler_refused errors.Schema n ms h = sampler_member n ms ∙ ap (option_map with_index) h
 sampler_refused _ n ms h = absurd h
 
-pub sampler_taken : TakesSampler TakesMember
-sampler_taken (Ok ms) (Ok left) n i h = sampler_member n ms ∙ ap (option_map with_index) h
-sampler_taken (Ok ms) (Err e) n i h = sampler_refused e n ms h
-sampler_taken (Err e) new n i h = h
+pub sampler_taken : TakesSampler (FromStart TakesMember)
+sampler_taken (Ok ms) (Ok left) n i j h = λ start. sampler_member n ms ∙ ap (option_map with_index) (h start)
+sampler_taken (Ok ms) (Err e) n i j h = λ start. sampler_refused e n ms (h start)
+sampler_taken (Err e) new n i j h = λ start. h start

@@ -14,6 +14,8 @@ pub mod Outcome
 pub mod Attributes
 pub mod Taken
 pub mod RowReading
+pub mod Streamed
+pub mod KindsStreamedAlike
 pub mod KindsReadAlike
 pub mod Writings
 pub mod ByName

@@ -1,7 +1,7 @@
 -- What `decode_or_place` gives, and what the rows and the other members of an object are read as by
 -- a driver that keeps the place of what is refused. A place is the steps to it; None stands for a
 -- growth that was refused.
-use Rattle.std.specs.Prelude.{◌≡◌, ⊤, ℕ, List, [], ◌∷◌, map, string_bytes, Option, Some, None, option_map, Result, Ok, Err}
+use Rattle.std.specs.Prelude.{◌≡◌, ◌⊎◌, ⊤, ℕ, List, [], ◌∷◌, map, string_bytes, Option, Some, None, option_map, Result, Ok, Err}
 use Rattle.serde_json.specs.Data.{Data, Members}
 use Rattle.serde_json.specs.Find.{get_member}
 use Rattle.gltf_base.specs.Steps.{Step, field, item}
@@ -84,15 +84,13 @@ PlacesMember (Ok ms) n mark kind t (Ok left) = take_member n mark kind ms ≡ So
 PlacesMember (Ok ms) n mark kind t (Err place) = IsPlaceOfRow place n mark kind ms
 PlacesMember (Err place) n mark kind t new = new ≡ Err place
 
--- a member's value was read and what is left stays, or the place under its name is left
-abbrev pub PlacedFrom : {X : Type 0} → (X → Tree) → Result Members (Option (List Step)) → Option X → List ℕ → Kind → Data → Result Members (Option (List Step)) → Type 0
-PlacedFrom view old (Some x) n kind d new = (read kind d ≡ Some (view x)) × (new ≡ old)
-PlacedFrom view old None n kind d (Err place) = IsPlaceUnder place n kind d
-PlacedFrom view old None n kind d (Ok left) = ⊥
+-- a value was read as a tree and what is left stays, or the place under its name is left
+abbrev pub PlacedFrom : Tree → List ℕ → Kind → Data → Result Members (Option (List Step)) → Result Members (Option (List Step)) → Type 0
+PlacedFrom t n kind d old new = ((read kind d ≡ Some t) × (new ≡ old)) ⊎ ((place : Option (List Step)) × (new ≡ Err place) × IsPlaceUnder place n kind d)
 
--- the value of the member of a name was read
-pub record PlacesValue {X : Type 0} (view : X → Tree) (old : Result Members (Option (List Step))) (found : Option X) (n : List ℕ) (kind : Kind) (d : Data) (new : Result Members (Option (List Step))) : Type 0 where
-  pub is : PlacedFrom view old found n kind d new
+-- the value of the member of a name was read into its place, or refused
+pub record PlacesValue (t : Tree) (n : List ℕ) (kind : Kind) (d : Data) (old new : Result Members (Option (List Step))) : Type 0 where
+  pub is : PlacedFrom t n kind d old new
 
 -- a member is missing, and its place is left; what was refused before stays
 abbrev pub PlacesMissing : Result Members (Option (List Step)) → List ℕ → Result Members (Option (List Step)) → Type 0
@@ -106,3 +104,7 @@ PlacesOthers (Ok ms) others (Ok left) = others ≡ ms
 PlacesOthers (Ok ms) others (Err None) = ⊤
 PlacesOthers (Ok ms) others (Err (Some steps)) = ⊥
 PlacesOthers (Err place) others new = new ≡ Err place
+
+-- the members that are left were taken out into a place
+abbrev pub PlacesLeft : Result Members (Option (List Step)) → Members → Members → Result Members (Option (List Step)) → Type 0
+PlacesLeft old ms ms' new = PlacesOthers old ms' new

@@ -1,6 +1,7 @@
 //! The attributes of a primitive: an object whose names are semantics and whose values are indexes.
 
-ghost use Rattle.std.specs.Prelude.{◌≡◌, map, true, OnOk, refl, string_bytes};
+ghost use Rattle.std.specs.Prelude.{◌≡◌, ◌∷◌, map, true, IfOk, OnOk, refl, string_bytes};
+ghost use Rattle.json.specs.Token.{begin_object};
 ghost use Rattle.serde_json.specs.Data.{no_members, object};
 ghost use Rattle.serde_json.specs.View.{members_view};
 ghost use Rattle.gltf_base.specs.Semantics.{checked_key};
@@ -10,14 +11,17 @@ ghost use Rattle.gltf_schema.specs.Invalid.{is_unknown, any_unknown};
 ghost use Rattle.gltf_schema.specs.Write.{key_name, are_in_order, write_entries};
 ghost use Rattle.gltf_schema.specs.Outcome.{Writes};
 ghost use Rattle.gltf_schema.specs.RowPlacing.{ReadsOrPlaces};
+ghost use Rattle.gltf_schema.specs.Streamed.{ReadsAt};
 
 use crate::placing::{OwnedStep, Refusal};
 use crate::schema::Schema;
 use crate::source::Source;
+use crate::stream::{Stream, Unread};
 use crate::tabled::Tabled;
 use gltf_base::mesh::Semantic;
 use gltf_base::validation::Checked;
 use gltf_base::{Error, IndexTo, Names};
+use json::Token;
 use serde_json::{Map, Value};
 use std::alloc::Global;
 use std::collections::BTreeMap;
@@ -30,6 +34,16 @@ impl<P: Names> Tabled for BTreeMap<Checked<Semantic>, IndexTo<P>> {
 
 impl<P: Names> Schema for BTreeMap<Checked<Semantic>, IndexTo<P>> {
     ghost is_never_absent = { λ _. refl };
+
+    fn from_token<'a>(
+        token: Token<'a>,
+        from: &mut Stream<'a>,
+    ) -> Result<BTreeMap<Checked<Semantic>, IndexTo<P>>, Unread> {
+        match token {
+            Token::BeginObject => read_entries(from),
+            _ => Err(Unread),
+        }
+    }
 
     fn decode_from<S: Source>(
         alloc: Global,
@@ -78,6 +92,33 @@ fn decode_entries<P: Names>(
             Err(refusal) => return Err(refusal.within(OwnedStep::Field(name))),
         }
     }
+    Ok(found)
+}
+
+/// Reads the members of an object whose brace was taken, each under the key that its name means.
+/// Fails if two names mean one key: of those the last one by their bytes counts.
+fn read_entries<'a, P: Names>(
+    from: &mut Stream<'a>,
+) -> Result<BTreeMap<Checked<Semantic>, IndexTo<P>>, Unread>
+    ensures read { IfOk result (λ found. ReadsAt (Attributes P.Item.list) (attributes_tree found)
+        from.old.depth (begin_object ∷ from.old.reader) from.new.reader) }
+    ensures depth { OnOk result (from.new.depth ≡ from.old.depth) }
+    ensures pass { OnOk result (from.new.pass ≡ from.old.pass) }
+{
+    if from.depth == 0 {
+        return Err(Unread);
+    }
+    from.depth -= 1;
+    let mut found = BTreeMap::new(from.alloc);
+    'members: while let Some(name) = from.reader.next_key()? {
+        let key = Semantic::checked(from.alloc, name)?;
+        let token = from.reader.next().ok_or(Unread)?;
+        let index = IndexTo::from_token(token, from)?;
+        if found.insert(key, index)?.is_some() {
+            return Err(Unread);
+        }
+    }
+    from.depth += 1;
     Ok(found)
 }
 

@@ -1,29 +1,34 @@
 //! Kinds without rows.
 
-ghost use Rattle.std.specs.Prelude.{◌≡◌, map, option_map, refl, is_some, IfErr, IsTrue};
+ghost use Rattle.std.specs.Prelude.{◌≡◌, ◌∷◌, OnOk, IfOk, map, option_map, refl, is_some, IfErr, IsTrue};
+ghost use Rattle.json.specs.Token.{begin_array};
 ghost use Rattle.serde_json.specs.Find.{as_array};
 ghost use Rattle.serde_json.specs.Data.{array};
 ghost use Rattle.serde_json.specs.View.{view, items_view};
 ghost use Rattle.gltf_schema.specs.Tree.{whole, truth, trees, list};
 ghost use Rattle.gltf_schema.specs.Kind.{IndexInto, U32, U64, Number, Numbers, Text, Truth, Any, ListOf};
 ghost use Rattle.gltf_schema.specs.Read.{read, read_items, small_number as number_of_32_bits};
-ghost use Rattle.gltf_schema.specs.Fields.{any_tree, index_tree, real_tree, reals_tree, size_tree, text_tree};
+ghost use Rattle.gltf_schema.specs.Fields.{any_tree, index_tree, list_tree, real_tree, reals_tree, size_tree, text_tree};
 ghost use Rattle.gltf_schema.specs.Write.{write, write_items};
 ghost use Rattle.gltf_schema.specs.Invalid.{any_holds_invalid};
 ghost use Rattle.gltf_schema.specs.Outcome.{Reads, Writes};
 ghost use Rattle.gltf_schema.specs.RowPlacing.{place_of, IsInside, ReadsOrPlaces};
 ghost use Rattle.gltf_schema.specs.Printings.{printing_state, PrintsValue};
+ghost use Rattle.gltf_schema.specs.Streamed.{ReadsAt};
 ghost use Rattle.gltf_schema.specs.Leaves.{checked_tree, choice_of, checked_tree-present};
 
 use crate::placing::{OwnedStep, Refusal, whole_or_refused};
 use crate::printing::Printing;
 use crate::schema::Schema;
 use crate::source::Source;
+use crate::stream::{Stream, Unread};
 use crate::tabled::Tabled;
 use crate::tokens::Tokens;
+use crate::{numeral, whole};
 use gltf_base::choice::{Choice, Form, Spelling, item_of};
 use gltf_base::validation::{Checked, USize64};
 use gltf_base::{Error, IndexTo, Names, Real};
+use json::Token;
 use serde_json::Value;
 use std::alloc::Global;
 
@@ -35,6 +40,13 @@ impl Tabled for u32 {
 
 impl Schema for u32 {
     ghost is_never_absent = { λ _. refl };
+
+    fn from_token<'a>(token: Token<'a>, _from: &mut Stream<'a>) -> Result<u32, Unread> {
+        match u32::try_from(whole::of_token(token)?) {
+            Ok(n) => Ok(n),
+            Err(_) => Err(Unread),
+        }
+    }
 
     fn decode_from<S: Source>(_alloc: Global, source: S) -> Result<u32, Error> {
         small_number(&source).ok_or(Error::Schema)
@@ -62,6 +74,10 @@ impl Tabled for USize64 {
 impl Schema for USize64 {
     ghost is_never_absent = { λ _. refl };
 
+    fn from_token<'a>(token: Token<'a>, _from: &mut Stream<'a>) -> Result<USize64, Unread> {
+        Ok(USize64(whole::of_token(token)?))
+    }
+
     fn decode_from<S: Source>(_alloc: Global, source: S) -> Result<USize64, Error> {
         Ok(USize64(source.whole().ok_or(Error::Schema)?))
     }
@@ -88,6 +104,10 @@ impl<P: Names> Tabled for IndexTo<P> {
 impl<P: Names> Schema for IndexTo<P> {
     ghost is_never_absent = { λ _. refl };
 
+    fn from_token<'a>(token: Token<'a>, from: &mut Stream<'a>) -> Result<IndexTo<P>, Unread> {
+        Ok(IndexTo::from_number(u32::from_token(token, from)?))
+    }
+
     fn decode_from<S: Source>(_alloc: Global, source: S) -> Result<IndexTo<P>, Error> {
         Ok(IndexTo::from_number(small_number(&source).ok_or(Error::Schema)?))
     }
@@ -113,6 +133,17 @@ impl Tabled for Real {
 
 impl Schema for Real {
     ghost is_never_absent = { λ _. refl };
+
+    fn from_token<'a>(token: Token<'a>, _from: &mut Stream<'a>) -> Result<Real, Unread> {
+        let Token::Number(text) = token else {
+            return Err(Unread);
+        };
+        let number = numeral::parse(text).ok_or(Unread)?;
+        match Real::from_value(Value::Number(number)) {
+            Ok(x) => Ok(x),
+            Err(_) => Err(Unread),
+        }
+    }
 
     fn decode_from<S: Source>(alloc: Global, source: S) -> Result<Real, Error> {
         match Real::from_value(source.into_value(alloc)?) {
@@ -142,6 +173,14 @@ impl<const N: usize> Tabled for [Real; N] {
 
 impl<const N: usize> Schema for [Real; N] {
     ghost is_never_absent = { λ _. refl };
+
+    fn from_token<'a>(token: Token<'a>, from: &mut Stream<'a>) -> Result<[Real; N], Unread> {
+        let found: Vec<Real> = Vec::from_token(token, from)?;
+        match <[Real; N]>::try_from(found) {
+            Ok(numbers) => Ok(numbers),
+            Err(_) => Err(Unread),
+        }
+    }
 
     fn decode_from<S: Source>(alloc: Global, source: S) -> Result<[Real; N], Error> {
         let Some(items) = source.into_items() else {
@@ -182,6 +221,13 @@ impl Tabled for bool {
 impl Schema for bool {
     ghost is_never_absent = { λ _. refl };
 
+    fn from_token<'a>(token: Token<'a>, _from: &mut Stream<'a>) -> Result<bool, Unread> {
+        match token {
+            Token::Bool(b) => Ok(b),
+            _ => Err(Unread),
+        }
+    }
+
     fn decode_from<S: Source>(_alloc: Global, source: S) -> Result<bool, Error> {
         source.truth().ok_or(Error::Schema)
     }
@@ -207,6 +253,13 @@ impl Tabled for String {
 
 impl Schema for String {
     ghost is_never_absent = { λ _. refl };
+
+    fn from_token<'a>(token: Token<'a>, from: &mut Stream<'a>) -> Result<String, Unread> {
+        match token {
+            Token::String(text) => Ok(String::from_str(from.alloc, text)?),
+            _ => Err(Unread),
+        }
+    }
 
     fn decode_from<S: Source>(alloc: Global, source: S) -> Result<String, Error> {
         source.into_text(alloc)?.ok_or(Error::Schema)
@@ -234,6 +287,10 @@ impl Tabled for Value {
 impl Schema for Value {
     ghost is_never_absent = { λ _. refl };
 
+    fn from_token<'a>(token: Token<'a>, from: &mut Stream<'a>) -> Result<Value, Unread> {
+        from.value_after(token)
+    }
+
     fn decode_from<S: Source>(alloc: Global, source: S) -> Result<Value, Error> {
         Ok(source.into_value(alloc)?)
     }
@@ -259,6 +316,41 @@ impl<T: Choice> Tabled for Checked<T> {
 
 impl<T: Choice> Schema for Checked<T> {
     ghost is_never_absent = { checked_tree-present T.spelling };
+
+    fn from_token<'a>(token: Token<'a>, _from: &mut Stream<'a>) -> Result<Checked<T>, Unread> {
+        match T::form() {
+            Form::Number => Ok(item_of(Spelling::Number(whole::of_token(token)?))),
+            Form::Name => match token {
+                Token::String(name) => Ok(item_of(Spelling::Name(name))),
+                _ => Err(Unread),
+            },
+        }
+    }
+
+    // The provided methods that take a `Stream` would ask that `T` borrows nothing.
+    fn read_token<'a>(&mut self, token: Token<'a>, from: &mut Stream<'a>) -> Result<(), Unread> {
+        *self = Self::from_token(token, from)?;
+        Ok(())
+    }
+
+    fn read_some<'a>(
+        place: &mut Option<Checked<T>>,
+        token: Token<'a>,
+        from: &mut Stream<'a>,
+    ) -> Result<(), Unread> {
+        *place = Some(Self::from_token(token, from)?);
+        Ok(())
+    }
+
+    fn read_onto<'a>(
+        list: &mut Vec<Checked<T>>,
+        token: Token<'a>,
+        from: &mut Stream<'a>,
+    ) -> Result<(), Unread> {
+        let item = Self::from_token(token, from)?;
+        list.push(item)?;
+        Ok(())
+    }
 
     fn decode_from<S: Source>(_alloc: Global, source: S) -> Result<Checked<T>, Error> {
         match T::form() {
@@ -315,6 +407,13 @@ impl<T: Choice> Schema for Checked<T> {
 impl<T: Schema> Schema for Vec<T> {
     ghost is_never_absent = { λ _. refl };
 
+    fn from_token<'a>(token: Token<'a>, from: &mut Stream<'a>) -> Result<Vec<T>, Unread> {
+        match token {
+            Token::BeginArray => read_items(from),
+            _ => Err(Unread),
+        }
+    }
+
     fn decode_from<S: Source>(alloc: Global, source: S) -> Result<Vec<T>, Error> {
         let Some(items) = source.into_items() else {
             return Err(Error::Schema);
@@ -362,6 +461,26 @@ fn decode_items<S: Source, T: Schema>(alloc: Global, items: S::Items) -> Result<
         T::decode_onto(alloc, item, &mut found)?;
     }
     Ok(found)
+}
+
+/// Reads the items of an array whose bracket was taken.
+fn read_items<'a, T: Schema>(from: &mut Stream<'a>) -> Result<Vec<T>, Unread>
+    ensures read { IfOk result (λ v. ReadsAt (ListOf T.kind) (list_tree T.tree v.items)
+        from.old.depth (begin_array ∷ from.old.reader) from.new.reader) }
+    ensures depth { OnOk result (from.new.depth ≡ from.old.depth) }
+    ensures pass { OnOk result (from.new.pass ≡ from.old.pass) }
+{
+    if from.depth == 0 {
+        return Err(Unread);
+    }
+    from.depth -= 1;
+    let mut list = Vec::new(from.alloc);
+    'items: while !from.reader.take_end_array() {
+        let token = from.reader.next().ok_or(Unread)?;
+        T::read_onto(&mut list, token, from)?;
+    }
+    from.depth += 1;
+    Ok(list)
 }
 
 /// Each item, in order. Fails with the place of the first item that is refused.

@@ -2,9 +2,9 @@
 #![tactic(auto)]
 
 mod attributes;
-mod blank;
 pub mod laws;
 mod leaf;
+mod numeral;
 mod omittable;
 mod placing;
 mod printed;
@@ -13,12 +13,15 @@ mod put;
 mod reading;
 mod schema;
 mod source;
+mod stream;
 mod tabled;
+mod text;
 mod tokens;
 mod unlisted;
+mod value;
+mod whole;
 mod writing;
 
-pub use blank::Blank;
 pub use gltf_base::Error;
 pub use omittable::Omittable;
 pub use placing::{OwnedStep, Placing, Refusal, whole_or_refused};
@@ -26,7 +29,9 @@ pub use printing::Printing;
 pub use reading::{ReadRows, Reading};
 pub use schema::{Object, Schema};
 pub use source::Source;
+pub use stream::{Stream, Unread};
 pub use tabled::Tabled;
+pub use text::read_text;
 pub use tokens::Tokens;
 pub use unlisted::{DroppedExtensions, KeptExtensions, Unlisted};
 pub use writing::{WriteRows, Writing};

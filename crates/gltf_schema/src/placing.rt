@@ -4,13 +4,12 @@
 ghost use Rattle.std.specs.Prelude.{◌≡◌, List, Option, Result, IfErr};
 ghost use Rattle.serde_json.specs.Data.{Members, object as json_object};
 ghost use Rattle.gltf_base.specs.Steps.{Step as AnyStep, step_of, field};
-ghost use Rattle.gltf_schema.specs.Tree.{object};
+ghost use Rattle.gltf_schema.specs.Tree.{object, tree_or_absent};
 ghost use Rattle.gltf_schema.specs.Kind.{Object as object_kind};
-ghost use Rattle.gltf_schema.specs.RowReading.{TakesOut};
-ghost use Rattle.gltf_schema.specs.RowPlacing.{owned_step, place_of, error_place, IsWithin, IsInside, IsWhole, ReadsOrPlaces, PlacesValue, PlacesMissing, members_or_place, PlacesMember, PlacesOthers};
+ghost use Rattle.gltf_schema.specs.RowReading.{FromStart, TakesOut};
+ghost use Rattle.gltf_schema.specs.RowPlacing.{owned_step, place_of, error_place, IsWithin, IsInside, IsWhole, ReadsOrPlaces, PlacesValue, PlacesMissing, members_or_place, PlacesMember, PlacesLeft};
 ghost use Rattle.gltf_schema.specs.KindsPlacedAlike.{source_placed, sampler_placed};
 
-use crate::blank::Blank;
 use crate::reading::ReadRows;
 use crate::schema::{Object, Schema};
 use crate::source::Source;
@@ -132,11 +131,12 @@ pub(crate) fn place_members<S: Source, T: Object>(
         (object_kind T.rule T.rows T.keeps) (json_object (S.members found)) }
     ensures inside { IfErr result (λ r. IsInside (place_of r)) }
 {
+    let mut object = T::start(alloc);
     let mut placing = Placing::<S> {
         alloc,
         state: Ok(found),
     };
-    let object = T::read_members(&mut placing);
+    object.read_rows(&mut placing);
     let _left = placing.state?;
     Ok(object)
 }
@@ -153,18 +153,28 @@ impl<S: Source> Placing<S> {
         }
     }
 
-    /// What the table reads of the value of the member of this name; if it refuses the value, it
-    /// refuses the row, and the place is under the name.
-    fn decode<T: Schema>(&mut self, name: &str, value: S) -> Option<T>
-        ensures { PlacesValue T.tree (members_or_place S.members self.old.state) result name.now
-            T.kind (S.given value) (members_or_place S.members self.new.state) }
+    /// Puts what the table reads of the value of the member of this name into its place; if it
+    /// refuses the value, it refuses the row, and the place of the refusal is under the name.
+    fn decode<T: Schema>(&mut self, name: &str, value: S, place: &mut T)
+        ensures { PlacesValue (T.tree place.new) name.now T.kind (S.given value)
+            (members_or_place S.members self.old.state)
+            (members_or_place S.members self.new.state) }
     {
         match T::decode_or_place(self.alloc, value) {
-            Ok(x) => Some(x),
-            Err(refusal) => {
-                self.state = Err(refusal.within_field(self.alloc, name));
-                None
-            }
+            Ok(x) => *place = x,
+            Err(refusal) => self.state = Err(refusal.within_field(self.alloc, name)),
+        }
+    }
+
+    /// The same, for a member that may be absent.
+    fn decode_some<T: Schema>(&mut self, name: &str, value: S, place: &mut Option<T>)
+        ensures { PlacesValue (tree_or_absent T.tree place.new) name.now T.kind (S.given value)
+            (members_or_place S.members self.old.state)
+            (members_or_place S.members self.new.state) }
+    {
+        match T::decode_or_place(self.alloc, value) {
+            Ok(x) => *place = Some(x),
+            Err(refusal) => self.state = Err(refusal.within_field(self.alloc, name)),
         }
     }
 
@@ -185,69 +195,52 @@ impl<S: Source> ReadRows for Placing<S> {
 
     ghost state = { λ p. members_or_place S.members p.state };
 
-    ghost Takes = { PlacesMember };
+    ghost Takes = { FromStart PlacesMember };
 
-    ghost Leaves = { PlacesOthers };
+    ghost Leaves = { PlacesLeft };
 
     ghost as_source = { source_placed };
 
     ghost as_sampler = { sampler_placed };
 
-    fn others(&mut self) -> Map<String, Value> {
+    fn others(&mut self, place: &mut Map<String, Value>) {
         let empty = S::no_fields(self.alloc);
         match mem::replace(&mut self.state, Ok(empty)) {
             Ok(members) => match S::into_others(members, self.alloc) {
-                Ok(others) => others,
-                Err(refused) => {
-                    self.state = Err(Refusal::Memory(refused));
-                    Map::new(self.alloc)
-                }
+                Ok(others) => *place = others,
+                Err(refused) => self.state = Err(Refusal::Memory(refused)),
             },
-            Err(refusal) => {
-                self.state = Err(refusal);
-                Map::new(self.alloc)
-            }
+            Err(refusal) => self.state = Err(refusal),
         }
     }
 
-    fn required<T: Schema + Blank>(&mut self, name: &'static str) -> T {
+    fn required<T: Schema>(&mut self, name: &'static str, place: &mut T) {
         match self.take(name) {
-            Some(value) => match self.decode(name, value) {
-                Some(x) => x,
-                None => T::blank(self.alloc),
-            },
-            None => {
-                self.refuse(name);
-                T::blank(self.alloc)
-            }
+            Some(value) => self.decode(name, value, place),
+            None => self.refuse(name),
         }
     }
 
-    fn optional<T: Schema>(&mut self, name: &'static str) -> Option<T> {
-        let value = self.take(name)?;
+    fn optional<T: Schema>(&mut self, name: &'static str, place: &mut Option<T>) {
+        let Some(value) = self.take(name) else {
+            return;
+        };
         if value.is_null() {
-            return None;
+            *place = None;
+        } else {
+            self.decode_some(name, value, place);
         }
-        self.decode(name, value)
     }
 
-    fn sometimes<T: Schema>(&mut self, name: &'static str) -> Option<T> {
-        let value = self.take(name)?;
-        self.decode(name, value)
+    fn sometimes<T: Schema>(&mut self, name: &'static str, place: &mut Option<T>) {
+        if let Some(value) = self.take(name) {
+            self.decode_some(name, value, place);
+        }
     }
 
-    fn list<T: Schema>(&mut self, name: &'static str) -> Vec<T> {
-        let empty: Vec<T> = Vec::new(self.alloc);
-        self.or_default(name, empty)
-    }
-
-    fn or_default<T: Schema + Blank>(&mut self, name: &'static str, default: T) -> T {
-        match self.take(name) {
-            Some(value) => match self.decode(name, value) {
-                Some(x) => x,
-                None => T::blank(self.alloc),
-            },
-            None => default,
+    fn or_default<T: Schema>(&mut self, name: &'static str, place: &mut T) {
+        if let Some(value) = self.take(name) {
+            self.decode(name, value, place);
         }
     }
 }

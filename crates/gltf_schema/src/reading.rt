@@ -1,15 +1,14 @@
 //! An object's members as they are read, row by row.
 
-ghost use Rattle.std.specs.Prelude.{◌≡◌, ℕ, List, Ok, Result, map};
+ghost use Rattle.std.specs.Prelude.{◌≡◌, ℕ, List, Ok, Result};
 ghost use Rattle.serde_json.specs.Data.{Members};
 ghost use Rattle.serde_json.specs.View.{members_view};
+ghost use Rattle.gltf_schema.specs.Tree.{Tree, tree_or_absent};
+ghost use Rattle.gltf_schema.specs.Kind.{Kind, Mark, required as is_required, optional as is_optional, always, unless, sometimes as is_sometimes, or_null};
+ghost use Rattle.gltf_schema.specs.RowReading.{ReadsRow, ReadsOthers, TakesSource, TakesSampler, FromStart, TakesMember, TakesOut, TakesLeft, members_or_error, ReadsValue, refused_by, ended};
 ghost use Rattle.gltf_base.specs.declared.error.Error.{Error as AnError};
-ghost use Rattle.gltf_schema.specs.Tree.{Tree, tree_or_absent, trees, list as list_tree, end};
-ghost use Rattle.gltf_schema.specs.Kind.{Kind, Mark, required as is_required, optional as is_optional, always, unless, sometimes as is_sometimes, or_null, ListOf};
-ghost use Rattle.gltf_schema.specs.RowReading.{ReadsRow, ReadsOthers, TakesSource, TakesSampler, members_or_error, TakesMember, TakesOut, ReadsValue, refused_by, TakesOthers, ended};
 ghost use Rattle.gltf_schema.specs.KindsReadAlike.{source_taken, sampler_taken};
 
-use crate::blank::Blank;
 use crate::schema::Schema;
 use crate::source::Source;
 use gltf_base::Error;
@@ -19,51 +18,48 @@ use std::mem;
 
 /// What the rows of an object are read from.
 ///
-/// Each method reads one row of the table. Once a row was refused, what the methods return means
-/// nothing.
+/// Each method reads one row of the table into its place, which holds the row's default before.
+/// Once a row was refused, what the places hold means nothing.
 pub trait ReadRows: Drop {
-    /// What is left to read, or why it is not read.
     ghost State: { Type 0 };
 
     ghost state: { Self → State };
 
-    ghost Takes: { State → List ℕ → Mark → Kind → Tree → State → Type 0 };
+    ghost Takes: { State → List ℕ → Mark → Kind → Tree → Tree → State → Type 0 };
 
-    ghost Leaves: { State → Members → State → Type 0 };
+    ghost Leaves: { State → Members → Members → State → Type 0 };
 
     /// The members that no row took.
-    fn others(&mut self) -> Map<String, Value>
-        ensures { ReadsOthers Leaves (state self.old) (members_view result.entries)
-            (state self.new) };
+    fn others(&mut self, place: &mut Map<String, Value>)
+        ensures { ReadsOthers Leaves (state self.old) (members_view place.old.entries)
+            (members_view place.new.entries) (state self.new) };
 
     /// A member that has to be there.
-    fn required<T: Schema + Blank>(&mut self, name: &'static str) -> T
-        ensures { ReadsRow Takes (state self.old) name.now is_required T.kind (T.tree result)
-            (state self.new) };
+    fn required<T: Schema>(&mut self, name: &'static str, place: &mut T)
+        ensures { ReadsRow Takes (state self.old) name.now is_required T.kind (T.tree place.old)
+            (T.tree place.new) (state self.new) };
 
     /// A member that is absent where it is missing or null.
-    fn optional<T: Schema>(&mut self, name: &'static str) -> Option<T>
+    fn optional<T: Schema>(&mut self, name: &'static str, place: &mut Option<T>)
         ensures left_out { ReadsRow Takes (state self.old) name.now is_optional T.kind
-            (tree_or_absent T.tree result) (state self.new) }
+            (tree_or_absent T.tree place.old) (tree_or_absent T.tree place.new)
+            (state self.new) }
         ensures or_null { ReadsRow Takes (state self.old) name.now or_null T.kind
-            (tree_or_absent T.tree result) (state self.new) };
+            (tree_or_absent T.tree place.old) (tree_or_absent T.tree place.new)
+            (state self.new) };
 
     /// A member that is absent where it is missing; null is refused.
-    fn sometimes<T: Schema>(&mut self, name: &'static str) -> Option<T>
+    fn sometimes<T: Schema>(&mut self, name: &'static str, place: &mut Option<T>)
         ensures { ReadsRow Takes (state self.old) name.now is_sometimes T.kind
-            (tree_or_absent T.tree result) (state self.new) };
-
-    /// A list that is empty where its member is missing.
-    fn list<T: Schema>(&mut self, name: &'static str) -> Vec<T>
-        ensures { ReadsRow Takes (state self.old) name.now (unless (list_tree end)) (ListOf T.kind)
-            (list_tree (trees (map T.tree result.items))) (state self.new) };
+            (tree_or_absent T.tree place.old) (tree_or_absent T.tree place.new)
+            (state self.new) };
 
     /// A member that is the default where it is missing, whether or not it is written then.
-    fn or_default<T: Schema + Blank>(&mut self, name: &'static str, default: T) -> T
-        ensures always { ReadsRow Takes (state self.old) name.now (always (T.tree default)) T.kind
-            (T.tree result) (state self.new) }
-        ensures unless { ReadsRow Takes (state self.old) name.now (unless (T.tree default)) T.kind
-            (T.tree result) (state self.new) };
+    fn or_default<T: Schema>(&mut self, name: &'static str, place: &mut T)
+        ensures always { (t : Tree) → ReadsRow Takes (state self.old) name.now (always t) T.kind
+            (T.tree place.old) (T.tree place.new) (state self.new) }
+        ensures unless { (t : Tree) → ReadsRow Takes (state self.old) name.now (unless t) T.kind
+            (T.tree place.old) (T.tree place.new) (state self.new) };
 
     // The image of a texture is read as an index into the images.
     ghost as_source: { TakesSource Takes };
@@ -104,21 +100,30 @@ impl<S: Source> Reading<S> {
         }
     }
 
-    /// What the table reads of a member's value; if it refuses the value, it refuses the row.
-    ///
-    /// The row looks for the member first, by the small `Option<S>`. The `None` of a large type is
-    /// as large, and each function that passes it on copies it.
+    /// Puts what the table reads of a member's value into its place; if it refuses the value, it
+    /// refuses the row.
     #[inline(always)]
-    fn decode<T: Schema>(&mut self, value: S) -> Option<T>
-        ensures { ReadsValue T.tree (members_or_error S.members self.old.state) result T.kind
-            (S.given value) (members_or_error S.members self.new.state) }
+    fn decode<T: Schema>(&mut self, value: S, place: &mut T)
+        ensures { ReadsValue (T.tree place.new) T.kind (S.given value)
+            (members_or_error S.members self.old.state)
+            (members_or_error S.members self.new.state) }
     {
         match T::decode_from(self.alloc, value) {
-            Ok(x) => Some(x),
-            Err(e) => {
-                self.state = Err(e);
-                None
-            }
+            Ok(x) => *place = x,
+            Err(e) => self.state = Err(e),
+        }
+    }
+
+    /// The same, for a member that may be absent.
+    #[inline(always)]
+    fn decode_some<T: Schema>(&mut self, value: S, place: &mut Option<T>)
+        ensures { ReadsValue (tree_or_absent T.tree place.new) T.kind (S.given value)
+            (members_or_error S.members self.old.state)
+            (members_or_error S.members self.new.state) }
+    {
+        match T::decode_from(self.alloc, value) {
+            Ok(x) => *place = Some(x),
+            Err(e) => self.state = Err(e),
         }
     }
 
@@ -145,69 +150,52 @@ impl<S: Source> ReadRows for Reading<S> {
 
     ghost state = { λ r. members_or_error S.members r.state };
 
-    ghost Takes = { TakesMember };
+    ghost Takes = { FromStart TakesMember };
 
-    ghost Leaves = { TakesOthers };
+    ghost Leaves = { TakesLeft };
 
     ghost as_source = { source_taken };
 
     ghost as_sampler = { sampler_taken };
 
-    fn others(&mut self) -> Map<String, Value> {
+    fn others(&mut self, place: &mut Map<String, Value>) {
         let empty = S::no_fields(self.alloc);
         match mem::replace(&mut self.state, Ok(empty)) {
             Ok(members) => match S::into_others(members, self.alloc) {
-                Ok(others) => others,
-                Err(e) => {
-                    self.state = Err(Error::from(e));
-                    Map::new(self.alloc)
-                }
+                Ok(others) => *place = others,
+                Err(e) => self.state = Err(Error::from(e)),
             },
-            Err(e) => {
-                self.state = Err(e);
-                Map::new(self.alloc)
-            }
+            Err(e) => self.state = Err(e),
         }
     }
 
-    fn required<T: Schema + Blank>(&mut self, name: &'static str) -> T {
+    fn required<T: Schema>(&mut self, name: &'static str, place: &mut T) {
         match self.take(name) {
-            Some(value) => match self.decode(value) {
-                Some(x) => x,
-                None => T::blank(self.alloc),
-            },
-            None => {
-                self.refuse(Error::Schema);
-                T::blank(self.alloc)
-            }
+            Some(value) => self.decode(value, place),
+            None => self.refuse(Error::Schema),
         }
     }
 
-    fn optional<T: Schema>(&mut self, name: &'static str) -> Option<T> {
-        let value = self.take(name)?;
+    fn optional<T: Schema>(&mut self, name: &'static str, place: &mut Option<T>) {
+        let Some(value) = self.take(name) else {
+            return;
+        };
         if value.is_null() {
-            return None;
+            *place = None;
+        } else {
+            self.decode_some(value, place);
         }
-        self.decode(value)
     }
 
-    fn sometimes<T: Schema>(&mut self, name: &'static str) -> Option<T> {
-        let value = self.take(name)?;
-        self.decode(value)
+    fn sometimes<T: Schema>(&mut self, name: &'static str, place: &mut Option<T>) {
+        if let Some(value) = self.take(name) {
+            self.decode_some(value, place);
+        }
     }
 
-    fn list<T: Schema>(&mut self, name: &'static str) -> Vec<T> {
-        let empty: Vec<T> = Vec::new(self.alloc);
-        self.or_default(name, empty)
-    }
-
-    fn or_default<T: Schema + Blank>(&mut self, name: &'static str, default: T) -> T {
-        match self.take(name) {
-            Some(value) => match self.decode(value) {
-                Some(x) => x,
-                None => T::blank(self.alloc),
-            },
-            None => default,
+    fn or_default<T: Schema>(&mut self, name: &'static str, place: &mut T) {
+        if let Some(value) = self.take(name) {
+            self.decode(value, place);
         }
     }
 }

@@ -1,10 +1,11 @@
 //! What is read and written by the table.
 
-ghost use Rattle.std.specs.Prelude.{◌≡◌, ◌≤◌, ℕ, Bool, true, false, IsTrue, IfOk, IfErr, OnOk, Some, Err, is_some, refl};
+ghost use Rattle.std.specs.Prelude.{◌≡◌, ◌≤◌, ◌∷◌, ℕ, Bool, true, false, IsTrue, IfOk, IfErr, OnOk, Some, Err, is_some, refl};
+ghost use Rattle.json.specs.Reads.{token_of};
 ghost use Rattle.serde_json.specs.Find.{as_object};
-ghost use Rattle.serde_json.specs.Data.{Members};
+ghost use Rattle.serde_json.specs.Data.{Members, no_members};
 ghost use Rattle.serde_json.specs.View.{view, members_view};
-ghost use Rattle.gltf_schema.specs.Tree.{Trees, object, is_absent};
+ghost use Rattle.gltf_schema.specs.Tree.{Trees, object, is_absent, tree_or_absent};
 ghost use Rattle.gltf_schema.specs.Kind.{Rule, no_rule, Rows, Object as object_kind};
 ghost use Rattle.gltf_schema.specs.Read.{read};
 ghost use Rattle.gltf_schema.specs.Write.{write};
@@ -19,22 +20,25 @@ ghost use Rattle.gltf_schema.specs.Height.{kind_height};
 ghost use Rattle.gltf_schema.specs.Taken.{take_all};
 ghost use Rattle.gltf_schema.specs.Leaves.{wants_object};
 ghost use Rattle.gltf_schema.specs.Outcome.{Reads, ReadsOnto, Writes};
-ghost use Rattle.gltf_schema.specs.RowReading.{ReadsMembers};
+ghost use Rattle.gltf_schema.specs.RowReading.{ReadsMembers, Starts, required_in};
 ghost use Rattle.gltf_schema.specs.RowPlacing.{place_of, IsInside, ReadsOrPlaces};
+ghost use Rattle.gltf_schema.specs.Streamed.{ReadsAt, ReadsItem};
 
 use crate::placing::{Refusal, place_members};
 use crate::printing::Printing;
 use crate::reading::{ReadRows, Reading};
 use crate::source::Source;
+use crate::stream::{Stream, Unread, read_object};
 use crate::tabled::Tabled;
 use crate::tokens::Tokens;
 use crate::writing::{WriteRows, Writing};
 use gltf_base::Error;
+use json::Token;
 use serde_json::{Map, Value};
 use std::alloc::{AllocError, Global};
 
 /// A type that is read from JSON and written to it.
-pub trait Schema: Tabled + Drop {
+pub trait Schema: Tabled + Drop + Sized {
     /// Decodes a value from any source of JSON. Fails with `Schema` if and only if the JSON isn't
     /// valid for this type. Out of memory, it may fail with `Memory` instead.
     fn decode_from<S: Source>(alloc: Global, source: S) -> Result<Self, Error>
@@ -54,8 +58,65 @@ pub trait Schema: Tabled + Drop {
         Self::decode_from(alloc, value)
     }
 
-    /// Decodes a value as [`Schema::decode_from`] does, and pushes it onto a list, which saves
-    /// moving it. After an error the items are as they were.
+    /// Returns the value of a text that begins with a token, which was taken from the text. Fails
+    /// for whatever reason: [`Schema::decode_from`] says which.
+    fn from_token<'a>(token: Token<'a>, from: &mut Stream<'a>) -> Result<Self, Unread>
+        ensures read { IfOk result (λ x. ReadsAt Self.kind (Self.tree x) from.old.depth
+            (token_of token.entry ∷ from.old.reader) from.new.reader) }
+        ensures depth { OnOk result (from.new.depth ≡ from.old.depth) }
+        ensures pass { OnOk result (from.new.pass ≡ from.old.pass) }
+    {
+        let value = from.value_after(token)?;
+        Ok(Self::decode_from(from.alloc, value)?)
+    }
+
+    /// Reads a value as [`Schema::from_token`] does into this place, which saves moving it. After
+    /// an error any value may be here.
+    fn read_token<'a>(&mut self, token: Token<'a>, from: &mut Stream<'a>) -> Result<(), Unread>
+        ensures read { OnOk result (ReadsAt Self.kind (Self.tree self.new) from.old.depth
+            (token_of token.entry ∷ from.old.reader) from.new.reader) }
+        ensures depth { OnOk result (from.new.depth ≡ from.old.depth) }
+        ensures pass { OnOk result (from.new.pass ≡ from.old.pass) }
+    {
+        *self = Self::from_token(token, from)?;
+        Ok(())
+    }
+
+    /// Reads a value as [`Schema::from_token`] does into a place that may be empty. After an error
+    /// any value may be there.
+    fn read_some<'a>(
+        place: &mut Option<Self>,
+        token: Token<'a>,
+        from: &mut Stream<'a>,
+    ) -> Result<(), Unread>
+        ensures read { OnOk result (ReadsAt Self.kind (tree_or_absent Self.tree place.new)
+            from.old.depth (token_of token.entry ∷ from.old.reader) from.new.reader) }
+        ensures depth { OnOk result (from.new.depth ≡ from.old.depth) }
+        ensures pass { OnOk result (from.new.pass ≡ from.old.pass) }
+    {
+        *place = Some(Self::from_token(token, from)?);
+        Ok(())
+    }
+
+    /// Reads a value as [`Schema::from_token`] does, and pushes it onto a list. After an error the
+    /// list may have one item more.
+    fn read_onto<'a>(
+        list: &mut Vec<Self>,
+        token: Token<'a>,
+        from: &mut Stream<'a>,
+    ) -> Result<(), Unread>
+        ensures read { OnOk result (ReadsItem Self.kind Self.tree list.old.items list.new.items
+            from.old.depth (token_of token.entry ∷ from.old.reader) from.new.reader) }
+        ensures depth { OnOk result (from.new.depth ≡ from.old.depth) }
+        ensures pass { OnOk result (from.new.pass ≡ from.old.pass) }
+    {
+        let item = Self::from_token(token, from)?;
+        list.push(item)?;
+        Ok(())
+    }
+
+    /// Decodes a value as [`Schema::decode_from`] does, and pushes it onto a list. After an error
+    /// the items are as they were.
     fn decode_onto<S: Source>(alloc: Global, source: S, list: &mut Vec<Self>) -> Result<(), Error>
         ensures { ReadsOnto Self.tree list.old.items result list.new.items
             (read Self.kind (S.given source)) }
@@ -119,8 +180,9 @@ pub trait Object: Drop {
         ensures { Reads (λ x. (members x, unknown x)) result
             (take_all rows keeps (S.members found)) }
     {
+        let mut object = Self::start(alloc);
         let mut reading = Reading::<S>::from_members(alloc, found);
-        let object = Self::read_members(&mut reading);
+        object.read_rows(&mut reading);
         // With `?` the object would be moved once more.
         match reading.end() {
             Ok(()) => Ok(object),
@@ -128,11 +190,21 @@ pub trait Object: Drop {
         }
     }
 
-    /// Reads each row in the table's order, and then the members that no row took, if the object
-    /// keeps such members.
-    fn read_members<R: ReadRows>(from: &mut R) -> Self
-        ensures { ReadsMembers R.Takes R.Leaves rows keeps (members result) (unknown result)
-            (R.state from.old) (R.state from.new) };
+    /// Returns the object before any member is read: each row's default, or any value where there
+    /// is none.
+    fn start(alloc: Global) -> Self
+        ensures rows { Starts rows (members result) }
+        ensures others { unknown result ≡ no_members };
+
+    /// Returns how many members have to be there.
+    fn count_required() -> usize
+        ensures { result ≡ required_in rows };
+
+    /// Reads each row in the table's order into its place, and then the members that no row took,
+    /// if the object keeps such members.
+    fn read_rows<R: ReadRows>(&mut self, from: &mut R)
+        ensures { ReadsMembers R.Takes R.Leaves rows keeps (members self.old) (members self.new)
+            (unknown self.old) (unknown self.new) (R.state from.old) (R.state from.new) };
 
     /// Writes each row in the byte order of the rows' names, behind the members that no row names,
     /// if the object keeps such members.
@@ -180,20 +252,46 @@ impl<T: Object> Schema for T {
         }
     }
 
-    fn decode_onto<S: Source>(alloc: Global, source: S, list: &mut Vec<T>) -> Result<(), Error> {
-        let Some(found) = source.into_fields() else {
-            return Err(Error::Schema);
+    fn from_token<'a>(token: Token<'a>, from: &mut Stream<'a>) -> Result<T, Unread> {
+        let Token::BeginObject = token else {
+            return Err(Unread);
         };
-        // `push` and `pop` return items, and each call of them clears memory for one.
-        list.reserve(1)?;
-        let before = list.len();
-        let mut reading = Reading::<S>::from_members(alloc, found);
-        list.push_reserved(T::read_members(&mut reading));
-        if let Err(e) = reading.end() {
-            list.truncate(before);
-            return Err(e);
+        let mut object = T::start(from.alloc);
+        // With `?` the object would be moved once more.
+        match read_object(&mut object, from) {
+            Ok(()) => Ok(object),
+            Err(e) => Err(e),
         }
-        Ok(())
+    }
+
+    fn read_token<'a>(&mut self, token: Token<'a>, from: &mut Stream<'a>) -> Result<(), Unread> {
+        let Token::BeginObject = token else {
+            return Err(Unread);
+        };
+        *self = T::start(from.alloc);
+        read_object(self, from)
+    }
+
+    fn read_some<'a>(
+        place: &mut Option<T>,
+        token: Token<'a>,
+        from: &mut Stream<'a>,
+    ) -> Result<(), Unread> {
+        let Token::BeginObject = token else {
+            return Err(Unread);
+        };
+        read_object(place.insert(T::start(from.alloc)), from)
+    }
+
+    fn read_onto<'a>(
+        list: &mut Vec<T>,
+        token: Token<'a>,
+        from: &mut Stream<'a>,
+    ) -> Result<(), Unread> {
+        let Token::BeginObject = token else {
+            return Err(Unread);
+        };
+        read_object(list.push_mut(T::start(from.alloc))?, from)
     }
 
     fn decode(alloc: Global, value: Value) -> Result<T, Error>

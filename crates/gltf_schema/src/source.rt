@@ -1,4 +1,4 @@
-//! Where a value is read from: a `serde_json::Value`, or a value that borrows a text.
+//! Where a value is read from: a `serde_json::Value`, or a source of your own.
 
 ghost use Rattle.std.specs.Prelude.{◌≡◌, IfOk, MatchOption, is_some, option_map, string_bytes};
 ghost use Rattle.std.specs.Vec.Iter.{into_iter_items};

@@ -27,9 +27,9 @@ pub trait Unlisted: Drop {
         ensures { kept result ≡ left is_keeping (members_view others.entries) };
 
     /// Reads the members, if it keeps them.
-    fn read_others<R: ReadRows>(from: &mut R) -> Self
-        ensures { ReadsMembers R.Takes R.Leaves no_rows is_keeping end (kept result)
-            (R.state from.old) (R.state from.new) };
+    fn read_others<R: ReadRows>(&mut self, from: &mut R)
+        ensures { ReadsMembers R.Takes R.Leaves no_rows is_keeping end end (kept self.old)
+            (kept self.new) (R.state from.old) (R.state from.new) };
 
     /// The members that it keeps, or `None` where it drops them all.
     fn others(&self) -> Option<&Map<String, Value>>
@@ -52,8 +52,16 @@ impl<T: Unlisted> Object for T {
 
     ghost height_bounds_kind = { (refl, lit≤ tt) };
 
-    fn read_members<R: ReadRows>(from: &mut R) -> T {
-        T::read_others(from)
+    fn start(alloc: Global) -> T {
+        T::from_others(Map::new(alloc))
+    }
+
+    fn count_required() -> usize {
+        0
+    }
+
+    fn read_rows<R: ReadRows>(&mut self, from: &mut R) {
+        self.read_others(from);
     }
 
     fn write_members<W: WriteRows>(&self, to: &mut W) {
@@ -79,8 +87,8 @@ impl Unlisted for KeptExtensions {
         KeptExtensions { others }
     }
 
-    fn read_others<R: ReadRows>(from: &mut R) -> KeptExtensions {
-        KeptExtensions::from_others(from.others())
+    fn read_others<R: ReadRows>(&mut self, from: &mut R) {
+        from.others(&mut self.others);
     }
 
     fn others(&self) -> Option<&Map<String, Value>> {
@@ -112,9 +120,7 @@ impl Unlisted for DroppedExtensions {
         DroppedExtensions {}
     }
 
-    fn read_others<R: ReadRows>(_from: &mut R) -> DroppedExtensions {
-        DroppedExtensions {}
-    }
+    fn read_others<R: ReadRows>(&mut self, _from: &mut R) {}
 
     fn others(&self) -> Option<&Map<String, Value>> {
         None

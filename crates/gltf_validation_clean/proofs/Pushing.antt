@@ -1,8 +1,9 @@
 -- Items that are pushed onto a list, and what is reported of them.
-use Rattle.std.proofs.Common.{◌≡◌, ℕ, ◌-◌, ◌<◌, ◌≤◌, ◌↔◌, List, [], ◌∷◌, ◌++◌, length, Option, Some, Result, Ok, Err, refl, sym, ◌∙◌, ap, subst, arith}
+use Rattle.std.proofs.Common.{◌≡◌, ℕ, ◌-◌, ◌<◌, ◌≤◌, ◌↔◌, List, [], ◌∷◌, ◌++◌, length, Option, Some, None, Result, Ok, Err, IfOk, IfErr, OnErr, refl, sym, ◌∙◌, ap, subst, arith}
 use Rattle.std.specs.List.{slice_get}
+use Rattle.std.specs.Prelude.{⊤}
 use Rattle.std.proofs.lemmas.Grind.{common_steps}
-use Rattle.std.proofs.lemmas.Option.{same_Some}
+use Rattle.std.proofs.lemmas.Option.{none-some, same_Some}
 use Rattle.std.proofs.Math.Nat.{lt_of_not-le}
 use Rattle.gltf_base.specs.Lists.{ListName}
 use Rattle.gltf_base.specs.Steps.{Step}
@@ -18,14 +19,14 @@ use Rattle.gltf_root.specs.Pushed.{pushed, item_kind, item_place}
 use Rattle.gltf_root.specs.Root.{root_tree}
 use Rattle.gltf_root.specs.declared.root.Root.{Root}
 use Rattle.gltf_validation_rules.specs.Context.{Rules, Context}
-use Rattle.gltf_validation_rules.specs.Reports.{reports, reports_by_rules}
+use Rattle.gltf_validation_rules.specs.Reports.{document_reports, reports, reports_by_rules}
 use Rattle.gltf_validation_rules.proofs.PushesOnto.{onto_clean}
 use Rattle.gltf_validation.specs.ByType.{reports_by}
 use Rattle.gltf_validation_clean.specs.Clean.{IsClean, IsPushed, item_reports}
 use Rattle.gltf_validation_clean.specs.declared.push.CleanError.{CleanError}
 use Rattle.gltf_validation_clean.specs.declared.push.CleanError.TheVariants.{Full, Memory, Faulty}
 use Rattle.gltf_validation_clean.proofs.SameFaults.{reports_same}
-use Rattle.gltf_validation_clean.proofs.Sinking.{same_first}
+use Rattle.gltf_validation_clean.proofs.Sinking.{no_first_fault, same_first}
 
 -- ---- whether there was room
 
@@ -71,11 +72,33 @@ pub told_of_pushed : (rules : Rules) (named : ListName) (x old new : Tree) (foun
 told_of_pushed rules named x old new found is told =
     sym (told ∙ ap (λ t. first_fault_of (reports_by_rules rules (item_kind named) x t (item_place named (count_in named old)))) is)
 
--- ---- a document that a push leaves has no report
+-- nothing is wrong with an item of which no report is found
+pub none_of_pushed : (rules : Rules) (named : ListName) (x old new : Tree) (found : Option Error) → new ≡ pushed named x old
+    → found ≡ first_fault_of (reports_by_rules rules (item_kind named) x new (item_place named (count_in named old))) → found ≡ None → item_reports rules named x old ≡ []
+none_of_pushed rules named x old new found is told none = no_first_fault (item_reports rules named x old) (told_of_pushed rules named x old new found is told ∙ none)
 
-pub stays_clean : {P X : Type 0} (rules : Rules) (named : ListName) (item : X) (x : Tree) (r : Root) (result : Result (IndexTo P) (CleanError X)) (new : Tree)
-    → IsClean rules (root_tree r) → IsPushed rules named item x (root_tree r) result new → IsClean rules new
-stays_clean rules named item x r (Ok index) new clean h = subst (IsClean rules) (sym h.3) (onto_clean rules named x r clean ∙ h.1)
-stays_clean rules named item x r (Err (Full back)) new clean h = subst (IsClean rules) (sym h.2) clean
-stays_clean rules named item x r (Err (Memory back)) new clean h = subst (IsClean rules) (sym h.2) clean
-stays_clean rules named item x r (Err (Faulty back error)) new clean h = subst (IsClean rules) (sym h.3) clean
+-- what is wrong after a push is what is wrong with the item
+pub all_of_item : (rules : Rules) (named : ListName) (x : Tree) (r : Root) (new : Tree) → IsClean rules (root_tree r) → new ≡ pushed named x (root_tree r)
+    → document_reports rules new ≡ item_reports rules named x (root_tree r)
+all_of_item rules named x r new clean is = ap (document_reports rules) is ∙ onto_clean rules named x r clean
+
+pub faulty_pushed : (rules : Rules) (named : ListName) (x : Tree) (r : Root) (new : Tree) (error : Error) → IsClean rules (root_tree r) → new ≡ pushed named x (root_tree r)
+    → first_fault_of (item_reports rules named x (root_tree r)) ≡ Some error → ¬ IsClean rules new
+faulty_pushed rules named x r new error clean is faulty =
+    λ none. none-some error (ap first_fault_of (sym none ∙ all_of_item rules named x r new clean is) ∙ faulty)
+
+-- ---- what became of a push, whichever errors are returned
+
+-- a document that a push leaves has no report
+pub stays_clean : {P X E : Type 0} (rules : Rules) (named : ListName) (item : X) (x : Tree) (r : Root) (result : Result (IndexTo P) E) (new : Tree) → IsClean rules (root_tree r)
+    → IfOk result (λ index. IsPushed rules named item x (root_tree r) (Ok index) new) → OnErr result (new ≡ root_tree r) → IsClean rules new
+stays_clean rules named item x r (Ok index) new clean made same = subst (IsClean rules) (sym made.3) (onto_clean rules named x r clean ∙ made.1)
+stays_clean rules named item x r (Err error) new clean made same = subst (IsClean rules) (sym same) clean
+
+pub is_pushed : {P X : Type 0} (rules : Rules) (named : ListName) (item : X) (x old : Tree) (result : Result (IndexTo P) (CleanError X)) (new : Tree)
+    → IfOk result (λ index. IsPushed rules named item x old (Ok index) new) → IfErr result (λ error. IsPushed {P = ⊤} rules named item x old (Err error) old) → OnErr result (new ≡ old)
+    → IsPushed rules named item x old result new
+is_pushed rules named item x old (Ok index) new made refused same = made
+is_pushed rules named item x old (Err (Full back)) new made refused same = (refused.0, refused.1, same)
+is_pushed rules named item x old (Err (Memory back)) new made refused same = (refused.0, refused.1, same)
+is_pushed rules named item x old (Err (Faulty back error)) new made refused same = (refused.0, refused.1, refused.2, same)

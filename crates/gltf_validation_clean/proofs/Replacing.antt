@@ -6,7 +6,7 @@ use Rattle.std.proofs.lemmas.Option.{none-some, same_Some, slice_get_within}
 use Rattle.gltf_base.specs.Lists.{ListName}
 use Rattle.gltf_schema.specs.Fields.{closed_object}
 use Rattle.gltf_schema.specs.Tree.{Tree, Trees, absent, end, is_absent, items_in, list, tree_at, tree_or_absent, trees, with_tree}
-use Rattle.gltf_root.specs.Lists.{extension_in, extensions_name, is_there, lights_name, lights_way, list_in, variants_name, variants_way}
+use Rattle.gltf_root.specs.Lists.{count_in, extension_in, extensions_name, is_there, lights_name, lights_way, list_in, variants_name, variants_way}
 use Rattle.gltf_root.specs.Named.{put_at, put_named, reached}
 use Rattle.gltf_root.specs.Pushed.{with_list}
 use Rattle.gltf_root.specs.Root.{root_members, root_rows, root_tree}
@@ -16,6 +16,7 @@ use Rattle.gltf_root.specs.declared.extensions.root.Root.{Root as RootExtensions
 use Rattle.gltf_root.specs.declared.extensions.root.KhrLightsPunctual.{KhrLightsPunctual}
 use Rattle.gltf_root.specs.declared.extensions.root.KhrMaterialsVariants.{KhrMaterialsVariants}
 use Rattle.gltf_validation_rules.specs.Context.{Rules}
+use Rattle.gltf_validation_rules.proofs.Resolving.{count_in-items}
 use Rattle.gltf_validation_clean.specs.Clean.{IsClean}
 use Rattle.gltf_validation_clean.specs.Replaced.{IsReplaced, IsSwapped, IsSwappedAt, replaced}
 use Rattle.gltf_validation_clean.specs.declared.refused.Refused.{Refused}
@@ -159,11 +160,19 @@ swapped tree named n item xs lent_list ys new_items (Err back) root new there st
   put ∙ ap (λ ts. with_list named ts root) (ap (λ l. trees (map tree l)) (h.2 ∙ lent) ∙ sym stands) ∙ itself,
 )
 
--- an item that is put back where another was
+-- an item that is in a list of a document is below its length
+pub was_there : {X : Type 0} (tree : X → Tree) (named : ListName) (n : ℕ) (was : X) (xs : List X) (root : Tree)
+    → list_in named root ≡ trees (map tree xs) → slice_get xs n ≡ Some was → n < count_in named root
+was_there tree named n was xs root stands found = subst (λ m. n < m) (sym (count_in-items named root tree xs stands)) (slice_get_within xs n was found)
+
+-- an item that is put back where another was, and the document that had the other
 pub swapped_back : {X : Type 0} (tree : X → Tree) (named : ListName) (n : ℕ) (item was back : X) (xs mid_items : List X) (r : Root) (mid new : Tree)
     → list_in named (root_tree r) ≡ trees (map tree xs) → IsSwapped named tree n item xs (root_tree r) (Ok was) mid_items mid
-    → slice_get mid_items n ≡ Some back → new ≡ replaced named n (tree was) mid → (back ≡ item) × (new ≡ root_tree r)
+    → slice_get mid_items n ≡ Some back → new ≡ replaced named n (tree was) mid
+    → (n < count_in named (root_tree r)) × (mid ≡ replaced named n (tree item) (root_tree r)) × (back ≡ item) × (new ≡ root_tree r)
 swapped_back tree named n item was back xs mid_items r mid new stands h found is = (
+  was_there tree named n was xs (root_tree r) stands h.0,
+  h.3,
   sym (same_Some item back (sym (ap (λ l. slice_get l n) h.1 ∙ item_set xs n item (slice_get_within xs n was h.0)) ∙ found)),
   is ∙ ap (replaced named n (tree was)) h.3
       ∙ put_back r named n (tree item) (tree was) h.2 (ap (tree_at n) stands ∙ tree_of_item tree xs n was h.0),

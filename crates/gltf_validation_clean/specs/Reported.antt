@@ -3,7 +3,9 @@ use Rattle.std.specs.Prelude.{◌≡◌, List, Some, None, Result, Ok, Err}
 use Rattle.std.specs.List.{last_or}
 use Rattle.gltf_base.specs.Lists.{ListName}
 use Rattle.gltf_base.specs.declared.index.IndexTo.{IndexTo}
+use Rattle.gltf_base.specs.declared.validation.Error.{Error}
 use Rattle.gltf_schema.specs.Tree.{Tree}
+use Rattle.gltf_sinks.specs.Report.{first_fault_of}
 use Rattle.gltf_root.specs.Root.{root_tree}
 use Rattle.gltf_root.specs.declared.root.Root.{Root}
 use Rattle.gltf_validation_rules.specs.Context.{Rules}
@@ -38,10 +40,11 @@ abbrev pub IsPushedOrReported : {P X : Type 0} → Rules → ListName → X → 
 IsPushedOrReported rules named item x old (Ok index) new = IsPushed rules named item x old (Ok index) new
 IsPushedOrReported rules named item x old (Err refused) new = IsPushRefused rules named item x old refused new
 
--- the last item of a list is refused, with the first report of the document that has it
-abbrev pub IsLastRefused : {X : Type 0} → Rules → List X → Tree → Refused X → Type 0
-IsLastRefused rules items root (Faulty back report) =
-    (last_or None items ≡ Some back) × (first_report (document_reports rules root) ≡ Some (report_shown report))
-IsLastRefused rules items root (Memory back) = last_or None items ≡ Some back
-IsLastRefused rules items root (Full back) = ⊥
-IsLastRefused rules items root (NoItem back) = ⊥
+-- ---- how it is done
+
+-- an item, which a tree stands for, is the last of a root's list and has a first fault there: the root has the reports that the
+-- item has where it is pushed onto the document that was before
+abbrev pub IsFaultyLast : {X : Type 0} → Rules → ListName → X → Tree → Tree → List X → Tree → Error → Type 0
+IsFaultyLast rules named item x before items root error =
+    (last_or None items ≡ Some item) × HasRoom named before × (first_fault_of (item_reports rules named x before) ≡ Some error)
+    × (document_reports rules root ≡ item_reports rules named x before)

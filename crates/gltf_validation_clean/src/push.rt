@@ -1,11 +1,13 @@
 //! Roots without reports, and pushes that leave them so.
 
-ghost use Rattle.std.specs.Prelude.{◌≡◌, [], ◌∷◌, ◌++◌, None, Some, IfOk};
+ghost use Rattle.std.specs.Prelude.{◌≡◌, [], ◌∷◌, ◌++◌, None, Some, Ok, Err, IfOk, IfErr, OnErr, ⊤};
 ghost use Rattle.std.specs.List.{last_or};
 ghost use Rattle.gltf_root.specs.Root.{root_tree};
-ghost use Rattle.gltf_root.specs.Undone.{undone};
-ghost use Rattle.gltf_validation_rules.specs.Context.{rules_of};
-ghost use Rattle.gltf_validation_clean.specs.Clean.{IsClean, IsPushed};
+ghost use Rattle.gltf_root.specs.Undone.{mark_in, undone};
+ghost use Rattle.gltf_schema.specs.Tree.{Tree};
+ghost use Rattle.gltf_validation_rules.specs.Context.{Rules as Allowed, rules_of};
+ghost use Rattle.gltf_validation_clean.specs.Clean.{IsClean, IsFull, IsPushed, HasRoom};
+ghost use Rattle.gltf_validation_clean.specs.Reported.{IsFaultyLast};
 ghost use Rattle.gltf_validation_clean.specs.Held.{rules_held, root_held, tree_held, IsHeld};
 
 use crate::clean::Clean;
@@ -86,28 +88,79 @@ impl<'a> Clean<'a> {
         ensures appended { IfOk result (λ _. T.items (root_held self.new)
             ≡ T.items (root_held self.old) ++ item ∷ []) }
     {
-        push_clean(&self.rules, &mut self.root, item)
+        let (rules, root) = (&self.rules, &mut self.root);
+        let mark = T::mark_of(root);
+        push_checked(rules, root, mark, item)
     }
 }
 
-/// Appends an item to its list in a root if it has no report there.
-fn push_clean<T: Item>(
+/// Why an item was not pushed, as a call of `Clean` returns it.
+pub(crate) trait NotPushed<T: Item>: Sized {
+    // Whether it may be the error of a push of an item onto a document, which stays as it was.
+    ghost refuses: { Allowed → T → Tree → Self → Type 0 };
+
+    /// The list is full.
+    fn full(item: T) -> Self
+        ensures { (rules : Allowed) (root : Tree) → IsFull T.list root
+            → refuses rules item root result };
+
+    /// There was no memory for one more item.
+    fn memory(item: T) -> Self
+        ensures { (rules : Allowed) (root : Tree) → HasRoom T.list root
+            → refuses rules item root result };
+
+    /// The item has a report at the end of its list. Takes it out again, as `taken_back` does;
+    /// `error` is its first fault.
+    fn faulty(rules: &Rules<'_>, root: &mut Root, mark: Mark, error: Error) -> Self
+        requires item { (T.items root.old ≡ []) → ⊥ }
+        requires faulty { ¬ IsClean (rules_of rules.now) (root_tree root.old) }
+        ensures refused { (item : T) (before : Tree)
+            → IsFaultyLast (rules_of rules.now) T.list item (T.RootItem.tree item) before
+            (T.items root.old) (root_tree root.old) error
+            → refuses (rules_of rules.now) item before result }
+        ensures document { root_tree root.new ≡ undone T.list mark (root_tree root.old) };
+}
+
+impl<T: Item> NotPushed<T> for CleanError<T> {
+    ghost refuses = { λ rules item old refusal. IsPushed {P = ⊤} rules T.list item
+        (T.RootItem.tree item) old (Err refusal) old };
+
+    fn full(item: T) -> CleanError<T> {
+        CleanError::Full(item)
+    }
+
+    fn memory(item: T) -> CleanError<T> {
+        CleanError::Memory(item)
+    }
+
+    fn faulty(_rules: &Rules<'_>, root: &mut Root, mark: Mark, error: Error) -> CleanError<T> {
+        CleanError::Faulty(taken_back(root, mark), error)
+    }
+}
+
+/// Appends an item to its list in a root without reports, if it has no report there. The mark is
+/// that of the root.
+pub(crate) fn push_checked<T: Item, R: NotPushed<T>>(
     rules: &Rules<'_>,
     root: &mut Root,
+    mark: Mark,
     item: T,
-) -> Result<Index<T>, CleanError<T>>
-    ensures pushed { IsPushed (rules_of rules.now) T.list item (T.RootItem.tree item)
-        (root_tree root.old) result (root_tree root.new) }
+) -> Result<Index<T>, R>
+    requires mark { mark ≡ mark_in T.list (root_tree root.old) }
+    requires clean { IsClean (rules_of rules.now) (root_tree root.old) }
+    ensures pushed { IfOk result (λ index. IsPushed (rules_of rules.now) T.list item
+        (T.RootItem.tree item) (root_tree root.old) (Ok index) (root_tree root.new)) }
     ensures appended { IfOk result (λ _. T.items root.new ≡ T.items root.old ++ item ∷ []) }
+    ensures refused { IfErr result (R.refuses (rules_of rules.now) item (root_tree root.old)) }
+    ensures unchanged { OnErr result (root_tree root.new ≡ root_tree root.old) }
 {
-    let mark = T::mark_of(root);
     match T::push_onto(root, item) {
         Ok(index) => match fault_of_last::<T>(rules, root) {
             None => Ok(index),
-            Some(error) => Err(CleanError::Faulty(taken_back(root, mark), error)),
+            Some(error) => Err(R::faulty(rules, root, mark, error)),
         },
-        Err(PushError::Full(item)) => Err(CleanError::Full(item)),
-        Err(PushError::Memory(item)) => Err(CleanError::Memory(item)),
+        Err(PushError::Full(item)) => Err(R::full(item)),
+        Err(PushError::Memory(item)) => Err(R::memory(item)),
     }
 }
 

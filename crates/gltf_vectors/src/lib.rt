@@ -1,6 +1,7 @@
 //! The tests that only code can be: results of calls that no document shows, devices and memory
-//! that fail, values built by hand, and types of users. All that a document can show is in
-//! `gltf_vectors_corpus`. The tests are here because a crate with tests is proved twice.
+//! that fail, objects that are made by hand, and types of users. What a document can show, calls on
+//! it among them, is in `gltf_vectors_corpus`. The tests are here because a crate with tests is proved
+//! twice.
 //!
 //! Each comparison is a function of its own that returns whether it holds. A test that asserts
 //! while it holds what it read, or goes over an array of tuples, takes many times as long to prove.
@@ -9,15 +10,17 @@
 #[cfg(test)]
 mod base;
 #[cfg(test)]
-mod borrowed;
-#[cfg(test)]
 mod documents;
+#[cfg(test)]
+mod errors;
 #[cfg(test)]
 mod lines;
 #[cfg(test)]
 mod reading;
 #[cfg(test)]
 mod shown;
+#[cfg(test)]
+mod texts;
 #[cfg(test)]
 mod validation;
 #[cfg(test)]

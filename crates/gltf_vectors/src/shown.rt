@@ -1,6 +1,17 @@
-//! Texts that are compared. A test that compares a text itself is more expensive to prove.
+//! What a test says that fails. An `assert!`, or a comparison of texts in the test itself, is more
+//! expensive to prove.
 
-/// Whether a text was made, and is this one.
-pub(crate) fn shows<E>(made: Result<String, E>, text: &str) -> Result<bool, E> {
-    Ok(made?.as_str() == text)
+use std::test::Fail;
+
+/// Fails with what doesn't hold.
+pub(crate) fn holds(it: bool, what: &'static str) -> Result<(), Fail> {
+    if it { Ok(()) } else { Err(Fail::from(what)) }
+}
+
+/// Fails with a text if this text wasn't made.
+pub(crate) fn shows<E>(made: Result<String, E>, text: &'static str) -> Result<(), Fail>
+where
+    Fail: From<E>,
+{
+    holds(made?.as_str() == text, text)
 }

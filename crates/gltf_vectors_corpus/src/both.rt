@@ -1,9 +1,10 @@
-//! Compares the two ways of reading and of writing a document: from and to a text, and by a
-//! `Value` in between.
+//! Compares the ways of reading and of writing a document: from and to bytes, a text and a device,
+//! and by a `Value` in between.
 
 use gltf_json::root::Watched;
 use gltf_json::{Error, Root, Value};
 use std::alloc::{AllocError, Global};
+use std::str::from_utf8;
 
 /// How the text of a document is laid out.
 #[derive(Clone, Copy)]
@@ -21,6 +22,25 @@ fn read_by_value(alloc: Global, text: &[u8]) -> Result<Root, Error> {
         Ok(value) => Root::from_value(alloc, value),
         Err(error) if error.is_memory() => Err(Error::Memory(AllocError)),
         Err(_) => Err(Error::Json),
+    }
+}
+
+/// The document that a text is, where its bytes are one.
+fn read_as_text(alloc: Global, text: &[u8]) -> Result<Root, Error> {
+    match from_utf8(text) {
+        Ok(text) => Root::from_str(alloc, text),
+        Err(_) => Err(Error::Json),
+    }
+}
+
+/// The document that a reader gives.
+fn read_from_reader(alloc: Global, text: &[u8]) -> Result<Root, Error> {
+    let mut reader = Watched::new(text);
+    let read = Root::from_reader(alloc, &mut reader);
+    if reader.failed() {
+        Err(Error::Read)
+    } else {
+        read
     }
 }
 
@@ -140,21 +160,33 @@ fn is_place_found(alloc: Global, text: &[u8], read: &Result<Root, Error>) -> boo
     }
 }
 
-/// Names what differs between the two ways, from a text to a document and to a text again.
+/// What Debug prints of the document that was read, or of the error.
+fn shown(alloc: Global, read: &Result<Root, Error>) -> Result<String, AllocError> {
+    match read {
+        Ok(root) => format!(in alloc; "{root:?}"),
+        Err(error) => format!(in alloc; "{error:?}"),
+    }
+}
+
+/// Names what differs between the ways, from a text to a document and to a text again.
 pub fn difference(alloc: Global, text: &[u8]) -> Result<Option<&'static str>, AllocError> {
     let read = Root::from_slice(alloc, text);
     if !is_place_found(alloc, text, &read) {
         return Ok(Some("the place of a refusal differs"));
     }
+    let due = shown(alloc, &read)?;
+    if shown(alloc, &read_as_text(alloc, text))? != due {
+        return Ok(Some("what is read as a text differs"));
+    }
+    if shown(alloc, &read_from_reader(alloc, text))? != due {
+        return Ok(Some("what a reader gives differs"));
+    }
     let by_value = read_by_value(alloc, text);
+    if shown(alloc, &by_value)? != due {
+        return Ok(Some("what is read by a value differs"));
+    }
     match (&read, &by_value) {
-        (Ok(root), Ok(other)) => {
-            if format!(in alloc; "{root:?}")? != format!(in alloc; "{other:?}")? {
-                return Ok(Some("the documents differ"));
-            }
-            writing_difference(alloc, root, other)
-        }
-        (Err(found), Err(due)) if is_same_error(found, due) => Ok(None),
-        _ => Ok(Some("one way refuses the text")),
+        (Ok(root), Ok(other)) => writing_difference(alloc, root, other),
+        _ => Ok(None),
     }
 }

@@ -5,7 +5,7 @@
 
 use crate::both::{difference, writing_difference};
 use crate::kept::keep_in_document;
-use crate::objects::{is_text, list_of, object_at, with_member};
+use crate::objects::{is_text, list_of, object_at, verdict, with_member};
 use anyhow::{Context, Result};
 use gltf_json::{Root, Value};
 use serde_json::json;
@@ -170,11 +170,7 @@ pub fn print_cases(rt: &HostRuntime) -> Result<()> {
     let mut well = are_documents_alike(rt)?;
     well = are_objects_alike(rt)? && well;
     let (count, are_expected) = compare_cases(rt)?;
-    let verdict = if well && are_expected {
-        "as expected"
-    } else {
-        "not as expected"
-    };
+    let verdict = verdict(well && are_expected);
     println!(rt; "# both ways, and {count} cases: {verdict}")?;
     Ok(())
 }

@@ -1,20 +1,25 @@
 //! Prints for each document of `data/documents.jsonl`, below its title: the exit status and the
 //! output of a run over it, and what it is written as. `stdout` has what must be printed
-//! (docs/DECISIONS.md, "Expected results"). Then it prints where an object of the format differs
-//! from what the data expects of it (`objects.rt`). Last it prints where the two ways of reading
-//! and writing differ (`cases.rt`).
+//! (docs/DECISIONS.md says from where). Then it prints where an object of the format differs from
+//! what the data expects of it (`objects.rt`), where reports in other ways (`reports.rt`) and
+//! documents that are built by calls (`built.rt`) do, and last where the ways of reading and
+//! writing differ (`cases.rt`).
 #![tactic(auto)]
 
 mod both;
+mod built;
 mod cases;
 mod defaults;
 mod kept;
 mod objects;
+mod reports;
 
 use anyhow::Result;
 use gltf_json::root::Watched;
+use gltf_json::validation::Rules;
 use gltf_json::{Error, Root};
 use gltf_report_lines::run;
+use reports::reports_difference;
 use std::alloc::Global;
 use std::fs;
 
@@ -42,11 +47,23 @@ fn line_of(alloc: Global, document: &[u8]) -> Result<String, Error> {
     Ok(line)
 }
 
+/// Names the way that gives other reports of a document than a run over it.
+fn reports_note(alloc: Global, document: &[u8], lines: &str) -> Result<Option<&'static str>> {
+    match Root::from_slice(alloc, document) {
+        Ok(root) => reports_difference(alloc, Rules::new(), &root, lines),
+        Err(_) => Ok(None),
+    }
+}
+
 /// Prints what is answered of a document.
 fn answer(rt: &HostRuntime, document: &[u8]) -> Result<()> {
     let (status, output) = run_over(rt.alloc(), document);
     let output = String::from_utf8(output)?;
     print!(rt; "status {status}\n{output}")?;
+    let lines = if status == 1 { output.as_str() } else { "" };
+    if let Some(note) = reports_note(rt.alloc(), document, lines)? {
+        println!(rt; "{note}")?;
+    }
     match line_of(rt.alloc(), document) {
         Ok(line) => println!(rt; "written: {line}")?,
         Err(Error::InvalidItem) => println!(rt; "not written: an item of a choice is invalid")?,
@@ -77,5 +94,7 @@ fn print_documents(rt: &HostRuntime) -> Result<()> {
 fn main(rt: HostRuntime) -> Result<()> {
     print_documents(&rt)?;
     objects::print_objects(&rt)?;
+    reports::print_reports(&rt)?;
+    built::print_built(&rt)?;
     cases::print_cases(&rt)
 }

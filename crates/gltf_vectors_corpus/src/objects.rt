@@ -313,6 +313,15 @@ fn are_forms_expected(rt: &HostRuntime, data: &Value) -> Result<bool> {
     Ok(well)
 }
 
+/// What is said of all cases.
+pub fn verdict(well: bool) -> &'static str {
+    if well {
+        "as expected"
+    } else {
+        "not as expected"
+    }
+}
+
 /// Prints what differs from what is expected of objects, and last whether anything does.
 pub fn print_objects(rt: &HostRuntime) -> Result<()> {
     let bytes = fs::read(rt, "objects.json")?;
@@ -321,11 +330,6 @@ pub fn print_objects(rt: &HostRuntime) -> Result<()> {
     well = are_defaults_expected(rt, &data)? && well;
     well = are_objects_expected(rt, &data)? && well;
     well = are_forms_expected(rt, &data)? && well;
-    let verdict = if well {
-        "as expected"
-    } else {
-        "not as expected"
-    };
-    println!(rt; "# objects: {verdict}")?;
+    println!(rt; "# objects: {}", verdict(well))?;
     Ok(())
 }

@@ -9,7 +9,9 @@ ghost use Rattle.std.proofs.Common.{lit≤};
 ghost use Rattle.std.specs.Prelude.{false};
 
 use super::Accessor;
+use gltf_base::validation::{Checked, USize64};
 use gltf_schema::{Object, ReadRows, WriteRows};
+use std::alloc::Global;
 
 impl Object for Accessor {
     ghost rule = { needs_data };
@@ -28,33 +30,42 @@ impl Object for Accessor {
 
     ghost height_bounds_kind = { (accessor_height.1, lit≤ tt) };
 
-    fn read_members<R: ReadRows>(from: &mut R) -> Accessor {
-        let buffer_view = from.optional("bufferView");
-        let byte_offset = from.optional("byteOffset");
-        let count = from.required("count");
-        let component_type = from.required("componentType");
-        let type_ = from.required("type");
-        let min = from.optional("min");
-        let max = from.optional("max");
-        let name = from.optional("name");
-        let normalized = from.or_default("normalized", false);
-        let sparse = from.optional("sparse");
-        let extensions = from.optional("extensions");
-        let extras = from.optional("extras");
+    #[tactic(auto, unfolding(crate::specs::Accessor::accessor_rows, crate::specs::Accessor::accessor_members))]
+    fn start(_alloc: Global) -> Accessor {
         Accessor {
-            buffer_view,
-            byte_offset,
-            count,
-            component_type,
-            type_,
-            min,
-            max,
-            name,
-            normalized,
-            sparse,
-            extensions,
-            extras,
+            buffer_view: None,
+            byte_offset: None,
+            count: USize64(0),
+            component_type: Checked::Invalid,
+            type_: Checked::Invalid,
+            min: None,
+            max: None,
+            name: None,
+            normalized: false,
+            sparse: None,
+            extensions: None,
+            extras: None,
         }
+    }
+
+    #[tactic(auto, unfolding(crate::specs::Accessor::accessor_rows))]
+    fn count_required() -> usize {
+        3
+    }
+
+    fn read_rows<R: ReadRows>(&mut self, from: &mut R) {
+        from.optional("bufferView", &mut self.buffer_view);
+        from.optional("byteOffset", &mut self.byte_offset);
+        from.required("count", &mut self.count);
+        from.required("componentType", &mut self.component_type);
+        from.required("type", &mut self.type_);
+        from.optional("min", &mut self.min);
+        from.optional("max", &mut self.max);
+        from.optional("name", &mut self.name);
+        from.or_default("normalized", &mut self.normalized);
+        from.optional("sparse", &mut self.sparse);
+        from.optional("extensions", &mut self.extensions);
+        from.optional("extras", &mut self.extras);
     }
 
     fn write_members<W: WriteRows>(&self, to: &mut W) {

@@ -14,8 +14,6 @@ use crate::extras::Extras;
 use gltf_base::Index;
 use gltf_base::accessor::{ComponentType, IndexComponentType};
 use gltf_base::validation::{Checked, USize64};
-use gltf_schema::Blank;
-use std::alloc::Global;
 
 mod derived;
 
@@ -86,18 +84,6 @@ impl Indices {
     }
 }
 
-impl Blank for Indices {
-    fn blank(_alloc: Global) -> Indices {
-        Indices {
-            buffer_view: Index::new(0),
-            byte_offset: USize64(0),
-            component_type: Checked::Invalid,
-            extensions: None,
-            extras: None,
-        }
-    }
-}
-
 /// Where the replacing elements are stored.
 #[derive(Clone, Debug, Drop)]
 pub struct Values {
@@ -119,17 +105,6 @@ impl Values {
     {
         Values {
             buffer_view,
-            byte_offset: USize64(0),
-            extensions: None,
-            extras: None,
-        }
-    }
-}
-
-impl Blank for Values {
-    fn blank(_alloc: Global) -> Values {
-        Values {
-            buffer_view: Index::new(0),
             byte_offset: USize64(0),
             extensions: None,
             extras: None,

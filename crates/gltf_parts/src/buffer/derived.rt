@@ -8,8 +8,10 @@ ghost use Rattle.std.proofs.Common.{lit≤};
 ghost use Rattle.std.specs.Prelude.{false};
 
 use super::{Buffer, View};
+use gltf_base::Index;
 use gltf_base::validation::USize64;
 use gltf_schema::{Object, ReadRows, WriteRows};
+use std::alloc::Global;
 
 impl Object for Buffer {
     ghost rows = { buffer_rows };
@@ -26,19 +28,28 @@ impl Object for Buffer {
 
     ghost height_bounds_kind = { (buffer_height.1, lit≤ tt) };
 
-    fn read_members<R: ReadRows>(from: &mut R) -> Buffer {
-        let byte_length = from.or_default("byteLength", USize64(0));
-        let name = from.optional("name");
-        let uri = from.optional("uri");
-        let extensions = from.optional("extensions");
-        let extras = from.optional("extras");
+    #[tactic(auto, unfolding(crate::specs::Buffer::buffer_rows, crate::specs::Buffer::buffer_members))]
+    fn start(_alloc: Global) -> Buffer {
         Buffer {
-            byte_length,
-            name,
-            uri,
-            extensions,
-            extras,
+            byte_length: USize64(0),
+            name: None,
+            uri: None,
+            extensions: None,
+            extras: None,
         }
+    }
+
+    #[tactic(auto, unfolding(crate::specs::Buffer::buffer_rows))]
+    fn count_required() -> usize {
+        0
+    }
+
+    fn read_rows<R: ReadRows>(&mut self, from: &mut R) {
+        from.or_default("byteLength", &mut self.byte_length);
+        from.optional("name", &mut self.name);
+        from.optional("uri", &mut self.uri);
+        from.optional("extensions", &mut self.extensions);
+        from.optional("extras", &mut self.extras);
     }
 
     fn write_members<W: WriteRows>(&self, to: &mut W) {
@@ -65,25 +76,34 @@ impl Object for View {
 
     ghost height_bounds_kind = { (view_height.1, lit≤ tt) };
 
-    fn read_members<R: ReadRows>(from: &mut R) -> View {
-        let buffer = from.required("buffer");
-        let byte_length = from.required("byteLength");
-        let byte_offset = from.optional("byteOffset");
-        let byte_stride = from.optional("byteStride");
-        let name = from.optional("name");
-        let target = from.optional("target");
-        let extensions = from.optional("extensions");
-        let extras = from.optional("extras");
+    #[tactic(auto, unfolding(crate::specs::Buffer::view_rows, crate::specs::Buffer::view_members))]
+    fn start(_alloc: Global) -> View {
         View {
-            buffer,
-            byte_length,
-            byte_offset,
-            byte_stride,
-            name,
-            target,
-            extensions,
-            extras,
+            buffer: Index::new(0),
+            byte_length: USize64(0),
+            byte_offset: None,
+            byte_stride: None,
+            name: None,
+            target: None,
+            extensions: None,
+            extras: None,
         }
+    }
+
+    #[tactic(auto, unfolding(crate::specs::Buffer::view_rows))]
+    fn count_required() -> usize {
+        2
+    }
+
+    fn read_rows<R: ReadRows>(&mut self, from: &mut R) {
+        from.required("buffer", &mut self.buffer);
+        from.required("byteLength", &mut self.byte_length);
+        from.optional("byteOffset", &mut self.byte_offset);
+        from.optional("byteStride", &mut self.byte_stride);
+        from.optional("name", &mut self.name);
+        from.optional("target", &mut self.target);
+        from.optional("extensions", &mut self.extensions);
+        from.optional("extras", &mut self.extras);
     }
 
     fn write_members<W: WriteRows>(&self, to: &mut W) {

@@ -9,6 +9,7 @@ ghost use Rattle.std.specs.Prelude.{false};
 
 use super::Image;
 use gltf_schema::{Object, ReadRows, WriteRows};
+use std::alloc::Global;
 
 impl Object for Image {
     ghost rows = { image_rows };
@@ -25,21 +26,30 @@ impl Object for Image {
 
     ghost height_bounds_kind = { (image_height.1, lit≤ tt) };
 
-    fn read_members<R: ReadRows>(from: &mut R) -> Image {
-        let buffer_view = from.optional("bufferView");
-        let mime_type = from.optional("mimeType");
-        let name = from.optional("name");
-        let uri = from.optional("uri");
-        let extensions = from.optional("extensions");
-        let extras = from.optional("extras");
+    #[tactic(auto, unfolding(crate::specs::Image::image_rows, crate::specs::Image::image_members))]
+    fn start(_alloc: Global) -> Image {
         Image {
-            buffer_view,
-            mime_type,
-            name,
-            uri,
-            extensions,
-            extras,
+            buffer_view: None,
+            mime_type: None,
+            name: None,
+            uri: None,
+            extensions: None,
+            extras: None,
         }
+    }
+
+    #[tactic(auto, unfolding(crate::specs::Image::image_rows))]
+    fn count_required() -> usize {
+        0
+    }
+
+    fn read_rows<R: ReadRows>(&mut self, from: &mut R) {
+        from.optional("bufferView", &mut self.buffer_view);
+        from.optional("mimeType", &mut self.mime_type);
+        from.optional("name", &mut self.name);
+        from.optional("uri", &mut self.uri);
+        from.optional("extensions", &mut self.extensions);
+        from.optional("extras", &mut self.extras);
     }
 
     fn write_members<W: WriteRows>(&self, to: &mut W) {

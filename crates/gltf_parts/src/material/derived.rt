@@ -16,9 +16,11 @@ use super::{
     EmissiveFactor, Material, NormalTexture, OcclusionTexture, PbrBaseColorFactor,
     PbrMetallicRoughness,
 };
+use gltf_base::Index;
 use gltf_base::material::AlphaMode;
 use gltf_base::validation::Checked;
 use gltf_schema::{Object, ReadRows, Tabled, WriteRows};
+use std::alloc::Global;
 
 impl Object for PbrMetallicRoughness {
     ghost rows = { pbr_metallic_roughness_rows };
@@ -35,23 +37,35 @@ impl Object for PbrMetallicRoughness {
 
     ghost height_bounds_kind = { (pbr_metallic_roughness_height.1, lit≤ tt) };
 
-    fn read_members<R: ReadRows>(from: &mut R) -> PbrMetallicRoughness {
-        let base_color_factor = from.sometimes("baseColorFactor");
-        let base_color_texture = from.optional("baseColorTexture");
-        let metallic_factor = from.sometimes("metallicFactor");
-        let roughness_factor = from.sometimes("roughnessFactor");
-        let metallic_roughness_texture = from.optional("metallicRoughnessTexture");
-        let extensions = from.optional("extensions");
-        let extras = from.optional("extras");
+    #[tactic(auto, unfolding(crate::specs::Material::pbr_metallic_roughness_rows, crate::specs::Material::pbr_metallic_roughness_members))]
+    fn start(_alloc: Global) -> PbrMetallicRoughness {
         PbrMetallicRoughness {
-            base_color_factor: PbrBaseColorFactor(base_color_factor),
-            base_color_texture,
-            metallic_factor: StrengthFactor(metallic_factor),
-            roughness_factor: StrengthFactor(roughness_factor),
-            metallic_roughness_texture,
-            extensions,
-            extras,
+            base_color_factor: PbrBaseColorFactor(None),
+            base_color_texture: None,
+            metallic_factor: StrengthFactor(None),
+            roughness_factor: StrengthFactor(None),
+            metallic_roughness_texture: None,
+            extensions: None,
+            extras: None,
         }
+    }
+
+    #[tactic(auto, unfolding(crate::specs::Material::pbr_metallic_roughness_rows))]
+    fn count_required() -> usize {
+        0
+    }
+
+    fn read_rows<R: ReadRows>(&mut self, from: &mut R) {
+        from.sometimes("baseColorFactor", &mut self.base_color_factor.0);
+        from.optional("baseColorTexture", &mut self.base_color_texture);
+        from.sometimes("metallicFactor", &mut self.metallic_factor.0);
+        from.sometimes("roughnessFactor", &mut self.roughness_factor.0);
+        from.optional(
+            "metallicRoughnessTexture",
+            &mut self.metallic_roughness_texture,
+        );
+        from.optional("extensions", &mut self.extensions);
+        from.optional("extras", &mut self.extras);
     }
 
     fn write_members<W: WriteRows>(&self, to: &mut W) {
@@ -80,19 +94,28 @@ impl Object for NormalTexture {
 
     ghost height_bounds_kind = { (normal_texture_height.1, lit≤ tt) };
 
-    fn read_members<R: ReadRows>(from: &mut R) -> NormalTexture {
-        let index = from.required("index");
-        let scale = from.sometimes("scale");
-        let tex_coord = from.or_default("texCoord", 0);
-        let extensions = from.optional("extensions");
-        let extras = from.optional("extras");
+    #[tactic(auto, unfolding(crate::specs::Material::normal_texture_rows, crate::specs::Material::normal_texture_members))]
+    fn start(_alloc: Global) -> NormalTexture {
         NormalTexture {
-            index,
-            scale,
-            tex_coord,
-            extensions,
-            extras,
+            index: Index::new(0),
+            scale: None,
+            tex_coord: 0,
+            extensions: None,
+            extras: None,
         }
+    }
+
+    #[tactic(auto, unfolding(crate::specs::Material::normal_texture_rows))]
+    fn count_required() -> usize {
+        1
+    }
+
+    fn read_rows<R: ReadRows>(&mut self, from: &mut R) {
+        from.required("index", &mut self.index);
+        from.sometimes("scale", &mut self.scale);
+        from.or_default("texCoord", &mut self.tex_coord);
+        from.optional("extensions", &mut self.extensions);
+        from.optional("extras", &mut self.extras);
     }
 
     fn write_members<W: WriteRows>(&self, to: &mut W) {
@@ -131,19 +154,28 @@ impl Object for OcclusionTexture {
 
     ghost height_bounds_kind = { (occlusion_texture_height.1, lit≤ tt) };
 
-    fn read_members<R: ReadRows>(from: &mut R) -> OcclusionTexture {
-        let index = from.required("index");
-        let strength = from.sometimes("strength");
-        let tex_coord = from.or_default("texCoord", 0);
-        let extensions = from.optional("extensions");
-        let extras = from.optional("extras");
+    #[tactic(auto, unfolding(crate::specs::Material::occlusion_texture_rows, crate::specs::Material::occlusion_texture_members))]
+    fn start(_alloc: Global) -> OcclusionTexture {
         OcclusionTexture {
-            index,
-            strength: StrengthFactor(strength),
-            tex_coord,
-            extensions,
-            extras,
+            index: Index::new(0),
+            strength: StrengthFactor(None),
+            tex_coord: 0,
+            extensions: None,
+            extras: None,
         }
+    }
+
+    #[tactic(auto, unfolding(crate::specs::Material::occlusion_texture_rows))]
+    fn count_required() -> usize {
+        1
+    }
+
+    fn read_rows<R: ReadRows>(&mut self, from: &mut R) {
+        from.required("index", &mut self.index);
+        from.sometimes("strength", &mut self.strength.0);
+        from.or_default("texCoord", &mut self.tex_coord);
+        from.optional("extensions", &mut self.extensions);
+        from.optional("extras", &mut self.extras);
     }
 
     fn write_members<W: WriteRows>(&self, to: &mut W) {
@@ -170,34 +202,40 @@ impl Object for Material {
 
     ghost height_bounds_kind = { (material_height.1, lit≤ tt) };
 
-    fn read_members<R: ReadRows>(from: &mut R) -> Material {
-        let alpha_cutoff = from.optional("alphaCutoff");
-        let alpha_mode = from.or_default("alphaMode", Checked::Valid(AlphaMode::Opaque));
-        let double_sided = from.or_default("doubleSided", false);
-        let name = from.optional("name");
-        let pbr_metallic_roughness = from.or_default(
-            "pbrMetallicRoughness",
-            PbrMetallicRoughness::new(),
-        );
-        let normal_texture = from.optional("normalTexture");
-        let occlusion_texture = from.optional("occlusionTexture");
-        let emissive_texture = from.optional("emissiveTexture");
-        let emissive_factor = from.sometimes("emissiveFactor");
-        let extensions = from.optional("extensions");
-        let extras = from.optional("extras");
+    #[tactic(auto, unfolding(crate::specs::Material::material_rows, crate::specs::Material::material_members))]
+    fn start(_alloc: Global) -> Material {
         Material {
-            alpha_cutoff,
-            alpha_mode,
-            double_sided,
-            name,
-            pbr_metallic_roughness,
-            normal_texture,
-            occlusion_texture,
-            emissive_texture,
-            emissive_factor: EmissiveFactor(emissive_factor),
-            extensions,
-            extras,
+            alpha_cutoff: None,
+            alpha_mode: Checked::Valid(AlphaMode::Opaque),
+            double_sided: false,
+            name: None,
+            pbr_metallic_roughness: PbrMetallicRoughness::new(),
+            normal_texture: None,
+            occlusion_texture: None,
+            emissive_texture: None,
+            emissive_factor: EmissiveFactor(None),
+            extensions: None,
+            extras: None,
         }
+    }
+
+    #[tactic(auto, unfolding(crate::specs::Material::material_rows))]
+    fn count_required() -> usize {
+        0
+    }
+
+    fn read_rows<R: ReadRows>(&mut self, from: &mut R) {
+        from.optional("alphaCutoff", &mut self.alpha_cutoff);
+        from.or_default("alphaMode", &mut self.alpha_mode);
+        from.or_default("doubleSided", &mut self.double_sided);
+        from.optional("name", &mut self.name);
+        from.or_default("pbrMetallicRoughness", &mut self.pbr_metallic_roughness);
+        from.optional("normalTexture", &mut self.normal_texture);
+        from.optional("occlusionTexture", &mut self.occlusion_texture);
+        from.optional("emissiveTexture", &mut self.emissive_texture);
+        from.sometimes("emissiveFactor", &mut self.emissive_factor.0);
+        from.optional("extensions", &mut self.extensions);
+        from.optional("extras", &mut self.extras);
     }
 
     fn write_members<W: WriteRows>(&self, to: &mut W) {

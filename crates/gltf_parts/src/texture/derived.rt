@@ -12,6 +12,7 @@ use gltf_base::Index;
 use gltf_base::texture::WrappingMode;
 use gltf_base::validation::Checked;
 use gltf_schema::{Object, ReadRows, WriteRows};
+use std::alloc::Global;
 
 impl Object for Sampler {
     ghost rows = { sampler_rows };
@@ -28,23 +29,32 @@ impl Object for Sampler {
 
     ghost height_bounds_kind = { (sampler_height.1, lit≤ tt) };
 
-    fn read_members<R: ReadRows>(from: &mut R) -> Sampler {
-        let mag_filter = from.optional("magFilter");
-        let min_filter = from.optional("minFilter");
-        let name = from.optional("name");
-        let wrap_s = from.or_default("wrapS", Checked::Valid(WrappingMode::Repeat));
-        let wrap_t = from.or_default("wrapT", Checked::Valid(WrappingMode::Repeat));
-        let extensions = from.optional("extensions");
-        let extras = from.optional("extras");
+    #[tactic(auto, unfolding(crate::specs::Texture::sampler_rows, crate::specs::Texture::sampler_members))]
+    fn start(_alloc: Global) -> Sampler {
         Sampler {
-            mag_filter,
-            min_filter,
-            name,
-            wrap_s,
-            wrap_t,
-            extensions,
-            extras,
+            mag_filter: None,
+            min_filter: None,
+            name: None,
+            wrap_s: Checked::Valid(WrappingMode::Repeat),
+            wrap_t: Checked::Valid(WrappingMode::Repeat),
+            extensions: None,
+            extras: None,
         }
+    }
+
+    #[tactic(auto, unfolding(crate::specs::Texture::sampler_rows))]
+    fn count_required() -> usize {
+        0
+    }
+
+    fn read_rows<R: ReadRows>(&mut self, from: &mut R) {
+        from.optional("magFilter", &mut self.mag_filter);
+        from.optional("minFilter", &mut self.min_filter);
+        from.optional("name", &mut self.name);
+        from.or_default("wrapS", &mut self.wrap_s);
+        from.or_default("wrapT", &mut self.wrap_t);
+        from.optional("extensions", &mut self.extensions);
+        from.optional("extras", &mut self.extras);
     }
 
     fn write_members<W: WriteRows>(&self, to: &mut W) {
@@ -73,19 +83,28 @@ impl Object for Texture {
 
     ghost height_bounds_kind = { (texture_height.1, lit≤ tt) };
 
-    fn read_members<R: ReadRows>(from: &mut R) -> Texture {
-        let name = from.optional("name");
-        let sampler = from.optional("sampler");
-        let extensions = from.optional("extensions");
-        let source = from.or_default("source", Index::new(NO_IMAGE));
-        let extras = from.optional("extras");
+    #[tactic(auto, unfolding(crate::specs::Texture::texture_rows, crate::specs::Texture::texture_members))]
+    fn start(_alloc: Global) -> Texture {
         Texture {
-            name,
-            sampler,
-            extensions,
-            source,
-            extras,
+            name: None,
+            sampler: None,
+            extensions: None,
+            source: Index::new(NO_IMAGE),
+            extras: None,
         }
+    }
+
+    #[tactic(auto, unfolding(crate::specs::Texture::texture_rows))]
+    fn count_required() -> usize {
+        0
+    }
+
+    fn read_rows<R: ReadRows>(&mut self, from: &mut R) {
+        from.optional("name", &mut self.name);
+        from.optional("sampler", &mut self.sampler);
+        from.optional("extensions", &mut self.extensions);
+        from.or_default("source", &mut self.source);
+        from.optional("extras", &mut self.extras);
     }
 
     fn write_members<W: WriteRows>(&self, to: &mut W) {
@@ -112,17 +131,26 @@ impl Object for Info {
 
     ghost height_bounds_kind = { (info_height.1, lit≤ tt) };
 
-    fn read_members<R: ReadRows>(from: &mut R) -> Info {
-        let index = from.required("index");
-        let tex_coord = from.or_default("texCoord", 0);
-        let extensions = from.optional("extensions");
-        let extras = from.optional("extras");
+    #[tactic(auto, unfolding(crate::specs::Texture::info_rows, crate::specs::Texture::info_members))]
+    fn start(_alloc: Global) -> Info {
         Info {
-            index,
-            tex_coord,
-            extensions,
-            extras,
+            index: Index::new(0),
+            tex_coord: 0,
+            extensions: None,
+            extras: None,
         }
+    }
+
+    #[tactic(auto, unfolding(crate::specs::Texture::info_rows))]
+    fn count_required() -> usize {
+        1
+    }
+
+    fn read_rows<R: ReadRows>(&mut self, from: &mut R) {
+        from.required("index", &mut self.index);
+        from.or_default("texCoord", &mut self.tex_coord);
+        from.optional("extensions", &mut self.extensions);
+        from.optional("extras", &mut self.extras);
     }
 
     fn write_members<W: WriteRows>(&self, to: &mut W) {

@@ -9,7 +9,9 @@ ghost use Rattle.std.proofs.Common.{lit≤};
 ghost use Rattle.std.specs.Prelude.{false};
 
 use super::Root;
+use gltf_scene::asset::Asset;
 use gltf_schema::{Object, ReadRows, WriteRows};
+use std::alloc::Global;
 
 impl Object for Root {
     ghost rule = { requires_enabled };
@@ -28,47 +30,56 @@ impl Object for Root {
 
     ghost height_bounds_kind = { (root_height.1, lit≤ tt) };
 
-    fn read_members<R: ReadRows>(from: &mut R) -> Root {
-        let accessors = from.list("accessors");
-        let animations = from.list("animations");
-        let asset = from.required("asset");
-        let buffers = from.list("buffers");
-        let buffer_views = from.list("bufferViews");
-        let scene = from.optional("scene");
-        let extensions = from.optional("extensions");
-        let extras = from.optional("extras");
-        let extensions_used = from.list("extensionsUsed");
-        let extensions_required = from.list("extensionsRequired");
-        let cameras = from.list("cameras");
-        let images = from.list("images");
-        let materials = from.list("materials");
-        let meshes = from.list("meshes");
-        let nodes = from.list("nodes");
-        let samplers = from.list("samplers");
-        let scenes = from.list("scenes");
-        let skins = from.list("skins");
-        let textures = from.list("textures");
+    #[tactic(auto, unfolding(crate::specs::Root::root_rows, crate::specs::Root::root_members))]
+    fn start(alloc: Global) -> Root {
         Root {
-            accessors,
-            animations,
-            asset,
-            buffers,
-            buffer_views,
-            scene,
-            extensions,
-            extras,
-            extensions_used,
-            extensions_required,
-            cameras,
-            images,
-            materials,
-            meshes,
-            nodes,
-            samplers,
-            scenes,
-            skins,
-            textures,
+            accessors: Vec::new(alloc),
+            animations: Vec::new(alloc),
+            asset: Asset::start(alloc),
+            buffers: Vec::new(alloc),
+            buffer_views: Vec::new(alloc),
+            scene: None,
+            extensions: None,
+            extras: None,
+            extensions_used: Vec::new(alloc),
+            extensions_required: Vec::new(alloc),
+            cameras: Vec::new(alloc),
+            images: Vec::new(alloc),
+            materials: Vec::new(alloc),
+            meshes: Vec::new(alloc),
+            nodes: Vec::new(alloc),
+            samplers: Vec::new(alloc),
+            scenes: Vec::new(alloc),
+            skins: Vec::new(alloc),
+            textures: Vec::new(alloc),
         }
+    }
+
+    #[tactic(auto, unfolding(crate::specs::Root::root_rows))]
+    fn count_required() -> usize {
+        1
+    }
+
+    fn read_rows<R: ReadRows>(&mut self, from: &mut R) {
+        from.or_default("accessors", &mut self.accessors);
+        from.or_default("animations", &mut self.animations);
+        from.required("asset", &mut self.asset);
+        from.or_default("buffers", &mut self.buffers);
+        from.or_default("bufferViews", &mut self.buffer_views);
+        from.optional("scene", &mut self.scene);
+        from.optional("extensions", &mut self.extensions);
+        from.optional("extras", &mut self.extras);
+        from.or_default("extensionsUsed", &mut self.extensions_used);
+        from.or_default("extensionsRequired", &mut self.extensions_required);
+        from.or_default("cameras", &mut self.cameras);
+        from.or_default("images", &mut self.images);
+        from.or_default("materials", &mut self.materials);
+        from.or_default("meshes", &mut self.meshes);
+        from.or_default("nodes", &mut self.nodes);
+        from.or_default("samplers", &mut self.samplers);
+        from.or_default("scenes", &mut self.scenes);
+        from.or_default("skins", &mut self.skins);
+        from.or_default("textures", &mut self.textures);
     }
 
     fn write_members<W: WriteRows>(&self, to: &mut W) {

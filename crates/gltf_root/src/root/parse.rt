@@ -11,8 +11,7 @@ ghost use Rattle.gltf_io.specs.Device.{IsFresh};
 ghost use Rattle.gltf_root.specs.Root.{root_kind, root_tree};
 
 use super::Root;
-use super::lists::streamed;
-use gltf_borrowed::decode_text;
+use crate::text::decode_text;
 use gltf_io::{ByteIn, read_to_end};
 use gltf_schema::{Error, Schema};
 use serde_json::Value;
@@ -94,15 +93,10 @@ impl Root {
     }
 }
 
-/// Returns the document that a text of JSON is. A text that is no object of JSON is read again, which
-/// finds out why.
-#[tactic(auto, using(crate::proofs::AnswerLemmas::answers))]
+/// Returns the document that a text of JSON is.
 fn from_text(alloc: Global, text: &str) -> Result<Root, Error>
     ensures by_text { IsUtf8 text.now → IsAnswer (answer text.now) result }
     ensures plain { IfOk result (λ root. is_plain root_kind (root_tree root) ≡ true) }
 {
-    match streamed(alloc, text) {
-        Some(read) => read,
-        None => decode_text(alloc, text),
-    }
+    decode_text(alloc, text)
 }

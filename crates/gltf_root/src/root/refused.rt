@@ -1,11 +1,11 @@
 //! The place at which the table refuses a document.
 
 ghost use Rattle.std.specs.Prelude.{◌≡◌, Err, IsUtf8};
-ghost use Rattle.gltf_borrowed.specs.Place.{IsPlaceIn};
+ghost use Rattle.gltf_root.specs.Place.{IsPlaceIn};
 ghost use Rattle.gltf_root.specs.Root.{root_kind};
 
 use super::Root;
-use gltf_borrowed::{Place, refused_in_text};
+use crate::text::{Place, refused_in_text};
 use gltf_schema::Error;
 use simdutf8::compat::from_utf8;
 use std::alloc::Global;

@@ -13,6 +13,7 @@ use gltf_base::Index;
 use gltf_base::animation::Interpolation;
 use gltf_base::validation::Checked;
 use gltf_schema::{Object, ReadRows, WriteRows};
+use std::alloc::Global;
 
 impl Object for Sampler {
     ghost rows = { animation_sampler_rows };
@@ -29,19 +30,28 @@ impl Object for Sampler {
 
     ghost height_bounds_kind = { (animation_sampler_height.1, lit≤ tt) };
 
-    fn read_members<R: ReadRows>(from: &mut R) -> Sampler {
-        let input = from.required("input");
-        let interpolation = from.or_default("interpolation", Checked::Valid(Interpolation::Linear));
-        let output = from.required("output");
-        let extensions = from.optional("extensions");
-        let extras = from.optional("extras");
+    #[tactic(auto, unfolding(crate::specs::Animation::animation_sampler_rows, crate::specs::Animation::animation_sampler_members))]
+    fn start(_alloc: Global) -> Sampler {
         Sampler {
-            input,
-            interpolation,
-            output,
-            extensions,
-            extras,
+            input: Index::new(0),
+            interpolation: Checked::Valid(Interpolation::Linear),
+            output: Index::new(0),
+            extensions: None,
+            extras: None,
         }
+    }
+
+    #[tactic(auto, unfolding(crate::specs::Animation::animation_sampler_rows))]
+    fn count_required() -> usize {
+        2
+    }
+
+    fn read_rows<R: ReadRows>(&mut self, from: &mut R) {
+        from.required("input", &mut self.input);
+        from.or_default("interpolation", &mut self.interpolation);
+        from.required("output", &mut self.output);
+        from.optional("extensions", &mut self.extensions);
+        from.optional("extras", &mut self.extras);
     }
 
     fn write_members<W: WriteRows>(&self, to: &mut W) {
@@ -68,17 +78,26 @@ impl Object for Target {
 
     ghost height_bounds_kind = { (animation_target_height.1, lit≤ tt) };
 
-    fn read_members<R: ReadRows>(from: &mut R) -> Target {
-        let node = from.required("node");
-        let path = from.required("path");
-        let extensions = from.optional("extensions");
-        let extras = from.optional("extras");
+    #[tactic(auto, unfolding(crate::specs::Animation::animation_target_rows, crate::specs::Animation::animation_target_members))]
+    fn start(_alloc: Global) -> Target {
         Target {
-            node,
-            path,
-            extensions,
-            extras,
+            node: Index::new(0),
+            path: Checked::Invalid,
+            extensions: None,
+            extras: None,
         }
+    }
+
+    #[tactic(auto, unfolding(crate::specs::Animation::animation_target_rows))]
+    fn count_required() -> usize {
+        2
+    }
+
+    fn read_rows<R: ReadRows>(&mut self, from: &mut R) {
+        from.required("node", &mut self.node);
+        from.required("path", &mut self.path);
+        from.optional("extensions", &mut self.extensions);
+        from.optional("extras", &mut self.extras);
     }
 
     fn write_members<W: WriteRows>(&self, to: &mut W) {
@@ -104,17 +123,28 @@ impl Object for Channel {
 
     ghost height_bounds_kind = { (animation_channel_height.1, lit≤ tt) };
 
-    fn read_members<R: ReadRows>(from: &mut R) -> Channel {
-        let sampler: u32 = from.required("sampler");
-        let target = from.required("target");
-        let extensions = from.optional("extensions");
-        let extras = from.optional("extras");
+    #[tactic(auto, unfolding(crate::specs::Animation::animation_channel_rows, crate::specs::Animation::animation_channel_members))]
+    fn start(alloc: Global) -> Channel {
         Channel {
-            sampler: Index::new(sampler),
-            target,
-            extensions,
-            extras,
+            sampler: Index::new(0),
+            target: Target::start(alloc),
+            extensions: None,
+            extras: None,
         }
+    }
+
+    #[tactic(auto, unfolding(crate::specs::Animation::animation_channel_rows))]
+    fn count_required() -> usize {
+        2
+    }
+
+    fn read_rows<R: ReadRows>(&mut self, from: &mut R) {
+        let mut number = self.sampler.number();
+        from.required("sampler", &mut number);
+        self.sampler = Index::new(number);
+        from.required("target", &mut self.target);
+        from.optional("extensions", &mut self.extensions);
+        from.optional("extras", &mut self.extras);
     }
 
     fn write_members<W: WriteRows>(&self, to: &mut W) {
@@ -142,19 +172,28 @@ impl Object for Animation {
 
     ghost height_bounds_kind = { (animation_height.1, lit≤ tt) };
 
-    fn read_members<R: ReadRows>(from: &mut R) -> Animation {
-        let samplers = from.list("samplers");
-        let channels = from.list("channels");
-        let name = from.optional("name");
-        let extensions = from.optional("extensions");
-        let extras = from.optional("extras");
+    #[tactic(auto, unfolding(crate::specs::Animation::animation_rows, crate::specs::Animation::animation_members))]
+    fn start(alloc: Global) -> Animation {
         Animation {
-            samplers,
-            channels,
-            name,
-            extensions,
-            extras,
+            samplers: Vec::new(alloc),
+            channels: Vec::new(alloc),
+            name: None,
+            extensions: None,
+            extras: None,
         }
+    }
+
+    #[tactic(auto, unfolding(crate::specs::Animation::animation_rows))]
+    fn count_required() -> usize {
+        0
+    }
+
+    fn read_rows<R: ReadRows>(&mut self, from: &mut R) {
+        from.or_default("samplers", &mut self.samplers);
+        from.or_default("channels", &mut self.channels);
+        from.optional("name", &mut self.name);
+        from.optional("extensions", &mut self.extensions);
+        from.optional("extras", &mut self.extras);
     }
 
     fn write_members<W: WriteRows>(&self, to: &mut W) {

@@ -9,6 +9,7 @@ ghost use Rattle.std.specs.Prelude.{false};
 
 use super::Asset;
 use gltf_schema::{Object, ReadRows, WriteRows};
+use std::alloc::Global;
 
 impl Object for Asset {
     ghost rows = { asset_rows };
@@ -25,21 +26,30 @@ impl Object for Asset {
 
     ghost height_bounds_kind = { (asset_height.1, lit≤ tt) };
 
-    fn read_members<R: ReadRows>(from: &mut R) -> Asset {
-        let copyright = from.optional("copyright");
-        let generator = from.optional("generator");
-        let min_version = from.optional("minVersion");
-        let version = from.required("version");
-        let extensions = from.optional("extensions");
-        let extras = from.optional("extras");
+    #[tactic(auto, unfolding(crate::specs::Asset::asset_rows, crate::specs::Asset::asset_members))]
+    fn start(alloc: Global) -> Asset {
         Asset {
-            copyright,
-            generator,
-            min_version,
-            version,
-            extensions,
-            extras,
+            copyright: None,
+            generator: None,
+            min_version: None,
+            version: String::new(alloc),
+            extensions: None,
+            extras: None,
         }
+    }
+
+    #[tactic(auto, unfolding(crate::specs::Asset::asset_rows))]
+    fn count_required() -> usize {
+        1
+    }
+
+    fn read_rows<R: ReadRows>(&mut self, from: &mut R) {
+        from.optional("copyright", &mut self.copyright);
+        from.optional("generator", &mut self.generator);
+        from.optional("minVersion", &mut self.min_version);
+        from.required("version", &mut self.version);
+        from.optional("extensions", &mut self.extensions);
+        from.optional("extras", &mut self.extras);
     }
 
     fn write_members<W: WriteRows>(&self, to: &mut W) {

@@ -9,7 +9,10 @@ ghost use Rattle.std.proofs.Common.{lit≤};
 ghost use Rattle.std.specs.Prelude.{false};
 
 use super::{Camera, Orthographic, Perspective};
+use gltf_base::Real;
+use gltf_base::validation::Checked;
 use gltf_schema::{Object, ReadRows, WriteRows};
+use std::alloc::Global;
 
 impl Object for Orthographic {
     ghost rows = { orthographic_rows };
@@ -26,21 +29,30 @@ impl Object for Orthographic {
 
     ghost height_bounds_kind = { (orthographic_height.1, lit≤ tt) };
 
-    fn read_members<R: ReadRows>(from: &mut R) -> Orthographic {
-        let xmag = from.required("xmag");
-        let ymag = from.required("ymag");
-        let zfar = from.required("zfar");
-        let znear = from.required("znear");
-        let extensions = from.optional("extensions");
-        let extras = from.optional("extras");
+    #[tactic(auto, unfolding(crate::specs::Camera::orthographic_rows, crate::specs::Camera::orthographic_members))]
+    fn start(_alloc: Global) -> Orthographic {
         Orthographic {
-            xmag,
-            ymag,
-            zfar,
-            znear,
-            extensions,
-            extras,
+            xmag: Real::from_i64(0),
+            ymag: Real::from_i64(0),
+            zfar: Real::from_i64(0),
+            znear: Real::from_i64(0),
+            extensions: None,
+            extras: None,
         }
+    }
+
+    #[tactic(auto, unfolding(crate::specs::Camera::orthographic_rows))]
+    fn count_required() -> usize {
+        4
+    }
+
+    fn read_rows<R: ReadRows>(&mut self, from: &mut R) {
+        from.required("xmag", &mut self.xmag);
+        from.required("ymag", &mut self.ymag);
+        from.required("zfar", &mut self.zfar);
+        from.required("znear", &mut self.znear);
+        from.optional("extensions", &mut self.extensions);
+        from.optional("extras", &mut self.extras);
     }
 
     fn write_members<W: WriteRows>(&self, to: &mut W) {
@@ -68,21 +80,30 @@ impl Object for Perspective {
 
     ghost height_bounds_kind = { (perspective_height.1, lit≤ tt) };
 
-    fn read_members<R: ReadRows>(from: &mut R) -> Perspective {
-        let aspect_ratio = from.optional("aspectRatio");
-        let yfov = from.required("yfov");
-        let zfar = from.optional("zfar");
-        let znear = from.required("znear");
-        let extensions = from.optional("extensions");
-        let extras = from.optional("extras");
+    #[tactic(auto, unfolding(crate::specs::Camera::perspective_rows, crate::specs::Camera::perspective_members))]
+    fn start(_alloc: Global) -> Perspective {
         Perspective {
-            aspect_ratio,
-            yfov,
-            zfar,
-            znear,
-            extensions,
-            extras,
+            aspect_ratio: None,
+            yfov: Real::from_i64(0),
+            zfar: None,
+            znear: Real::from_i64(0),
+            extensions: None,
+            extras: None,
         }
+    }
+
+    #[tactic(auto, unfolding(crate::specs::Camera::perspective_rows))]
+    fn count_required() -> usize {
+        2
+    }
+
+    fn read_rows<R: ReadRows>(&mut self, from: &mut R) {
+        from.optional("aspectRatio", &mut self.aspect_ratio);
+        from.required("yfov", &mut self.yfov);
+        from.optional("zfar", &mut self.zfar);
+        from.required("znear", &mut self.znear);
+        from.optional("extensions", &mut self.extensions);
+        from.optional("extras", &mut self.extras);
     }
 
     fn write_members<W: WriteRows>(&self, to: &mut W) {
@@ -112,21 +133,30 @@ impl Object for Camera {
 
     ghost height_bounds_kind = { (camera_height.1, lit≤ tt) };
 
-    fn read_members<R: ReadRows>(from: &mut R) -> Camera {
-        let name = from.optional("name");
-        let orthographic = from.optional("orthographic");
-        let perspective = from.optional("perspective");
-        let type_ = from.required("type");
-        let extensions = from.optional("extensions");
-        let extras = from.optional("extras");
+    #[tactic(auto, unfolding(crate::specs::Camera::camera_rows, crate::specs::Camera::camera_members))]
+    fn start(_alloc: Global) -> Camera {
         Camera {
-            name,
-            orthographic,
-            perspective,
-            type_,
-            extensions,
-            extras,
+            name: None,
+            orthographic: None,
+            perspective: None,
+            type_: Checked::Invalid,
+            extensions: None,
+            extras: None,
         }
+    }
+
+    #[tactic(auto, unfolding(crate::specs::Camera::camera_rows))]
+    fn count_required() -> usize {
+        1
+    }
+
+    fn read_rows<R: ReadRows>(&mut self, from: &mut R) {
+        from.optional("name", &mut self.name);
+        from.optional("orthographic", &mut self.orthographic);
+        from.optional("perspective", &mut self.perspective);
+        from.required("type", &mut self.type_);
+        from.optional("extensions", &mut self.extensions);
+        from.optional("extras", &mut self.extras);
     }
 
     fn write_members<W: WriteRows>(&self, to: &mut W) {

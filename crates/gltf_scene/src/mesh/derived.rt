@@ -12,6 +12,8 @@ use super::{Mesh, MorphTarget, Primitive};
 use gltf_base::mesh::Mode;
 use gltf_base::validation::Checked;
 use gltf_schema::{Object, ReadRows, WriteRows};
+use std::alloc::Global;
+use std::collections::BTreeMap;
 
 impl Object for MorphTarget {
     ghost rows = { morph_target_rows };
@@ -28,15 +30,24 @@ impl Object for MorphTarget {
 
     ghost height_bounds_kind = { (morph_target_height.1, lit≤ tt) };
 
-    fn read_members<R: ReadRows>(from: &mut R) -> MorphTarget {
-        let positions = from.optional("POSITION");
-        let normals = from.optional("NORMAL");
-        let tangents = from.optional("TANGENT");
+    #[tactic(auto, unfolding(crate::specs::Mesh::morph_target_rows, crate::specs::Mesh::morph_target_members))]
+    fn start(_alloc: Global) -> MorphTarget {
         MorphTarget {
-            positions,
-            normals,
-            tangents,
+            positions: None,
+            normals: None,
+            tangents: None,
         }
+    }
+
+    #[tactic(auto, unfolding(crate::specs::Mesh::morph_target_rows))]
+    fn count_required() -> usize {
+        0
+    }
+
+    fn read_rows<R: ReadRows>(&mut self, from: &mut R) {
+        from.optional("POSITION", &mut self.positions);
+        from.optional("NORMAL", &mut self.normals);
+        from.optional("TANGENT", &mut self.tangents);
     }
 
     fn write_members<W: WriteRows>(&self, to: &mut W) {
@@ -63,23 +74,32 @@ impl Object for Primitive {
 
     ghost height_bounds_kind = { (primitive_height.1, lit≤ tt) };
 
-    fn read_members<R: ReadRows>(from: &mut R) -> Primitive {
-        let attributes = from.required("attributes");
-        let extensions = from.optional("extensions");
-        let extras = from.optional("extras");
-        let indices = from.optional("indices");
-        let material = from.optional("material");
-        let mode = from.or_default("mode", Checked::Valid(Mode::Triangles));
-        let targets = from.optional("targets");
+    #[tactic(auto, unfolding(crate::specs::Mesh::primitive_rows, crate::specs::Mesh::primitive_members))]
+    fn start(alloc: Global) -> Primitive {
         Primitive {
-            attributes,
-            extensions,
-            extras,
-            indices,
-            material,
-            mode,
-            targets,
+            attributes: BTreeMap::new(alloc),
+            extensions: None,
+            extras: None,
+            indices: None,
+            material: None,
+            mode: Checked::Valid(Mode::Triangles),
+            targets: None,
         }
+    }
+
+    #[tactic(auto, unfolding(crate::specs::Mesh::primitive_rows))]
+    fn count_required() -> usize {
+        1
+    }
+
+    fn read_rows<R: ReadRows>(&mut self, from: &mut R) {
+        from.required("attributes", &mut self.attributes);
+        from.optional("extensions", &mut self.extensions);
+        from.optional("extras", &mut self.extras);
+        from.optional("indices", &mut self.indices);
+        from.optional("material", &mut self.material);
+        from.or_default("mode", &mut self.mode);
+        from.optional("targets", &mut self.targets);
     }
 
     fn write_members<W: WriteRows>(&self, to: &mut W) {
@@ -108,19 +128,28 @@ impl Object for Mesh {
 
     ghost height_bounds_kind = { (mesh_height.1, lit≤ tt) };
 
-    fn read_members<R: ReadRows>(from: &mut R) -> Mesh {
-        let extensions = from.optional("extensions");
-        let extras = from.optional("extras");
-        let name = from.optional("name");
-        let primitives = from.required("primitives");
-        let weights = from.optional("weights");
+    #[tactic(auto, unfolding(crate::specs::Mesh::mesh_rows, crate::specs::Mesh::mesh_members))]
+    fn start(alloc: Global) -> Mesh {
         Mesh {
-            extensions,
-            extras,
-            name,
-            primitives,
-            weights,
+            extensions: None,
+            extras: None,
+            name: None,
+            primitives: Vec::new(alloc),
+            weights: None,
         }
+    }
+
+    #[tactic(auto, unfolding(crate::specs::Mesh::mesh_rows))]
+    fn count_required() -> usize {
+        1
+    }
+
+    fn read_rows<R: ReadRows>(&mut self, from: &mut R) {
+        from.optional("extensions", &mut self.extensions);
+        from.optional("extras", &mut self.extras);
+        from.optional("name", &mut self.name);
+        from.required("primitives", &mut self.primitives);
+        from.optional("weights", &mut self.weights);
     }
 
     fn write_members<W: WriteRows>(&self, to: &mut W) {

@@ -10,6 +10,7 @@ ghost use Rattle.std.specs.Prelude.{false, ◌≡◌};
 
 use super::{Node, Scene};
 use gltf_schema::{Object, ReadRows, WriteRows};
+use std::alloc::Global;
 
 impl Object for Node {
     ghost rows = { node_rows };
@@ -26,33 +27,42 @@ impl Object for Node {
 
     ghost height_bounds_kind = { (node_height.1, lit≤ tt) };
 
-    fn read_members<R: ReadRows>(from: &mut R) -> Node {
-        let camera = from.optional("camera");
-        let children = from.optional("children");
-        let extensions = from.optional("extensions");
-        let extras = from.optional("extras");
-        let matrix = from.optional("matrix");
-        let mesh = from.optional("mesh");
-        let name = from.optional("name");
-        let rotation = from.optional("rotation");
-        let scale = from.optional("scale");
-        let translation = from.optional("translation");
-        let skin = from.optional("skin");
-        let weights = from.optional("weights");
+    #[tactic(auto, unfolding(crate::specs::Scene::node_rows, crate::specs::Scene::node_members))]
+    fn start(_alloc: Global) -> Node {
         Node {
-            camera,
-            children,
-            extensions,
-            extras,
-            matrix,
-            mesh,
-            name,
-            rotation,
-            scale,
-            translation,
-            skin,
-            weights,
+            camera: None,
+            children: None,
+            extensions: None,
+            extras: None,
+            matrix: None,
+            mesh: None,
+            name: None,
+            rotation: None,
+            scale: None,
+            translation: None,
+            skin: None,
+            weights: None,
         }
+    }
+
+    #[tactic(auto, unfolding(crate::specs::Scene::node_rows))]
+    fn count_required() -> usize {
+        0
+    }
+
+    fn read_rows<R: ReadRows>(&mut self, from: &mut R) {
+        from.optional("camera", &mut self.camera);
+        from.optional("children", &mut self.children);
+        from.optional("extensions", &mut self.extensions);
+        from.optional("extras", &mut self.extras);
+        from.optional("matrix", &mut self.matrix);
+        from.optional("mesh", &mut self.mesh);
+        from.optional("name", &mut self.name);
+        from.optional("rotation", &mut self.rotation);
+        from.optional("scale", &mut self.scale);
+        from.optional("translation", &mut self.translation);
+        from.optional("skin", &mut self.skin);
+        from.optional("weights", &mut self.weights);
     }
 
     fn write_members<W: WriteRows>(&self, to: &mut W) {
@@ -108,17 +118,26 @@ impl Object for Scene {
 
     ghost height_bounds_kind = { (scene_height.1, lit≤ tt) };
 
-    fn read_members<R: ReadRows>(from: &mut R) -> Scene {
-        let extensions = from.optional("extensions");
-        let extras = from.optional("extras");
-        let name = from.optional("name");
-        let nodes = from.list("nodes");
+    #[tactic(auto, unfolding(crate::specs::Scene::scene_rows, crate::specs::Scene::scene_members))]
+    fn start(alloc: Global) -> Scene {
         Scene {
-            extensions,
-            extras,
-            name,
-            nodes,
+            extensions: None,
+            extras: None,
+            name: None,
+            nodes: Vec::new(alloc),
         }
+    }
+
+    #[tactic(auto, unfolding(crate::specs::Scene::scene_rows))]
+    fn count_required() -> usize {
+        0
+    }
+
+    fn read_rows<R: ReadRows>(&mut self, from: &mut R) {
+        from.optional("extensions", &mut self.extensions);
+        from.optional("extras", &mut self.extras);
+        from.optional("name", &mut self.name);
+        from.or_default("nodes", &mut self.nodes);
     }
 
     fn write_members<W: WriteRows>(&self, to: &mut W) {

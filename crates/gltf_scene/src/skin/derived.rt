@@ -9,6 +9,7 @@ ghost use Rattle.std.specs.Prelude.{false};
 
 use super::Skin;
 use gltf_schema::{Object, ReadRows, WriteRows};
+use std::alloc::Global;
 
 impl Object for Skin {
     ghost rows = { skin_rows };
@@ -25,21 +26,30 @@ impl Object for Skin {
 
     ghost height_bounds_kind = { (skin_height.1, lit≤ tt) };
 
-    fn read_members<R: ReadRows>(from: &mut R) -> Skin {
-        let extensions = from.optional("extensions");
-        let extras = from.optional("extras");
-        let inverse_bind_matrices = from.optional("inverseBindMatrices");
-        let joints = from.list("joints");
-        let name = from.optional("name");
-        let skeleton = from.optional("skeleton");
+    #[tactic(auto, unfolding(crate::specs::Scene::skin_rows, crate::specs::Scene::skin_members))]
+    fn start(alloc: Global) -> Skin {
         Skin {
-            extensions,
-            extras,
-            inverse_bind_matrices,
-            joints,
-            name,
-            skeleton,
+            extensions: None,
+            extras: None,
+            inverse_bind_matrices: None,
+            joints: Vec::new(alloc),
+            name: None,
+            skeleton: None,
         }
+    }
+
+    #[tactic(auto, unfolding(crate::specs::Scene::skin_rows))]
+    fn count_required() -> usize {
+        0
+    }
+
+    fn read_rows<R: ReadRows>(&mut self, from: &mut R) {
+        from.optional("extensions", &mut self.extensions);
+        from.optional("extras", &mut self.extras);
+        from.optional("inverseBindMatrices", &mut self.inverse_bind_matrices);
+        from.or_default("joints", &mut self.joints);
+        from.optional("name", &mut self.name);
+        from.optional("skeleton", &mut self.skeleton);
     }
 
     fn write_members<W: WriteRows>(&self, to: &mut W) {

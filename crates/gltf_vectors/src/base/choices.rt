@@ -1,6 +1,6 @@
 //! Choices: the items of each, and how each is spelled.
 
-use crate::shown::shows;
+use crate::shown::{holds, shows};
 use gltf_base::accessor::{AccessorType, ComponentType, GenericComponentType, IndexComponentType};
 use gltf_base::animation::{Interpolation, Property};
 use gltf_base::buffer::Target;
@@ -15,92 +15,76 @@ use std::alloc::{AllocError, Global};
 use std::fmt::{Debug, Write};
 use std::test::Fail;
 
-/// Whether a choice is of this form, and lists these items, each behind its spelling.
-fn lists<T: Choice + Debug>(alloc: Global, form: &str, items: &str) -> Result<bool, AllocError> {
+/// The items of a choice, each behind its spelling, below its form.
+fn listed<T: Choice + Debug>(alloc: Global) -> Result<String, AllocError> {
     let mut text = format!(in alloc; "{:?}", T::form())?;
-    let is_form = text.as_str() == form;
-    text.clear();
     for item in T::listed() {
-        write!(text, "{:?} {item:?} ", item.spelling())?;
+        write!(text, " {:?} {item:?}", item.spelling())?;
     }
-    Ok(is_form && text.as_str().trim_end() == items)
-}
-
-/// The same of a choice by numbers.
-fn numbers<T: Choice + Debug>(alloc: Global, items: &str) -> Result<bool, AllocError> {
-    lists::<T>(alloc, "Number", items)
-}
-
-/// The same of a choice by names.
-fn names<T: Choice + Debug>(alloc: Global, items: &str) -> Result<bool, AllocError> {
-    lists::<T>(alloc, "Name", items)
-}
-
-/// For each choice by numbers, whether it is what glTF 2.0 lists.
-fn are_numbers_listed(alloc: Global) -> Result<[bool; 7], AllocError> {
-    Ok([
-        numbers::<GenericComponentType>(
-            alloc,
-            "Number(5120) GenericComponentType(I8) Number(5121) GenericComponentType(U8) Number(5122) GenericComponentType(I16) Number(5123) GenericComponentType(U16) Number(5125) GenericComponentType(U32) Number(5126) GenericComponentType(F32)",
-        )?,
-        numbers::<IndexComponentType>(
-            alloc,
-            "Number(5121) IndexComponentType(U8) Number(5123) IndexComponentType(U16) Number(5125) IndexComponentType(U32)",
-        )?,
-        numbers::<Target>(
-            alloc,
-            "Number(34962) ArrayBuffer Number(34963) ElementArrayBuffer",
-        )?,
-        numbers::<Mode>(
-            alloc,
-            "Number(0) Points Number(1) Lines Number(2) LineLoop Number(3) LineStrip Number(4) Triangles Number(5) TriangleStrip Number(6) TriangleFan",
-        )?,
-        numbers::<MagFilter>(alloc, "Number(9728) Nearest Number(9729) Linear")?,
-        numbers::<MinFilter>(
-            alloc,
-            "Number(9728) Nearest Number(9729) Linear Number(9984) NearestMipmapNearest Number(9985) LinearMipmapNearest Number(9986) NearestMipmapLinear Number(9987) LinearMipmapLinear",
-        )?,
-        numbers::<WrappingMode>(
-            alloc,
-            "Number(33071) ClampToEdge Number(33648) MirroredRepeat Number(10497) Repeat",
-        )?,
-    ])
-}
-
-/// For each choice by names, whether it is what glTF 2.0 lists.
-fn are_names_listed(alloc: Global) -> Result<[bool; 6], AllocError> {
-    Ok([
-        names::<AccessorType>(
-            alloc,
-            "Name(\"SCALAR\") Scalar Name(\"VEC2\") Vec2 Name(\"VEC3\") Vec3 Name(\"VEC4\") Vec4 Name(\"MAT2\") Mat2 Name(\"MAT3\") Mat3 Name(\"MAT4\") Mat4",
-        )?,
-        names::<Interpolation>(
-            alloc,
-            "Name(\"LINEAR\") Linear Name(\"STEP\") Step Name(\"CUBICSPLINE\") CubicSpline",
-        )?,
-        names::<Property>(
-            alloc,
-            "Name(\"translation\") Translation Name(\"rotation\") Rotation Name(\"scale\") Scale Name(\"weights\") MorphTargetWeights",
-        )?,
-        names::<CameraType>(
-            alloc,
-            "Name(\"perspective\") Perspective Name(\"orthographic\") Orthographic",
-        )?,
-        names::<LightType>(
-            alloc,
-            "Name(\"directional\") Directional Name(\"point\") Point Name(\"spot\") Spot",
-        )?,
-        names::<AlphaMode>(
-            alloc,
-            "Name(\"OPAQUE\") Opaque Name(\"MASK\") Mask Name(\"BLEND\") Blend",
-        )?,
-    ])
+    Ok(text)
 }
 
 #[test]
-fn choices_are_those_of_the_format(rt: HostRuntime) -> Result<(), Fail> {
-    assert_eq!(rt; are_numbers_listed(rt.alloc())?, [true; 7]);
-    assert_eq!(rt; are_names_listed(rt.alloc())?, [true; 6]);
+fn choices_by_numbers_are_those_of_the_format(rt: HostRuntime) -> Result<(), Fail> {
+    let alloc = rt.alloc();
+    shows(
+        listed::<GenericComponentType>(alloc),
+        "Number Number(5120) GenericComponentType(I8) Number(5121) GenericComponentType(U8) Number(5122) GenericComponentType(I16) Number(5123) GenericComponentType(U16) Number(5125) GenericComponentType(U32) Number(5126) GenericComponentType(F32)",
+    )?;
+    shows(
+        listed::<IndexComponentType>(alloc),
+        "Number Number(5121) IndexComponentType(U8) Number(5123) IndexComponentType(U16) Number(5125) IndexComponentType(U32)",
+    )?;
+    shows(
+        listed::<Target>(alloc),
+        "Number Number(34962) ArrayBuffer Number(34963) ElementArrayBuffer",
+    )?;
+    shows(
+        listed::<Mode>(alloc),
+        "Number Number(0) Points Number(1) Lines Number(2) LineLoop Number(3) LineStrip Number(4) Triangles Number(5) TriangleStrip Number(6) TriangleFan",
+    )?;
+    shows(
+        listed::<MagFilter>(alloc),
+        "Number Number(9728) Nearest Number(9729) Linear",
+    )?;
+    shows(
+        listed::<MinFilter>(alloc),
+        "Number Number(9728) Nearest Number(9729) Linear Number(9984) NearestMipmapNearest Number(9985) LinearMipmapNearest Number(9986) NearestMipmapLinear Number(9987) LinearMipmapLinear",
+    )?;
+    shows(
+        listed::<WrappingMode>(alloc),
+        "Number Number(33071) ClampToEdge Number(33648) MirroredRepeat Number(10497) Repeat",
+    )?;
+    Ok(())
+}
+
+#[test]
+fn choices_by_names_are_those_of_the_format(rt: HostRuntime) -> Result<(), Fail> {
+    let alloc = rt.alloc();
+    shows(
+        listed::<AccessorType>(alloc),
+        "Name Name(\"SCALAR\") Scalar Name(\"VEC2\") Vec2 Name(\"VEC3\") Vec3 Name(\"VEC4\") Vec4 Name(\"MAT2\") Mat2 Name(\"MAT3\") Mat3 Name(\"MAT4\") Mat4",
+    )?;
+    shows(
+        listed::<Interpolation>(alloc),
+        "Name Name(\"LINEAR\") Linear Name(\"STEP\") Step Name(\"CUBICSPLINE\") CubicSpline",
+    )?;
+    shows(
+        listed::<Property>(alloc),
+        "Name Name(\"translation\") Translation Name(\"rotation\") Rotation Name(\"scale\") Scale Name(\"weights\") MorphTargetWeights",
+    )?;
+    shows(
+        listed::<CameraType>(alloc),
+        "Name Name(\"perspective\") Perspective Name(\"orthographic\") Orthographic",
+    )?;
+    shows(
+        listed::<LightType>(alloc),
+        "Name Name(\"directional\") Directional Name(\"point\") Point Name(\"spot\") Spot",
+    )?;
+    shows(
+        listed::<AlphaMode>(alloc),
+        "Name Name(\"OPAQUE\") Opaque Name(\"MASK\") Mask Name(\"BLEND\") Blend",
+    )?;
     Ok(())
 }
 
@@ -130,9 +114,12 @@ fn multiplicities() -> [usize; 7] {
 }
 
 #[test]
-fn components_have_sizes(rt: HostRuntime) {
-    assert_eq!(rt; sizes(), [1, 1, 2, 2, 4, 4]);
-    assert_eq!(rt; multiplicities(), [1, 2, 3, 4, 4, 9, 16]);
+fn components_have_sizes() -> Result<(), Fail> {
+    holds(sizes() == [1, 1, 2, 2, 4, 4], "sizes of components")?;
+    holds(
+        multiplicities() == [1, 2, 3, 4, 4, 9, 16],
+        "components of types",
+    )
 }
 
 /// What choices hold that have a default, and how numbers of no item are read.
@@ -148,12 +135,10 @@ fn defaults(alloc: Global) -> Result<String, AllocError> {
 
 #[test]
 fn choices_have_defaults(rt: HostRuntime) -> Result<(), Fail> {
-    assert!(rt;
-        shows(
-            defaults(rt.alloc()),
-            "Linear Opaque Triangles Repeat (Invalid, Invalid)"
-        )?
-    );
+    shows(
+        defaults(rt.alloc()),
+        "Linear Opaque Triangles Repeat (Invalid, Invalid)",
+    )?;
     Ok(())
 }
 
@@ -166,6 +151,6 @@ fn checked_shown(alloc: Global) -> Result<String, AllocError> {
 
 #[test]
 fn choices_are_printed_as_spelled(rt: HostRuntime) -> Result<(), Fail> {
-    assert!(rt; shows(checked_shown(rt.alloc()), "34962 MASK <invalid>")?);
+    shows(checked_shown(rt.alloc()), "34962 MASK <invalid>")?;
     Ok(())
 }

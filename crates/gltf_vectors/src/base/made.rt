@@ -12,8 +12,8 @@ use gltf_json::buffer::Stride;
 use gltf_json::extensions::scene::Node as NodeExtensions;
 use gltf_json::extensions::scene::khr_lights_punctual::KhrLightsPunctual;
 use gltf_json::extras::Void;
-use gltf_json::scene::Node;
-use gltf_json::{Error, Schema, Value};
+use gltf_json::scene::{Node, Scene};
+use gltf_json::{Error, Material, Schema, Value};
 use std::alloc::Global;
 use std::fmt::Debug;
 use std::test::Fail;
@@ -48,21 +48,17 @@ fn light() -> Option<KhrLightsPunctual> {
     })
 }
 
-/// Whether these objects are written as they should.
-fn are_written(alloc: Global) -> Result<bool, Fail> {
-    let lit = r#"{"extensions":{"KHR_lights_punctual":{"light":0}}}"#;
-    let unlit = r#"{"extensions":{"KHR_lights_punctual":5}}"#;
-    Ok(
-        shows(new_asset(alloc), r#"{"version":"2.0"}"#)?
-            && shows(node(alloc, light()), lit)?
-            && shows(node(alloc, None), unlit)?,
-    )
-}
-
 #[test]
 fn objects_made_by_hand_are_written(rt: HostRuntime) -> Result<(), Fail> {
-    assert!(rt; are_written(rt.alloc())?);
-    Ok(())
+    let alloc = rt.alloc();
+    let material = r#"{"alphaMode":"OPAQUE","doubleSided":false,"pbrMetallicRoughness":{}}"#;
+    let lit = r#"{"extensions":{"KHR_lights_punctual":{"light":0}}}"#;
+    let unlit = r#"{"extensions":{"KHR_lights_punctual":5}}"#;
+    shows(new_asset(alloc), r#"{"version":"2.0"}"#)?;
+    shows(written(alloc, &Material::new()), material)?;
+    shows(written(alloc, &Scene::new(Vec::new(alloc))), "{}")?;
+    shows(node(alloc, light()), lit)?;
+    shows(node(alloc, None), unlit)
 }
 
 /// Indexes of a type that isn't one of indexes.
@@ -88,18 +84,14 @@ fn debugged<T: Schema + Debug>(alloc: Global, text: &str) -> Result<String, Fail
     Ok(format!(in alloc; "{read:?}")?)
 }
 
-/// Whether their type is written by its number, and is invalid in what is read back.
-fn is_type_lost(alloc: Global) -> Result<bool, Fail> {
+#[test]
+fn types_of_no_indexes_are_lost(rt: HostRuntime) -> Result<(), Fail> {
+    let alloc = rt.alloc();
     let text = r#"{"bufferView":1,"byteOffset":2,"componentType":5126}"#;
     let read =
         "Indices { buffer_view: 1, byte_offset: USize64(2), component_type: Invalid, extensions: None, extras: None }";
-    Ok(shows(fractional_text(alloc), text)? && shows(debugged::<Indices>(alloc, text), read)?)
-}
-
-#[test]
-fn types_of_no_indexes_are_lost(rt: HostRuntime) -> Result<(), Fail> {
-    assert!(rt; is_type_lost(rt.alloc())?);
-    Ok(())
+    shows(fractional_text(alloc), text)?;
+    shows(debugged::<Indices>(alloc, text), read)
 }
 
 /// How a choice, a stride, an error and no extras are debugged.
@@ -111,11 +103,9 @@ fn values_debugged(alloc: Global) -> Result<String, Fail> {
 
 #[test]
 fn values_are_debugged(rt: HostRuntime) -> Result<(), Fail> {
-    assert!(rt;
-        shows(
-            values_debugged(rt.alloc()),
-            "NearestMipmapNearest Some(Stride(4)) InvalidItem {} {}"
-        )?
-    );
+    shows(
+        values_debugged(rt.alloc()),
+        "NearestMipmapNearest Some(Stride(4)) InvalidItem {} {}",
+    )?;
     Ok(())
 }

@@ -1,6 +1,6 @@
 //! Paths, semantics, numbers, indexes and errors.
 
-use crate::shown::shows;
+use crate::shown::{holds, shows};
 use gltf_base::mesh::Semantic;
 use gltf_base::validation::{Checked, Error, USize64};
 use gltf_base::{Index, KeyStep, Path, Real, Step, Steps};
@@ -21,12 +21,10 @@ fn paths(alloc: Global) -> Result<String, AllocError> {
 
 #[test]
 fn paths_grow_by_steps(rt: HostRuntime) -> Result<(), Fail> {
-    assert!(rt;
-        shows(
-            paths(rt.alloc()),
-            " foo foo.bar foo[\"bar\"] foo[0] foo[0] = \"baz\""
-        )?
-    );
+    shows(
+        paths(rt.alloc()),
+        " foo foo.bar foo[\"bar\"] foo[0] foo[0] = \"baz\"",
+    )?;
     Ok(())
 }
 
@@ -79,16 +77,14 @@ fn pointer_shown(alloc: Global) -> Result<String, Fail> {
 
 #[test]
 fn paths_are_compared_and_made_of_steps(rt: HostRuntime) -> Result<(), Fail> {
-    assert!(rt; are_paths_compared(rt.alloc())?);
-    assert!(rt;
-        shows(
-            steps_shown(rt.alloc()),
-            "a[\"<invalid semantic name>\"][2].b Index(0)"
-        )?
-    );
-    assert!(rt; shows(pointer_shown(rt.alloc()), "/a/_A~1B~01/2/b")?);
-    assert!(rt; shows(text_key_shown(rt.alloc()), "Key(\"c\")")?);
-    assert!(rt; shows(attribute_key_shown(rt.alloc()), "Attribute(Valid(Normals))")?);
+    holds(are_paths_compared(rt.alloc())?, "paths are compared")?;
+    shows(
+        steps_shown(rt.alloc()),
+        "a[\"<invalid semantic name>\"][2].b Index(0)",
+    )?;
+    shows(pointer_shown(rt.alloc()), "/a/_A~1B~01/2/b")?;
+    shows(text_key_shown(rt.alloc()), "Key(\"c\")")?;
+    shows(attribute_key_shown(rt.alloc()), "Attribute(Valid(Normals))")?;
     Ok(())
 }
 
@@ -102,13 +98,11 @@ fn key_shown(alloc: Global, name: &str) -> Result<String, AllocError> {
 // What more names mean is shown by documents of `gltf_vectors_corpus`.
 #[test]
 fn names_of_attributes_are_read(rt: HostRuntime) -> Result<(), Fail> {
-    assert!(rt; shows(key_shown(rt.alloc(), "__+"), "__+ Valid(Extras(\"_+\"))")?);
-    assert!(rt;
-        shows(
-            key_shown(rt.alloc(), "WEIGHTS_+"),
-            "<invalid semantic name> Invalid"
-        )?
-    );
+    shows(key_shown(rt.alloc(), "__+"), "__+ Valid(Extras(\"_+\"))")?;
+    shows(
+        key_shown(rt.alloc(), "WEIGHTS_+"),
+        "<invalid semantic name> Invalid",
+    )?;
     Ok(())
 }
 
@@ -138,13 +132,11 @@ fn values_shown(alloc: Global) -> Result<String, AllocError> {
 
 #[test]
 fn keys_and_sizes_are_values(rt: HostRuntime) -> Result<(), Fail> {
-    assert!(rt; are_keys_values(rt.alloc())?);
-    assert!(rt;
-        shows(
-            values_shown(rt.alloc()),
-            "COLOR_1 Colors(1) 7 Valid(0) USize64(0) (USize64(18446744073709551615), USize64(3)) Missing"
-        )?
-    );
+    holds(are_keys_values(rt.alloc())?, "keys are values")?;
+    shows(
+        values_shown(rt.alloc()),
+        "COLOR_1 Colors(1) 7 Valid(0) USize64(0) (USize64(18446744073709551615), USize64(3)) Missing",
+    )?;
     Ok(())
 }
 
@@ -170,13 +162,11 @@ fn are_faults_ordered() -> bool {
 
 #[test]
 fn faults_have_texts_and_an_order(rt: HostRuntime) -> Result<(), Fail> {
-    assert!(rt; are_faults_ordered());
-    assert!(rt;
-        shows(
-            faults_shown(rt.alloc()),
-            "Index out of bounds, Invalid value, Missing data, Size exceeds system limits, Unsupported extension"
-        )?
-    );
+    holds(are_faults_ordered(), "faults are ordered")?;
+    shows(
+        faults_shown(rt.alloc()),
+        "Index out of bounds, Invalid value, Missing data, Size exceeds system limits, Unsupported extension",
+    )?;
     Ok(())
 }
 
@@ -205,12 +195,12 @@ fn float(number: f64) -> Option<f64> {
 
 #[test]
 fn reals_are_numbers_alone(rt: HostRuntime) -> Result<(), Fail> {
-    assert_eq!(rt; fraction(rt.alloc(), "null")?, None);
-    assert_eq!(rt; fraction(rt.alloc(), "-0.5")?, Some(-0.5));
-    assert!(rt; is_whole(1)? && is_whole(i64::MIN)?);
-    assert_eq!(rt; float(0.5), Some(0.5));
-    assert_eq!(rt; float(f64::INFINITY), None);
-    Ok(())
+    holds(fraction(rt.alloc(), "null")?.is_none(), "null is no number")?;
+    holds(fraction(rt.alloc(), "-0.5")? == Some(-0.5), "-0.5")?;
+    holds(is_whole(1)?, "1")?;
+    holds(is_whole(i64::MIN)?, "the least whole number")?;
+    holds(float(0.5) == Some(0.5), "0.5")?;
+    holds(float(f64::INFINITY).is_none(), "infinity is no number")
 }
 
 /// Whether indexes are compared and hashed by their numbers.
@@ -240,7 +230,7 @@ fn indexes_shown(alloc: Global) -> Result<String, Fail> {
 
 #[test]
 fn indexes_are_numbers(rt: HostRuntime) -> Result<(), Fail> {
-    assert!(rt; are_indexes_numbers(rt.alloc())?);
-    assert!(rt; shows(indexes_shown(rt.alloc()), "0 1 2 4294967295")?);
+    holds(are_indexes_numbers(rt.alloc())?, "indexes are numbers")?;
+    shows(indexes_shown(rt.alloc()), "0 1 2 4294967295")?;
     Ok(())
 }

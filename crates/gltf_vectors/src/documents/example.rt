@@ -1,6 +1,7 @@
 //! The example of `README.md`.
 
 use super::FAULTY;
+use crate::shown::holds;
 use gltf_json::Root;
 use gltf_json::path::Steps;
 use gltf_json::validation::{Count, Validate};
@@ -62,7 +63,6 @@ fn is_not_clean(rt: HostRuntime, document: &str) -> Result<bool, gltf_json::Erro
 
 #[test]
 fn example_of_the_front_page(rt: HostRuntime) -> Result<(), Fail> {
-    assert!(rt; gives_view_and_text(rt, CLEAN)?);
-    assert!(rt; is_not_clean(rt, FAULTY)?);
-    Ok(())
+    holds(gives_view_and_text(rt, CLEAN)?, "a clean document")?;
+    holds(is_not_clean(rt, FAULTY)?, "a faulty document")
 }

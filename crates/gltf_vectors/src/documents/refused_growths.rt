@@ -2,6 +2,7 @@
 
 use super::{SIX, SIX_LINES, WRONG_LIGHTS};
 use crate::lines::held_memory::{End, Tried, refusal_count};
+use crate::shown::holds;
 use crate::writing::{Layout, bytes_of, is_line, write_into};
 use gltf_base::Steps;
 use gltf_json::root::Watched;
@@ -42,7 +43,7 @@ impl Tried for Reading {
 /// Whether there is a document that is written as the one that was to be read or cloned.
 fn is_lit(alloc: Global, made: &Option<Root>) -> Result<bool, Fail> {
     match made {
-        Some(root) => is_line(alloc, root, WRONG_LIGHTS),
+        Some(root) => Ok(is_line(alloc, root, WRONG_LIGHTS)?),
         None => Ok(false),
     }
 }
@@ -163,15 +164,27 @@ fn refused_writings(
 
 #[test]
 fn writings_without_memory(rt: HostRuntime) -> Result<(), Fail> {
-    assert!(rt; refused_writings(rt.alloc(), WRONG_LIGHTS, Layout::InOneLine, WRONG_LIGHTS)? > 0);
-    assert!(rt; refused_writings(rt.alloc(), WRONG_LIGHTS, Layout::InLines, LIT_IN_LINES)? > 0);
+    holds(
+        refused_writings(rt.alloc(), WRONG_LIGHTS, Layout::InOneLine, WRONG_LIGHTS)? > 0,
+        "a document in one line",
+    )?;
+    holds(
+        refused_writings(rt.alloc(), WRONG_LIGHTS, Layout::InLines, LIT_IN_LINES)? > 0,
+        "a document in lines",
+    )?;
     Ok(())
 }
 
 #[test]
 fn writings_of_kept_members_without_memory(rt: HostRuntime) -> Result<(), Fail> {
-    assert!(rt; refused_writings(rt.alloc(), KEPT, Layout::InOneLine, KEPT)? > 0);
-    assert!(rt; refused_writings(rt.alloc(), KEPT, Layout::InLines, KEPT_IN_LINES)? > 0);
+    holds(
+        refused_writings(rt.alloc(), KEPT, Layout::InOneLine, KEPT)? > 0,
+        "kept members in one line",
+    )?;
+    holds(
+        refused_writings(rt.alloc(), KEPT, Layout::InLines, KEPT_IN_LINES)? > 0,
+        "kept members in lines",
+    )?;
     Ok(())
 }
 

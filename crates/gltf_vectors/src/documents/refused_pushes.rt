@@ -1,17 +1,23 @@
-//! Pushes onto lists that can't grow, and what refused pushes print.
+//! Pushes onto lists that can't grow, and documents that are refused without memory for a path.
 
-use super::built::{ONE_LIGHT, POINT};
-use crate::lines::held_memory::{End, Tried, refusal_count};
+use super::{FAULTY, NEW};
+use crate::lines::held_memory::{End, HeldMemory, Tried, refusal_count};
 use crate::reading::object;
-use crate::shown::shows;
 use crate::writing::is_line;
 use gltf_json::extensions::scene::khr_lights_punctual::Light;
 use gltf_json::root::{Get, PushError};
-use gltf_json::validation::{CleanError, Error};
+use gltf_json::validation::{Clean, CleanError, Item, Refused, Rules};
 use gltf_json::{Buffer, Index, Root, Schema};
 use std::alloc::{AllocError, Global};
 use std::fmt::Debug;
 use std::test::Fail;
+
+/// A light that shines from a point, and says nothing else.
+const POINT: &str = r#"{"type":"point"}"#;
+
+/// What a document with that light alone is written as.
+const ONE_LIGHT: &str =
+    r#"{"asset":{"version":"2.0"},"extensions":{"KHR_lights_punctual":{"lights":[{"type":"point"}]}}}"#;
 
 /// Pushing an item onto a new document. A refused push hands the item back for the next one.
 #[derive(Drop)]
@@ -71,25 +77,51 @@ fn buffers_without_memory(rt: HostRuntime) -> Result<(), Fail> {
     Ok(())
 }
 
-/// What refused pushes print.
-fn errors_shown(alloc: Global) -> Result<String, AllocError> {
-    format!(in alloc;
-        "{}, {}, {}, {}, {}",
-        PushError::Full(7),
-        PushError::Memory(7),
-        CleanError::Full(7),
-        CleanError::Memory(7),
-        CleanError::Faulty(7, Error::Missing)
-    )
+/// Pushes an item where there is no memory.
+fn push_without_memory<T: Item>(
+    alloc: Global,
+    clean: &mut Clean<'_>,
+    item: T,
+) -> Result<Result<Index<T>, CleanError<T>>, AllocError> {
+    let held_memory = HeldMemory::take_all(alloc, 0)?;
+    let ended = clean.push(item);
+    drop(held_memory);
+    Ok(ended)
+}
+
+/// Whether a light for which there is no memory is handed back, and the root stays new.
+fn is_light_handed_back(alloc: Global) -> Result<bool, Fail> {
+    let mut clean = Clean::new(alloc)?;
+    let light = object::<Light>(alloc, POINT)?;
+    match push_without_memory(alloc, &mut clean, light)? {
+        Err(CleanError::Memory(light)) => {
+            let is_same = light.encode(alloc)?.to_string(alloc)?.as_str() == POINT;
+            Ok(is_same && is_line(alloc, clean.root(), NEW)?)
+        }
+        _ => Ok(false),
+    }
 }
 
 #[test]
-fn refused_pushes_are_printed(rt: HostRuntime) -> Result<(), Fail> {
-    assert!(rt;
-        shows(
-            errors_shown(rt.alloc()),
-            "List is full, Out of memory, List is full, Out of memory, Missing data"
-        )?
-    );
+fn lights_without_memory_are_handed_back(rt: HostRuntime) -> Result<(), Fail> {
+    assert!(rt; is_light_handed_back(rt.alloc())?);
+    Ok(())
+}
+
+/// Whether a root with a report comes back if there is no memory for the path.
+fn is_root_without_memory_back(alloc: Global) -> Result<bool, Fail> {
+    let root = Root::from_str(alloc, FAULTY)?;
+    let held_memory = HeldMemory::take_all(alloc, 0)?;
+    let ended = Clean::of_or_report(Rules::new(), root);
+    drop(held_memory);
+    match ended {
+        Err(Refused::Memory(root)) => Ok(is_line(alloc, &root, FAULTY)?),
+        _ => Ok(false),
+    }
+}
+
+#[test]
+fn paths_without_memory(rt: HostRuntime) -> Result<(), Fail> {
+    assert!(rt; is_root_without_memory_back(rt.alloc())?);
     Ok(())
 }

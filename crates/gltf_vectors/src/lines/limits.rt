@@ -2,9 +2,11 @@
 
 use super::devices::{Blanks, Giver};
 use crate::documents::NEW;
+use crate::shown::holds;
 use gltf_json::root::{ByteIn, Watched};
 use gltf_json::{Error, Root};
 use std::alloc::Global;
+use std::test::Fail;
 
 /// Whether a reader gives too much, or takes too many calls, for limits.
 fn is_too_long<R: ByteIn>(alloc: Global, reader: &mut R, bytes: u64, calls: u64) -> bool {
@@ -30,17 +32,20 @@ fn is_new_too_long(alloc: Global, bytes: u64, calls: u64) -> bool {
 }
 
 #[test]
-fn documents_past_a_limit(rt: HostRuntime) {
-    assert!(rt; is_new_too_long(rt.alloc(), 26, 28));
-    assert!(rt; is_new_too_long(rt.alloc(), 27, 27));
-    assert!(rt; is_new_too_long(rt.alloc(), 27, 0));
+fn documents_past_a_limit(rt: HostRuntime) -> Result<(), Fail> {
+    holds(is_new_too_long(rt.alloc(), 26, 28), "26 bytes in 28 calls")?;
+    holds(is_new_too_long(rt.alloc(), 27, 27), "27 bytes in 27 calls")?;
+    holds(is_new_too_long(rt.alloc(), 27, 0), "27 bytes in no call")
 }
 
 #[test]
-fn readers_that_must_not_be_called(rt: HostRuntime) {
+fn readers_that_must_not_be_called(rt: HostRuntime) -> Result<(), Fail> {
     let mut reader = Watched::new(Blanks { calls: 0 });
-    assert!(rt; is_too_long(rt.alloc(), &mut reader, 27, 0));
-    assert!(rt; reader.into_inner().calls == 0);
+    holds(
+        is_too_long(rt.alloc(), &mut reader, 27, 0),
+        "it is too long",
+    )?;
+    holds(reader.into_inner().calls == 0, "it is not called")
 }
 
 #[test]

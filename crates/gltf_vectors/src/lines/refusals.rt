@@ -3,8 +3,8 @@
 use super::devices::{Giver, Taker, Wall};
 use super::held_memory::{End, Tried, refusal_count};
 use crate::documents::{FAULTY, NEW, SIX, SIX_LINES};
-use crate::shown::shows;
-use gltf_json::root::{ByteIn, Failed, Watched};
+use crate::shown::holds;
+use gltf_json::root::{ByteIn, Watched};
 use gltf_json::{Error, Root};
 use gltf_report_lines::run;
 use std::alloc::Global;
@@ -12,12 +12,6 @@ use std::mem;
 use std::test::Fail;
 
 const REFUSAL: &[u8] = b"refused: input or output\n";
-
-#[test]
-fn failed_is_printed(rt: HostRuntime) -> Result<(), Fail> {
-    assert!(rt; shows(format!(in rt.alloc(); "{Failed}"), "device failed")?);
-    Ok(())
-}
 
 /// Whether a run over a reader that fails at a call reports that, and nothing of the document.
 fn is_refused_at(alloc: Global, fails_at: usize) -> bool {
@@ -43,11 +37,17 @@ fn readers_that_fail(rt: HostRuntime) {
 }
 
 #[test]
-fn readers_that_end(rt: HostRuntime) {
+fn readers_that_end(rt: HostRuntime) -> Result<(), Fail> {
     let mut reader = Watched::new(Giver::new(NEW, None));
-    assert!(rt; Root::from_reader(rt.alloc(), &mut reader).is_ok());
-    assert!(rt; !reader.failed());
-    assert!(rt; matches!(reader.read(&mut [0]), Ok(0)));
+    holds(
+        Root::from_reader(rt.alloc(), &mut reader).is_ok(),
+        "a document is read",
+    )?;
+    holds(!reader.failed(), "the reader has not failed")?;
+    holds(
+        matches!(reader.read(&mut [0]), Ok(0)),
+        "the reader is at its end",
+    )
 }
 
 /// Whether a run that may write less than is due writes the front that there is room for.
@@ -78,11 +78,14 @@ fn writers_that_are_full(rt: HostRuntime) {
 }
 
 #[test]
-fn writers_that_take_nothing(rt: HostRuntime) {
+fn writers_that_take_nothing(rt: HostRuntime) -> Result<(), Fail> {
     let mut reader = Watched::new(Giver::new(NEW, None));
     let mut writer = Watched::new(Wall);
-    assert!(rt; run(rt.alloc(), &mut reader, &mut writer) == 4);
-    assert!(rt; writer.failed());
+    holds(
+        run(rt.alloc(), &mut reader, &mut writer) == 4,
+        "the run is refused",
+    )?;
+    holds(writer.failed(), "the writer has failed")
 }
 
 /// Running over a document: the lines that are due, and what was written last. It is written into
@@ -137,7 +140,12 @@ fn refused_runs(
 #[test]
 fn growths_that_are_refused(rt: HostRuntime) -> Result<(), Fail> {
     let line = "accessors[0].bufferView: Missing data\n";
-    assert!(rt; refused_runs(rt.alloc(), FAULTY, line, 100)? > 0);
-    assert!(rt; refused_runs(rt.alloc(), SIX, SIX_LINES, 0)? > 0);
-    Ok(())
+    holds(
+        refused_runs(rt.alloc(), FAULTY, line, 100)? > 0,
+        "one report",
+    )?;
+    holds(
+        refused_runs(rt.alloc(), SIX, SIX_LINES, 0)? > 0,
+        "six reports",
+    )
 }

@@ -8,8 +8,10 @@ ghost use Rattle.std.proofs.Common.{lit≤};
 ghost use Rattle.std.specs.Prelude.{false};
 
 use super::{Indices, Sparse, Values};
-use gltf_base::validation::USize64;
+use gltf_base::Index;
+use gltf_base::validation::{Checked, USize64};
 use gltf_schema::{Object, ReadRows, WriteRows};
+use std::alloc::Global;
 
 impl Object for Indices {
     ghost rows = { sparse_indices_rows };
@@ -26,19 +28,28 @@ impl Object for Indices {
 
     ghost height_bounds_kind = { (sparse_indices_height.1, lit≤ tt) };
 
-    fn read_members<R: ReadRows>(from: &mut R) -> Indices {
-        let buffer_view = from.required("bufferView");
-        let byte_offset = from.or_default("byteOffset", USize64(0));
-        let component_type = from.required("componentType");
-        let extensions = from.optional("extensions");
-        let extras = from.optional("extras");
+    #[tactic(auto, unfolding(crate::specs::Accessor::sparse_indices_rows, crate::specs::Accessor::sparse_indices_members))]
+    fn start(_alloc: Global) -> Indices {
         Indices {
-            buffer_view,
-            byte_offset,
-            component_type,
-            extensions,
-            extras,
+            buffer_view: Index::new(0),
+            byte_offset: USize64(0),
+            component_type: Checked::Invalid,
+            extensions: None,
+            extras: None,
         }
+    }
+
+    #[tactic(auto, unfolding(crate::specs::Accessor::sparse_indices_rows))]
+    fn count_required() -> usize {
+        2
+    }
+
+    fn read_rows<R: ReadRows>(&mut self, from: &mut R) {
+        from.required("bufferView", &mut self.buffer_view);
+        from.or_default("byteOffset", &mut self.byte_offset);
+        from.required("componentType", &mut self.component_type);
+        from.optional("extensions", &mut self.extensions);
+        from.optional("extras", &mut self.extras);
     }
 
     fn write_members<W: WriteRows>(&self, to: &mut W) {
@@ -65,17 +76,26 @@ impl Object for Values {
 
     ghost height_bounds_kind = { (sparse_values_height.1, lit≤ tt) };
 
-    fn read_members<R: ReadRows>(from: &mut R) -> Values {
-        let buffer_view = from.required("bufferView");
-        let byte_offset = from.or_default("byteOffset", USize64(0));
-        let extensions = from.optional("extensions");
-        let extras = from.optional("extras");
+    #[tactic(auto, unfolding(crate::specs::Accessor::sparse_values_rows, crate::specs::Accessor::sparse_values_members))]
+    fn start(_alloc: Global) -> Values {
         Values {
-            buffer_view,
-            byte_offset,
-            extensions,
-            extras,
+            buffer_view: Index::new(0),
+            byte_offset: USize64(0),
+            extensions: None,
+            extras: None,
         }
+    }
+
+    #[tactic(auto, unfolding(crate::specs::Accessor::sparse_values_rows))]
+    fn count_required() -> usize {
+        1
+    }
+
+    fn read_rows<R: ReadRows>(&mut self, from: &mut R) {
+        from.required("bufferView", &mut self.buffer_view);
+        from.or_default("byteOffset", &mut self.byte_offset);
+        from.optional("extensions", &mut self.extensions);
+        from.optional("extras", &mut self.extras);
     }
 
     fn write_members<W: WriteRows>(&self, to: &mut W) {
@@ -101,19 +121,28 @@ impl Object for Sparse {
 
     ghost height_bounds_kind = { (sparse_height.1, lit≤ tt) };
 
-    fn read_members<R: ReadRows>(from: &mut R) -> Sparse {
-        let count = from.required("count");
-        let indices = from.required("indices");
-        let values = from.required("values");
-        let extensions = from.optional("extensions");
-        let extras = from.optional("extras");
+    #[tactic(auto, unfolding(crate::specs::Accessor::sparse_rows, crate::specs::Accessor::sparse_members))]
+    fn start(alloc: Global) -> Sparse {
         Sparse {
-            count,
-            indices,
-            values,
-            extensions,
-            extras,
+            count: USize64(0),
+            indices: Indices::start(alloc),
+            values: Values::start(alloc),
+            extensions: None,
+            extras: None,
         }
+    }
+
+    #[tactic(auto, unfolding(crate::specs::Accessor::sparse_rows))]
+    fn count_required() -> usize {
+        3
+    }
+
+    fn read_rows<R: ReadRows>(&mut self, from: &mut R) {
+        from.required("count", &mut self.count);
+        from.required("indices", &mut self.indices);
+        from.required("values", &mut self.values);
+        from.optional("extensions", &mut self.extensions);
+        from.optional("extras", &mut self.extras);
     }
 
     fn write_members<W: WriteRows>(&self, to: &mut W) {

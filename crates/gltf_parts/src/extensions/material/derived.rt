@@ -9,6 +9,8 @@ ghost use Rattle.std.specs.Prelude.{true};
 
 use super::Material;
 use gltf_schema::{Object, ReadRows, WriteRows};
+use serde_json::Map;
+use std::alloc::Global;
 
 impl Object for Material {
     ghost rows = { material_extension_rows };
@@ -25,25 +27,40 @@ impl Object for Material {
 
     ghost height_bounds_kind = { (material_extension_height.1, lit≤ tt) };
 
-    fn read_members<R: ReadRows>(from: &mut R) -> Material {
-        let pbr_specular_glossiness = from.optional("KHR_materials_pbrSpecularGlossiness");
-        let unlit = from.optional("KHR_materials_unlit");
-        let transmission = from.optional("KHR_materials_transmission");
-        let volume = from.optional("KHR_materials_volume");
-        let specular = from.optional("KHR_materials_specular");
-        let ior = from.optional("KHR_materials_ior");
-        let emissive_strength = from.optional("KHR_materials_emissive_strength");
-        let others = from.others();
+    #[tactic(auto, unfolding(crate::specs::MaterialExtension::material_extension_rows, crate::specs::MaterialExtension::material_extension_members))]
+    fn start(alloc: Global) -> Material {
         Material {
-            pbr_specular_glossiness,
-            unlit,
-            transmission,
-            volume,
-            specular,
-            ior,
-            emissive_strength,
-            others,
+            pbr_specular_glossiness: None,
+            unlit: None,
+            transmission: None,
+            volume: None,
+            specular: None,
+            ior: None,
+            emissive_strength: None,
+            others: Map::new(alloc),
         }
+    }
+
+    #[tactic(auto, unfolding(crate::specs::MaterialExtension::material_extension_rows))]
+    fn count_required() -> usize {
+        0
+    }
+
+    fn read_rows<R: ReadRows>(&mut self, from: &mut R) {
+        from.optional(
+            "KHR_materials_pbrSpecularGlossiness",
+            &mut self.pbr_specular_glossiness,
+        );
+        from.optional("KHR_materials_unlit", &mut self.unlit);
+        from.optional("KHR_materials_transmission", &mut self.transmission);
+        from.optional("KHR_materials_volume", &mut self.volume);
+        from.optional("KHR_materials_specular", &mut self.specular);
+        from.optional("KHR_materials_ior", &mut self.ior);
+        from.optional(
+            "KHR_materials_emissive_strength",
+            &mut self.emissive_strength,
+        );
+        from.others(&mut self.others);
     }
 
     fn write_members<W: WriteRows>(&self, to: &mut W) {

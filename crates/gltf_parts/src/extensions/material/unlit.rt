@@ -7,6 +7,7 @@ ghost use Rattle.gltf_schema.specs.Kind.{no_rows};
 ghost use Rattle.gltf_schema.specs.Tree.{end};
 
 use gltf_schema::{Object, ReadRows, WriteRows};
+use std::alloc::Global;
 
 /// A material that isn't affected by light (`KHR_materials_unlit`).
 #[derive(Clone, Debug, Drop)]
@@ -27,9 +28,15 @@ impl Object for Unlit {
 
     ghost height_bounds_kind = { (refl, lit≤ tt) };
 
-    fn read_members<R: ReadRows>(_from: &mut R) -> Unlit {
+    fn start(_alloc: Global) -> Unlit {
         Unlit {}
     }
+
+    fn count_required() -> usize {
+        0
+    }
+
+    fn read_rows<R: ReadRows>(&mut self, _from: &mut R) {}
 
     fn write_members<W: WriteRows>(&self, _to: &mut W) {}
 }

@@ -16,6 +16,8 @@ use super::{
     Info, TextureTransform, TextureTransformOffset, TextureTransformRotation, TextureTransformScale,
 };
 use gltf_schema::{Object, ReadRows, Tabled, WriteRows};
+use serde_json::Map;
+use std::alloc::Global;
 
 impl Object for TextureTransform {
     ghost rows = { texture_transform_rows };
@@ -32,19 +34,28 @@ impl Object for TextureTransform {
 
     ghost height_bounds_kind = { (texture_transform_height.1, lit≤ tt) };
 
-    fn read_members<R: ReadRows>(from: &mut R) -> TextureTransform {
-        let offset = from.sometimes("offset");
-        let rotation = from.sometimes("rotation");
-        let scale = from.sometimes("scale");
-        let tex_coord = from.optional("texCoord");
-        let extras = from.optional("extras");
+    #[tactic(auto, unfolding(crate::specs::Texture::texture_transform_rows, crate::specs::Texture::texture_transform_members))]
+    fn start(_alloc: Global) -> TextureTransform {
         TextureTransform {
-            offset: TextureTransformOffset(offset),
-            rotation: TextureTransformRotation(rotation),
-            scale: TextureTransformScale(scale),
-            tex_coord,
-            extras,
+            offset: TextureTransformOffset(None),
+            rotation: TextureTransformRotation(None),
+            scale: TextureTransformScale(None),
+            tex_coord: None,
+            extras: None,
         }
+    }
+
+    #[tactic(auto, unfolding(crate::specs::Texture::texture_transform_rows))]
+    fn count_required() -> usize {
+        0
+    }
+
+    fn read_rows<R: ReadRows>(&mut self, from: &mut R) {
+        from.sometimes("offset", &mut self.offset.0);
+        from.sometimes("rotation", &mut self.rotation.0);
+        from.sometimes("scale", &mut self.scale.0);
+        from.optional("texCoord", &mut self.tex_coord);
+        from.optional("extras", &mut self.extras);
     }
 
     fn write_members<W: WriteRows>(&self, to: &mut W) {
@@ -71,13 +82,22 @@ impl Object for Info {
 
     ghost height_bounds_kind = { (info_extension_height.1, lit≤ tt) };
 
-    fn read_members<R: ReadRows>(from: &mut R) -> Info {
-        let texture_transform = from.optional("KHR_texture_transform");
-        let others = from.others();
+    #[tactic(auto, unfolding(crate::specs::Texture::info_extension_rows, crate::specs::Texture::info_extension_members))]
+    fn start(alloc: Global) -> Info {
         Info {
-            texture_transform,
-            others,
+            texture_transform: None,
+            others: Map::new(alloc),
         }
+    }
+
+    #[tactic(auto, unfolding(crate::specs::Texture::info_extension_rows))]
+    fn count_required() -> usize {
+        0
+    }
+
+    fn read_rows<R: ReadRows>(&mut self, from: &mut R) {
+        from.optional("KHR_texture_transform", &mut self.texture_transform);
+        from.others(&mut self.others);
     }
 
     fn write_members<W: WriteRows>(&self, to: &mut W) {

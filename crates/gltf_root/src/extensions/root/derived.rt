@@ -10,6 +10,8 @@ ghost use Rattle.std.specs.Prelude.{false, true};
 
 use super::{KhrLightsPunctual, KhrMaterialsVariants, Root};
 use gltf_schema::{Object, ReadRows, WriteRows};
+use serde_json::Map;
+use std::alloc::Global;
 
 impl Object for KhrLightsPunctual {
     ghost rows = { lights_rows };
@@ -26,9 +28,20 @@ impl Object for KhrLightsPunctual {
 
     ghost height_bounds_kind = { (lights_height.1, lit≤ tt) };
 
-    fn read_members<R: ReadRows>(from: &mut R) -> KhrLightsPunctual {
-        let lights = from.required("lights");
-        KhrLightsPunctual { lights }
+    #[tactic(auto, unfolding(crate::specs::RootExtension::lights_rows, crate::specs::RootExtension::lights_members))]
+    fn start(alloc: Global) -> KhrLightsPunctual {
+        KhrLightsPunctual {
+            lights: Vec::new(alloc),
+        }
+    }
+
+    #[tactic(auto, unfolding(crate::specs::RootExtension::lights_rows))]
+    fn count_required() -> usize {
+        1
+    }
+
+    fn read_rows<R: ReadRows>(&mut self, from: &mut R) {
+        from.required("lights", &mut self.lights);
     }
 
     fn write_members<W: WriteRows>(&self, to: &mut W) {
@@ -51,9 +64,20 @@ impl Object for KhrMaterialsVariants {
 
     ghost height_bounds_kind = { (variants_height.1, lit≤ tt) };
 
-    fn read_members<R: ReadRows>(from: &mut R) -> KhrMaterialsVariants {
-        let variants = from.required("variants");
-        KhrMaterialsVariants { variants }
+    #[tactic(auto, unfolding(crate::specs::RootExtension::variants_rows, crate::specs::RootExtension::variants_members))]
+    fn start(alloc: Global) -> KhrMaterialsVariants {
+        KhrMaterialsVariants {
+            variants: Vec::new(alloc),
+        }
+    }
+
+    #[tactic(auto, unfolding(crate::specs::RootExtension::variants_rows))]
+    fn count_required() -> usize {
+        1
+    }
+
+    fn read_rows<R: ReadRows>(&mut self, from: &mut R) {
+        from.required("variants", &mut self.variants);
     }
 
     fn write_members<W: WriteRows>(&self, to: &mut W) {
@@ -76,15 +100,24 @@ impl Object for Root {
 
     ghost height_bounds_kind = { (root_extension_height.1, lit≤ tt) };
 
-    fn read_members<R: ReadRows>(from: &mut R) -> Root {
-        let khr_lights_punctual = from.optional("KHR_lights_punctual");
-        let khr_materials_variants = from.optional("KHR_materials_variants");
-        let others = from.others();
+    #[tactic(auto, unfolding(crate::specs::RootExtension::root_extension_rows, crate::specs::RootExtension::root_extension_members))]
+    fn start(alloc: Global) -> Root {
         Root {
-            khr_lights_punctual,
-            khr_materials_variants,
-            others,
+            khr_lights_punctual: None,
+            khr_materials_variants: None,
+            others: Map::new(alloc),
         }
+    }
+
+    #[tactic(auto, unfolding(crate::specs::RootExtension::root_extension_rows))]
+    fn count_required() -> usize {
+        0
+    }
+
+    fn read_rows<R: ReadRows>(&mut self, from: &mut R) {
+        from.optional("KHR_lights_punctual", &mut self.khr_lights_punctual);
+        from.optional("KHR_materials_variants", &mut self.khr_materials_variants);
+        from.others(&mut self.others);
     }
 
     fn write_members<W: WriteRows>(&self, to: &mut W) {

@@ -10,6 +10,8 @@ ghost use Rattle.std.specs.Prelude.{false, true};
 
 use super::{KhrMaterialsVariants, Mapping, Primitive};
 use gltf_schema::{Object, ReadRows, WriteRows};
+use serde_json::Map;
+use std::alloc::Global;
 
 impl Object for Mapping {
     ghost rows = { variant_mapping_rows };
@@ -26,10 +28,22 @@ impl Object for Mapping {
 
     ghost height_bounds_kind = { (variant_mapping_height.1, lit≤ tt) };
 
-    fn read_members<R: ReadRows>(from: &mut R) -> Mapping {
-        let material = from.required("material");
-        let variants = from.required("variants");
-        Mapping { material, variants }
+    #[tactic(auto, unfolding(crate::specs::Mesh::variant_mapping_rows, crate::specs::Mesh::variant_mapping_members))]
+    fn start(alloc: Global) -> Mapping {
+        Mapping {
+            material: 0,
+            variants: Vec::new(alloc),
+        }
+    }
+
+    #[tactic(auto, unfolding(crate::specs::Mesh::variant_mapping_rows))]
+    fn count_required() -> usize {
+        2
+    }
+
+    fn read_rows<R: ReadRows>(&mut self, from: &mut R) {
+        from.required("material", &mut self.material);
+        from.required("variants", &mut self.variants);
     }
 
     fn write_members<W: WriteRows>(&self, to: &mut W) {
@@ -53,9 +67,20 @@ impl Object for KhrMaterialsVariants {
 
     ghost height_bounds_kind = { (variant_mappings_height.1, lit≤ tt) };
 
-    fn read_members<R: ReadRows>(from: &mut R) -> KhrMaterialsVariants {
-        let mappings = from.required("mappings");
-        KhrMaterialsVariants { mappings }
+    #[tactic(auto, unfolding(crate::specs::Mesh::variant_mappings_rows, crate::specs::Mesh::variant_mappings_members))]
+    fn start(alloc: Global) -> KhrMaterialsVariants {
+        KhrMaterialsVariants {
+            mappings: Vec::new(alloc),
+        }
+    }
+
+    #[tactic(auto, unfolding(crate::specs::Mesh::variant_mappings_rows))]
+    fn count_required() -> usize {
+        1
+    }
+
+    fn read_rows<R: ReadRows>(&mut self, from: &mut R) {
+        from.required("mappings", &mut self.mappings);
     }
 
     fn write_members<W: WriteRows>(&self, to: &mut W) {
@@ -78,13 +103,22 @@ impl Object for Primitive {
 
     ghost height_bounds_kind = { (primitive_extension_height.1, lit≤ tt) };
 
-    fn read_members<R: ReadRows>(from: &mut R) -> Primitive {
-        let khr_materials_variants = from.optional("KHR_materials_variants");
-        let others = from.others();
+    #[tactic(auto, unfolding(crate::specs::Mesh::primitive_extension_rows, crate::specs::Mesh::primitive_extension_members))]
+    fn start(alloc: Global) -> Primitive {
         Primitive {
-            khr_materials_variants,
-            others,
+            khr_materials_variants: None,
+            others: Map::new(alloc),
         }
+    }
+
+    #[tactic(auto, unfolding(crate::specs::Mesh::primitive_extension_rows))]
+    fn count_required() -> usize {
+        0
+    }
+
+    fn read_rows<R: ReadRows>(&mut self, from: &mut R) {
+        from.optional("KHR_materials_variants", &mut self.khr_materials_variants);
+        from.others(&mut self.others);
     }
 
     fn write_members<W: WriteRows>(&self, to: &mut W) {

@@ -9,6 +9,8 @@ ghost use Rattle.std.specs.Prelude.{true};
 
 use super::Node;
 use gltf_schema::{Object, ReadRows, WriteRows};
+use serde_json::Map;
+use std::alloc::Global;
 
 impl Object for Node {
     ghost rows = { node_extension_rows };
@@ -25,13 +27,22 @@ impl Object for Node {
 
     ghost height_bounds_kind = { (node_extension_height.1, lit≤ tt) };
 
-    fn read_members<R: ReadRows>(from: &mut R) -> Node {
-        let khr_lights_punctual = from.optional("KHR_lights_punctual");
-        let others = from.others();
+    #[tactic(auto, unfolding(crate::specs::Scene::node_extension_rows, crate::specs::Scene::node_extension_members))]
+    fn start(alloc: Global) -> Node {
         Node {
-            khr_lights_punctual,
-            others,
+            khr_lights_punctual: None,
+            others: Map::new(alloc),
         }
+    }
+
+    #[tactic(auto, unfolding(crate::specs::Scene::node_extension_rows))]
+    fn count_required() -> usize {
+        0
+    }
+
+    fn read_rows<R: ReadRows>(&mut self, from: &mut R) {
+        from.optional("KHR_lights_punctual", &mut self.khr_lights_punctual);
+        from.others(&mut self.others);
     }
 
     fn write_members<W: WriteRows>(&self, to: &mut W) {

@@ -11,8 +11,8 @@ returns-in_err-_left-clause-by_table g c =
     let exit = err_from_is_err_and c.from_residual.result c.from_residual.ensures.1 in
     let view = members_or_place g.S.Source.members in
     rw (exit.1, exit.2)
-    (object_refused (place_of c.in_err-_left.field-0.0) t.rule t.rows t.keeps (t.members c.read_members-object.result) (t.unknown c.read_members-object.result) (g.S.Source.members c.args.found) _
-    g.met.T.Object.kind_is_sound c.read_members-object.ensures (ap view c.in_err-_left.was))
+    (object_refused (place_of c.in_err-_left.field-0.0) t.rule t.rows t.keeps (g.S.Source.members c.args.found) _
+    g.met.T.Object.kind_is_sound c.start-object.ensures.rows c.read_rows.ensures (ap view c.in_err-_left.was))
 
 pub returns-in_err-_left-clause-inside : goal.returns-in_err-_left-clause-inside
 returns-in_err-_left-clause-inside g c =
@@ -20,12 +20,12 @@ returns-in_err-_left-clause-inside g c =
     let exit = err_from_is_err_and c.from_residual.result c.from_residual.ensures.1 in
     let view = members_or_place g.S.Source.members in
     rw (exit.1, exit.2)
-    (object_refused_inside (place_of c.in_err-_left.field-0.0) t.rule t.rows t.keeps (t.members c.read_members-object.result) (t.unknown c.read_members-object.result) (g.S.Source.members c.args.found) _
-    g.met.T.Object.kind_is_sound c.read_members-object.ensures (ap view c.in_err-_left.was))
+    (object_refused_inside (place_of c.in_err-_left.field-0.0) t.rule t.rows t.keeps (g.S.Source.members c.args.found) _
+    g.met.T.Object.kind_is_sound c.start-object.ensures.rows c.read_rows.ensures (ap view c.in_err-_left.was))
 
 pub returns-clause-by_table : goal.returns-clause-by_table
 returns-clause-by_table g c =
     let t = g.T.Object in
     let view = members_or_place g.S.Source.members in
-    object_read t.members t.unknown c.read_members-object.result t.rule t.rows t.keeps (g.S.Source.members c.args.found) _ _
-    g.met.T.Object.kind_is_sound c.read_members-object.ensures (ap view c.in_ok-_left.was)
+    object_read t.members t.unknown c.read_rows.new.self t.rule t.rows t.keeps (g.S.Source.members c.args.found) _ _
+    g.met.T.Object.kind_is_sound c.start-object.ensures.rows c.read_rows.ensures (ap view c.in_ok-_left.was)

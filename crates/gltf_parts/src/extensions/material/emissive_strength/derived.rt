@@ -13,6 +13,7 @@ ghost use Rattle.std.specs.Prelude.{false, ◌≡◌};
 
 use super::{EmissiveStrength, EmissiveStrengthFactor};
 use gltf_schema::{Object, ReadRows, Tabled, WriteRows};
+use std::alloc::Global;
 
 impl Object for EmissiveStrength {
     ghost rows = { emissive_strength_rows };
@@ -29,11 +30,20 @@ impl Object for EmissiveStrength {
 
     ghost height_bounds_kind = { (emissive_strength_height.1, lit≤ tt) };
 
-    fn read_members<R: ReadRows>(from: &mut R) -> EmissiveStrength {
-        let emissive_strength = from.sometimes("emissiveStrength");
+    #[tactic(auto, unfolding(crate::specs::MaterialExtension::emissive_strength_rows, crate::specs::MaterialExtension::emissive_strength_members))]
+    fn start(_alloc: Global) -> EmissiveStrength {
         EmissiveStrength {
-            emissive_strength: EmissiveStrengthFactor(emissive_strength),
+            emissive_strength: EmissiveStrengthFactor(None),
         }
+    }
+
+    #[tactic(auto, unfolding(crate::specs::MaterialExtension::emissive_strength_rows))]
+    fn count_required() -> usize {
+        0
+    }
+
+    fn read_rows<R: ReadRows>(&mut self, from: &mut R) {
+        from.sometimes("emissiveStrength", &mut self.emissive_strength.0);
     }
 
     fn write_members<W: WriteRows>(&self, to: &mut W) {

@@ -13,6 +13,7 @@ ghost use Rattle.std.specs.Prelude.{false, ◌≡◌};
 
 use super::{IndexOfRefraction, Ior};
 use gltf_schema::{Object, ReadRows, Tabled, WriteRows};
+use std::alloc::Global;
 
 impl Object for Ior {
     ghost rows = { ior_rows };
@@ -29,13 +30,22 @@ impl Object for Ior {
 
     ghost height_bounds_kind = { (ior_height.1, lit≤ tt) };
 
-    fn read_members<R: ReadRows>(from: &mut R) -> Ior {
-        let ior = from.sometimes("ior");
-        let extras = from.optional("extras");
+    #[tactic(auto, unfolding(crate::specs::MaterialExtension::ior_rows, crate::specs::MaterialExtension::ior_members))]
+    fn start(_alloc: Global) -> Ior {
         Ior {
-            ior: IndexOfRefraction(ior),
-            extras,
+            ior: IndexOfRefraction(None),
+            extras: None,
         }
+    }
+
+    #[tactic(auto, unfolding(crate::specs::MaterialExtension::ior_rows))]
+    fn count_required() -> usize {
+        0
+    }
+
+    fn read_rows<R: ReadRows>(&mut self, from: &mut R) {
+        from.sometimes("ior", &mut self.ior.0);
+        from.optional("extras", &mut self.extras);
     }
 
     fn write_members<W: WriteRows>(&self, to: &mut W) {

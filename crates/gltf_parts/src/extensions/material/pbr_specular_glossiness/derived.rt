@@ -15,6 +15,8 @@ ghost use Rattle.std.specs.Prelude.{true, ◌≡◌};
 use super::{PbrDiffuseFactor, PbrSpecularFactor, PbrSpecularGlossiness};
 use crate::material::StrengthFactor;
 use gltf_schema::{Object, ReadRows, Tabled, WriteRows};
+use serde_json::Map;
+use std::alloc::Global;
 
 impl Object for PbrSpecularGlossiness {
     ghost rows = { pbr_specular_glossiness_rows };
@@ -31,23 +33,35 @@ impl Object for PbrSpecularGlossiness {
 
     ghost height_bounds_kind = { (pbr_specular_glossiness_height.1, lit≤ tt) };
 
-    fn read_members<R: ReadRows>(from: &mut R) -> PbrSpecularGlossiness {
-        let diffuse_factor = from.sometimes("diffuseFactor");
-        let diffuse_texture = from.optional("diffuseTexture");
-        let specular_factor = from.sometimes("specularFactor");
-        let glossiness_factor = from.sometimes("glossinessFactor");
-        let specular_glossiness_texture = from.optional("specularGlossinessTexture");
-        let extras = from.optional("extras");
-        let others = from.others();
+    #[tactic(auto, unfolding(crate::specs::MaterialExtension::pbr_specular_glossiness_rows, crate::specs::MaterialExtension::pbr_specular_glossiness_members))]
+    fn start(alloc: Global) -> PbrSpecularGlossiness {
         PbrSpecularGlossiness {
-            diffuse_factor: PbrDiffuseFactor(diffuse_factor),
-            diffuse_texture,
-            specular_factor: PbrSpecularFactor(specular_factor),
-            glossiness_factor: StrengthFactor(glossiness_factor),
-            specular_glossiness_texture,
-            extras,
-            others,
+            diffuse_factor: PbrDiffuseFactor(None),
+            diffuse_texture: None,
+            specular_factor: PbrSpecularFactor(None),
+            glossiness_factor: StrengthFactor(None),
+            specular_glossiness_texture: None,
+            extras: None,
+            others: Map::new(alloc),
         }
+    }
+
+    #[tactic(auto, unfolding(crate::specs::MaterialExtension::pbr_specular_glossiness_rows))]
+    fn count_required() -> usize {
+        0
+    }
+
+    fn read_rows<R: ReadRows>(&mut self, from: &mut R) {
+        from.sometimes("diffuseFactor", &mut self.diffuse_factor.0);
+        from.optional("diffuseTexture", &mut self.diffuse_texture);
+        from.sometimes("specularFactor", &mut self.specular_factor.0);
+        from.sometimes("glossinessFactor", &mut self.glossiness_factor.0);
+        from.optional(
+            "specularGlossinessTexture",
+            &mut self.specular_glossiness_texture,
+        );
+        from.optional("extras", &mut self.extras);
+        from.others(&mut self.others);
     }
 
     fn write_members<W: WriteRows>(&self, to: &mut W) {

@@ -13,6 +13,7 @@ ghost use Rattle.std.specs.Prelude.{false, ◌≡◌};
 
 use super::{Specular, SpecularColorFactor, SpecularFactor};
 use gltf_schema::{Object, ReadRows, Tabled, WriteRows};
+use std::alloc::Global;
 
 impl Object for Specular {
     ghost rows = { specular_rows };
@@ -29,19 +30,28 @@ impl Object for Specular {
 
     ghost height_bounds_kind = { (specular_height.1, lit≤ tt) };
 
-    fn read_members<R: ReadRows>(from: &mut R) -> Specular {
-        let specular_factor = from.sometimes("specularFactor");
-        let specular_texture = from.optional("specularTexture");
-        let specular_color_factor = from.sometimes("specularColorFactor");
-        let specular_color_texture = from.optional("specularColorTexture");
-        let extras = from.optional("extras");
+    #[tactic(auto, unfolding(crate::specs::MaterialExtension::specular_rows, crate::specs::MaterialExtension::specular_members))]
+    fn start(_alloc: Global) -> Specular {
         Specular {
-            specular_factor: SpecularFactor(specular_factor),
-            specular_texture,
-            specular_color_factor: SpecularColorFactor(specular_color_factor),
-            specular_color_texture,
-            extras,
+            specular_factor: SpecularFactor(None),
+            specular_texture: None,
+            specular_color_factor: SpecularColorFactor(None),
+            specular_color_texture: None,
+            extras: None,
         }
+    }
+
+    #[tactic(auto, unfolding(crate::specs::MaterialExtension::specular_rows))]
+    fn count_required() -> usize {
+        0
+    }
+
+    fn read_rows<R: ReadRows>(&mut self, from: &mut R) {
+        from.sometimes("specularFactor", &mut self.specular_factor.0);
+        from.optional("specularTexture", &mut self.specular_texture);
+        from.sometimes("specularColorFactor", &mut self.specular_color_factor.0);
+        from.optional("specularColorTexture", &mut self.specular_color_texture);
+        from.optional("extras", &mut self.extras);
     }
 
     fn write_members<W: WriteRows>(&self, to: &mut W) {

@@ -13,6 +13,7 @@ ghost use Rattle.std.specs.Prelude.{false, ◌≡◌};
 
 use super::{Transmission, TransmissionFactor};
 use gltf_schema::{Object, ReadRows, Tabled, WriteRows};
+use std::alloc::Global;
 
 impl Object for Transmission {
     ghost rows = { transmission_rows };
@@ -29,15 +30,24 @@ impl Object for Transmission {
 
     ghost height_bounds_kind = { (transmission_height.1, lit≤ tt) };
 
-    fn read_members<R: ReadRows>(from: &mut R) -> Transmission {
-        let transmission_factor = from.sometimes("transmissionFactor");
-        let transmission_texture = from.optional("transmissionTexture");
-        let extras = from.optional("extras");
+    #[tactic(auto, unfolding(crate::specs::MaterialExtension::transmission_rows, crate::specs::MaterialExtension::transmission_members))]
+    fn start(_alloc: Global) -> Transmission {
         Transmission {
-            transmission_factor: TransmissionFactor(transmission_factor),
-            transmission_texture,
-            extras,
+            transmission_factor: TransmissionFactor(None),
+            transmission_texture: None,
+            extras: None,
         }
+    }
+
+    #[tactic(auto, unfolding(crate::specs::MaterialExtension::transmission_rows))]
+    fn count_required() -> usize {
+        0
+    }
+
+    fn read_rows<R: ReadRows>(&mut self, from: &mut R) {
+        from.sometimes("transmissionFactor", &mut self.transmission_factor.0);
+        from.optional("transmissionTexture", &mut self.transmission_texture);
+        from.optional("extras", &mut self.extras);
     }
 
     fn write_members<W: WriteRows>(&self, to: &mut W) {

@@ -13,6 +13,7 @@ ghost use Rattle.std.specs.Prelude.{false, ◌≡◌};
 
 use super::{AttenuationColor, AttenuationDistance, ThicknessFactor, Volume};
 use gltf_schema::{Object, ReadRows, Tabled, WriteRows};
+use std::alloc::Global;
 
 impl Object for Volume {
     ghost rows = { volume_rows };
@@ -29,19 +30,28 @@ impl Object for Volume {
 
     ghost height_bounds_kind = { (volume_height.1, lit≤ tt) };
 
-    fn read_members<R: ReadRows>(from: &mut R) -> Volume {
-        let thickness_factor = from.sometimes("thicknessFactor");
-        let thickness_texture = from.optional("thicknessTexture");
-        let attenuation_distance = from.sometimes("attenuationDistance");
-        let attenuation_color = from.sometimes("attenuationColor");
-        let extras = from.optional("extras");
+    #[tactic(auto, unfolding(crate::specs::MaterialExtension::volume_rows, crate::specs::MaterialExtension::volume_members))]
+    fn start(_alloc: Global) -> Volume {
         Volume {
-            thickness_factor: ThicknessFactor(thickness_factor),
-            thickness_texture,
-            attenuation_distance: AttenuationDistance(attenuation_distance),
-            attenuation_color: AttenuationColor(attenuation_color),
-            extras,
+            thickness_factor: ThicknessFactor(None),
+            thickness_texture: None,
+            attenuation_distance: AttenuationDistance(None),
+            attenuation_color: AttenuationColor(None),
+            extras: None,
         }
+    }
+
+    #[tactic(auto, unfolding(crate::specs::MaterialExtension::volume_rows))]
+    fn count_required() -> usize {
+        0
+    }
+
+    fn read_rows<R: ReadRows>(&mut self, from: &mut R) {
+        from.sometimes("thicknessFactor", &mut self.thickness_factor.0);
+        from.optional("thicknessTexture", &mut self.thickness_texture);
+        from.sometimes("attenuationDistance", &mut self.attenuation_distance.0);
+        from.sometimes("attenuationColor", &mut self.attenuation_color.0);
+        from.optional("extras", &mut self.extras);
     }
 
     fn write_members<W: WriteRows>(&self, to: &mut W) {

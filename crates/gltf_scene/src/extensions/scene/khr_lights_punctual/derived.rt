@@ -10,7 +10,10 @@ ghost use Rattle.std.proofs.Common.{lit≤};
 ghost use Rattle.std.specs.Prelude.{false, ◌≡◌};
 
 use super::{KhrLightsPunctual, Light, Spot};
+use gltf_base::Index;
+use gltf_base::validation::Checked;
 use gltf_schema::{Object, ReadRows, WriteRows};
+use std::alloc::Global;
 
 impl Object for KhrLightsPunctual {
     ghost rows = { light_of_node_rows };
@@ -27,9 +30,20 @@ impl Object for KhrLightsPunctual {
 
     ghost height_bounds_kind = { (light_of_node_height.1, lit≤ tt) };
 
-    fn read_members<R: ReadRows>(from: &mut R) -> KhrLightsPunctual {
-        let light = from.required("light");
-        KhrLightsPunctual { light }
+    #[tactic(auto, unfolding(crate::specs::Light::light_of_node_rows, crate::specs::Light::light_of_node_members))]
+    fn start(_alloc: Global) -> KhrLightsPunctual {
+        KhrLightsPunctual {
+            light: Index::new(0),
+        }
+    }
+
+    #[tactic(auto, unfolding(crate::specs::Light::light_of_node_rows))]
+    fn count_required() -> usize {
+        1
+    }
+
+    fn read_rows<R: ReadRows>(&mut self, from: &mut R) {
+        from.required("light", &mut self.light);
     }
 
     fn write_members<W: WriteRows>(&self, to: &mut W) {
@@ -52,13 +66,22 @@ impl Object for Spot {
 
     ghost height_bounds_kind = { (spot_height.1, lit≤ tt) };
 
-    fn read_members<R: ReadRows>(from: &mut R) -> Spot {
-        let inner_cone_angle = from.sometimes("innerConeAngle");
-        let outer_cone_angle = from.sometimes("outerConeAngle");
+    #[tactic(auto, unfolding(crate::specs::Light::spot_rows, crate::specs::Light::spot_members))]
+    fn start(_alloc: Global) -> Spot {
         Spot {
-            inner_cone_angle,
-            outer_cone_angle,
+            inner_cone_angle: None,
+            outer_cone_angle: None,
         }
+    }
+
+    #[tactic(auto, unfolding(crate::specs::Light::spot_rows))]
+    fn count_required() -> usize {
+        0
+    }
+
+    fn read_rows<R: ReadRows>(&mut self, from: &mut R) {
+        from.sometimes("innerConeAngle", &mut self.inner_cone_angle);
+        from.sometimes("outerConeAngle", &mut self.outer_cone_angle);
     }
 
     fn write_members<W: WriteRows>(&self, to: &mut W) {
@@ -106,25 +129,34 @@ impl Object for Light {
 
     ghost height_bounds_kind = { (light_height.1, lit≤ tt) };
 
-    fn read_members<R: ReadRows>(from: &mut R) -> Light {
-        let color = from.sometimes("color");
-        let extensions = from.optional("extensions");
-        let extras = from.optional("extras");
-        let intensity = from.sometimes("intensity");
-        let name = from.optional("name");
-        let range = from.optional("range");
-        let spot = from.optional("spot");
-        let type_ = from.required("type");
+    #[tactic(auto, unfolding(crate::specs::Light::light_rows, crate::specs::Light::light_members))]
+    fn start(_alloc: Global) -> Light {
         Light {
-            color,
-            extensions,
-            extras,
-            intensity,
-            name,
-            range,
-            spot,
-            type_,
+            color: None,
+            extensions: None,
+            extras: None,
+            intensity: None,
+            name: None,
+            range: None,
+            spot: None,
+            type_: Checked::Invalid,
         }
+    }
+
+    #[tactic(auto, unfolding(crate::specs::Light::light_rows))]
+    fn count_required() -> usize {
+        1
+    }
+
+    fn read_rows<R: ReadRows>(&mut self, from: &mut R) {
+        from.sometimes("color", &mut self.color);
+        from.optional("extensions", &mut self.extensions);
+        from.optional("extras", &mut self.extras);
+        from.sometimes("intensity", &mut self.intensity);
+        from.optional("name", &mut self.name);
+        from.optional("range", &mut self.range);
+        from.optional("spot", &mut self.spot);
+        from.required("type", &mut self.type_);
     }
 
     fn write_members<W: WriteRows>(&self, to: &mut W) {

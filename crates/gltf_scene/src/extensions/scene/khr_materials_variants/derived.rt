@@ -9,6 +9,7 @@ ghost use Rattle.std.specs.Prelude.{false};
 
 use super::Variant;
 use gltf_schema::{Object, ReadRows, WriteRows};
+use std::alloc::Global;
 
 impl Object for Variant {
     ghost rows = { variant_rows };
@@ -25,9 +26,20 @@ impl Object for Variant {
 
     ghost height_bounds_kind = { (variant_height.1, lit≤ tt) };
 
-    fn read_members<R: ReadRows>(from: &mut R) -> Variant {
-        let name = from.required("name");
-        Variant { name }
+    #[tactic(auto, unfolding(crate::specs::Light::variant_rows, crate::specs::Light::variant_members))]
+    fn start(alloc: Global) -> Variant {
+        Variant {
+            name: String::new(alloc),
+        }
+    }
+
+    #[tactic(auto, unfolding(crate::specs::Light::variant_rows))]
+    fn count_required() -> usize {
+        1
+    }
+
+    fn read_rows<R: ReadRows>(&mut self, from: &mut R) {
+        from.required("name", &mut self.name);
     }
 
     fn write_members<W: WriteRows>(&self, to: &mut W) {

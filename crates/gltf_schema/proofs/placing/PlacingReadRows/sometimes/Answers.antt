@@ -1,9 +1,9 @@
-use Rattle.std.proofs.Common.{refl}
-use Rattle.gltf_schema.proofs.OneRowPlaced.{value_found, member_taken}
+use Rattle.std.proofs.Common.{Some, refl, sym, ap}
+use Rattle.gltf_schema.proofs.OneRowPlaced.{value_read, member_taken}
 use Rattle.gltf_schema.proofs.placing.PlacingReadRows.sometimes.Goals as goal
 
-pub returns-in_err-value : goal.returns-in_err-value
-returns-in_err-value g c = rw c.from_residual.ensures (member_taken c.in_err-value.ensures refl)
+pub returns-in-Some : goal.returns-in-Some
+returns-in-Some g c = value_read c.in-Some.ensures c.decode_some.ensures refl
 
-pub returns : goal.returns
-returns g c = value_found c.decode.result c.in_ok-value.ensures c.decode.ensures refl
+pub returns-in_default : goal.returns-in_default
+returns-in_default g c = member_taken c.in_default.ensures (λ start. ap Some (sym start))

@@ -5,8 +5,8 @@ use Rattle.gltf_schema.proofs.schema.Object.decode_members.Goals as goal
 
 pub returns-in-Err : goal.returns-in-Err
 returns-in-Err g c =
-    object_refused c.from_members-reading.ensures c.read_members-object.ensures (sym c.in-Err.is ∙ c.end.ensures)
+    object_refused c.from_members-reading.ensures c.start-object.ensures.rows c.read_rows.ensures (sym c.in-Err.is ∙ c.end.ensures)
 
 pub returns-in-Ok : goal.returns-in-Ok
 returns-in-Ok g c =
-    object_read c.from_members-reading.ensures c.read_members-object.ensures (sym c.in-Ok.is ∙ c.end.ensures)
+    object_read c.from_members-reading.ensures c.start-object.ensures.rows c.read_rows.ensures (sym c.in-Ok.is ∙ c.end.ensures)

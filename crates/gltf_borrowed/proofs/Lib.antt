@@ -1,7 +1,0 @@
-pub mod Levels
-mod Turns
-mod Ordered
-mod NamedEntries
-mod Parted
-mod Named
-pub mod RowsApart

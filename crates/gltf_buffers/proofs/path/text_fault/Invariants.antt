@@ -1,0 +1,6 @@
+use Rattle.std.proofs.Common.{ℕ, ◌<◌}
+use Rattle.gltf_buffers.specs.Paths.{IsPathByte}
+use Rattle.gltf_buffers.proofs.path.text_fault.Given as goal
+
+abbrev pub invariant-loop-i : goal.invariant-loop-i
+invariant-loop-i l = (k : ℕ) → k < l.i → IsPathByte l.uri k

@@ -1,0 +1,6 @@
+pub mod Data
+pub mod Paths
+pub mod Sources
+pub mod Buffered
+pub mod Faults
+pub mod Files

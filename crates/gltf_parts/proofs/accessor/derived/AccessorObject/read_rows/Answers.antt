@@ -1,0 +1,23 @@
+-- Written by tools/derive.py from crates/gltf_parts/src/accessor.rt and
+-- crates/gltf_parts/specs/Accessor.antt. Do not edit.
+-- Each row is read in the table's order.
+use Rattle.gltf_schema.proofs.RowByRow.{all_read, read_none, read_row}
+use Rattle.gltf_parts.specs.Accessor.{accessor_rows, accessor_members}
+use Rattle.gltf_parts.proofs.accessor.derived.AccessorObject.read_rows.Goals as goal
+
+pub returns : goal.returns
+unfolding accessor_rows accessor_members
+returns g c =
+    all_read
+    (read_row c.optional.ensures.left_out
+    (read_row c.optional-2.ensures.left_out
+    (read_row c.required.ensures
+    (read_row c.required-2.ensures
+    (read_row c.required-3.ensures
+    (read_row c.optional-3.ensures.left_out
+    (read_row c.optional-4.ensures.left_out
+    (read_row c.optional-5.ensures.left_out
+    (read_row (c.or_default.ensures.unless _)
+    (read_row c.optional-6.ensures.left_out
+    (read_row c.optional-7.ensures.left_out
+    (read_row c.optional-8.ensures.left_out read_none))))))))))))

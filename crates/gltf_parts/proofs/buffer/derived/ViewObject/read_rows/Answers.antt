@@ -1,0 +1,19 @@
+-- Written by tools/derive.py from crates/gltf_parts/src/buffer.rt and
+-- crates/gltf_parts/specs/Buffer.antt. Do not edit.
+-- Each row is read in the table's order.
+use Rattle.gltf_schema.proofs.RowByRow.{all_read, read_none, read_row}
+use Rattle.gltf_parts.specs.Buffer.{view_rows, view_members}
+use Rattle.gltf_parts.proofs.buffer.derived.ViewObject.read_rows.Goals as goal
+
+pub returns : goal.returns
+unfolding view_rows view_members
+returns g c =
+    all_read
+    (read_row c.required.ensures
+    (read_row c.required-2.ensures
+    (read_row c.optional.ensures.left_out
+    (read_row c.optional-2.ensures.left_out
+    (read_row c.optional-3.ensures.left_out
+    (read_row c.optional-4.ensures.left_out
+    (read_row c.optional-5.ensures.left_out
+    (read_row c.optional-6.ensures.left_out read_none))))))))

@@ -1,0 +1,16 @@
+-- Written by tools/derive.py from crates/gltf_parts/src/material.rt and
+-- crates/gltf_parts/specs/Material.antt. Do not edit.
+-- Each row is read in the table's order.
+use Rattle.gltf_schema.proofs.RowByRow.{all_read, read_none, read_row}
+use Rattle.gltf_parts.specs.Material.{normal_texture_rows, normal_texture_members}
+use Rattle.gltf_parts.proofs.material.derived.NormalTextureObject.read_rows.Goals as goal
+
+pub returns : goal.returns
+unfolding normal_texture_rows normal_texture_members
+returns g c =
+    all_read
+    (read_row c.required.ensures
+    (read_row c.sometimes.ensures
+    (read_row (c.or_default.ensures.always _)
+    (read_row c.optional.ensures.left_out
+    (read_row c.optional-2.ensures.left_out read_none)))))

@@ -1,0 +1,18 @@
+-- Written by tools/derive.py from crates/gltf_parts/src/material.rt and
+-- crates/gltf_parts/specs/Material.antt. Do not edit.
+-- Each row is read in the table's order.
+use Rattle.gltf_schema.proofs.RowByRow.{all_read, read_none, read_row}
+use Rattle.gltf_parts.specs.Material.{pbr_metallic_roughness_rows, pbr_metallic_roughness_members}
+use Rattle.gltf_parts.proofs.material.derived.PbrMetallicRoughnessObject.read_rows.Goals as goal
+
+pub returns : goal.returns
+unfolding pbr_metallic_roughness_rows pbr_metallic_roughness_members
+returns g c =
+    all_read
+    (read_row c.sometimes.ensures
+    (read_row c.optional.ensures.left_out
+    (read_row c.sometimes-2.ensures
+    (read_row c.sometimes-3.ensures
+    (read_row c.optional-2.ensures.left_out
+    (read_row c.optional-3.ensures.left_out
+    (read_row c.optional-4.ensures.left_out read_none)))))))

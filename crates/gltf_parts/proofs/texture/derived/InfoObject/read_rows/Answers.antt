@@ -1,0 +1,15 @@
+-- Written by tools/derive.py from crates/gltf_parts/src/texture.rt and
+-- crates/gltf_parts/specs/Texture.antt. Do not edit.
+-- Each row is read in the table's order.
+use Rattle.gltf_schema.proofs.RowByRow.{all_read, read_none, read_row}
+use Rattle.gltf_parts.specs.Texture.{info_rows, info_members}
+use Rattle.gltf_parts.proofs.texture.derived.InfoObject.read_rows.Goals as goal
+
+pub returns : goal.returns
+unfolding info_rows info_members
+returns g c =
+    all_read
+    (read_row c.required.ensures
+    (read_row (c.or_default.ensures.always _)
+    (read_row c.optional.ensures.left_out
+    (read_row c.optional-2.ensures.left_out read_none))))

@@ -1,0 +1,18 @@
+-- Written by tools/derive.py from crates/gltf_parts/src/texture.rt and
+-- crates/gltf_parts/specs/Texture.antt. Do not edit.
+-- Each row is read in the table's order.
+use Rattle.gltf_schema.proofs.RowByRow.{all_read, read_none, read_row}
+use Rattle.gltf_parts.specs.Texture.{sampler_rows, sampler_members}
+use Rattle.gltf_parts.proofs.texture.derived.SamplerObject.read_rows.Goals as goal
+
+pub returns : goal.returns
+unfolding sampler_rows sampler_members
+returns g c =
+    all_read
+    (read_row c.optional.ensures.left_out
+    (read_row c.optional-2.ensures.left_out
+    (read_row c.optional-3.ensures.left_out
+    (read_row (c.or_default.ensures.always _)
+    (read_row (c.or_default-2.ensures.always _)
+    (read_row c.optional-4.ensures.left_out
+    (read_row c.optional-5.ensures.left_out read_none)))))))

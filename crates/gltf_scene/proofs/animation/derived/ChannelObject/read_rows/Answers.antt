@@ -1,0 +1,16 @@
+-- Written by tools/derive.py from crates/gltf_scene/src/animation.rt and
+-- crates/gltf_scene/specs/Animation.antt. Do not edit.
+-- Each row is read in the table's order.
+use Rattle.std.proofs.Common.{sym}
+use Rattle.gltf_schema.proofs.RowByRow.{all_read, read_none, read_row, sampler_read}
+use Rattle.gltf_scene.specs.Animation.{animation_channel_rows, animation_channel_members}
+use Rattle.gltf_scene.proofs.animation.derived.ChannelObject.read_rows.Goals as goal
+
+pub returns : goal.returns
+unfolding animation_channel_rows animation_channel_members
+returns g c =
+    all_read
+    (read_row (sampler_read g.met.R.ReadRows.as_sampler (sym c.number-number.ensures) c.new-self.ensures c.required.ensures)
+    (read_row c.required-2.ensures
+    (read_row c.optional.ensures.left_out
+    (read_row c.optional-2.ensures.left_out read_none))))

@@ -1,0 +1,17 @@
+-- Written by tools/derive.py from crates/gltf_scene/src/camera.rt and
+-- crates/gltf_scene/specs/Camera.antt. Do not edit.
+-- Each row is read in the table's order.
+use Rattle.gltf_schema.proofs.RowByRow.{all_read, read_none, read_row}
+use Rattle.gltf_scene.specs.Camera.{camera_rows, camera_members}
+use Rattle.gltf_scene.proofs.camera.derived.CameraObject.read_rows.Goals as goal
+
+pub returns : goal.returns
+unfolding camera_rows camera_members
+returns g c =
+    all_read
+    (read_row c.optional.ensures.left_out
+    (read_row c.optional-2.ensures.left_out
+    (read_row c.optional-3.ensures.left_out
+    (read_row c.required.ensures
+    (read_row c.optional-4.ensures.left_out
+    (read_row c.optional-5.ensures.left_out read_none))))))

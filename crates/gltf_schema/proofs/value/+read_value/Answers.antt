@@ -1,0 +1,108 @@
+use Rattle.std.proofs.Common.{◌≡◌, ◌-◌, ◌<◌, [], ◌∷◌, ◌++◌, length, Some, None, sym, ap, ◌∙◌, arith}
+use Rattle.json.specs.Token.{Token}
+use Rattle.json.specs.Json.{parse_map, after_end_array, read_key, items, members, value}
+use Rattle.json.specs.Reads.{token_of}
+use Rattle.json.proofs.Grammar.{value_is, value-begin_array, value-begin_object, read_key-shorter}
+use Rattle.serde_json.specs.Data.{string, array, object, put}
+use Rattle.serde_json.specs.Read.{of_json, of_items, of_members, converted}
+use Rattle.serde_json.specs.View.{view, members_view}
+use Rattle.serde_json.specs.declared.value.Value.{String as Text}
+use Rattle.serde_json.proofs.Views.{view-Array, view-Object, members_view-insert_entry}
+use Rattle.gltf_schema.proofs.Values.{view-String, view-Number, view-Bool, view-Null, items_before, items_before-no_items, one_more_item}
+use Rattle.gltf_schema.proofs.Turns.{converted-array, converted-object, item_read, items_over, member_read, members_over}
+use Rattle.gltf_schema.proofs.value.+read_value.Goals as goal
+
+pub read_after-returns-in_ok-from_str-in-String-clause-ok : goal.read_after-returns-in_ok-from_str-in-String-clause-ok
+read_after-returns-in_ok-from_str-in-String-clause-ok t c =
+    let is : token_of c.args.token ≡ Token.string c.in-String.text.now = grind arith in
+    let s = c.in_ok-from_str-in-String.field-0 in
+    let seen : view (Text s) ≡ string c.in-String.text.now = view-String s ∙ ap string c.in_ok-from_str-in-String.ensures.ok in
+    ap (converted of_json) (ap (λ k. value c.args.depth (k ∷ c.args.reader.now)) is ∙ value_is c.args.depth _) ∙ ap (λ d. Some (d, c.args.reader.now)) (sym seen)
+
+pub read_after-returns-in-Bool-clause-ok : goal.read_after-returns-in-Bool-clause-ok
+read_after-returns-in-Bool-clause-ok t c =
+    let is : token_of c.args.token ≡ Token.boolean c.in-Bool.b = grind arith in
+    ap (converted of_json) (ap (λ k. value c.args.depth (k ∷ c.args.reader.now)) is ∙ value_is c.args.depth _) ∙ ap (λ d. Some (d, c.args.reader.now)) (sym (view-Bool c.in-Bool.b))
+
+pub read_after-returns-in-Null-clause-ok : goal.read_after-returns-in-Null-clause-ok
+read_after-returns-in-Null-clause-ok t c =
+    let is : token_of c.args.token ≡ Token.null = grind arith in
+    ap (converted of_json) (ap (λ k. value c.args.depth (k ∷ c.args.reader.now)) is ∙ value_is c.args.depth _) ∙ ap (λ d. Some (d, c.args.reader.now)) (sym view-Null)
+
+pub read_after-returns-in_ok-ok_or-in-Number-clause-ok : goal.read_after-returns-in_ok-ok_or-in-Number-clause-ok
+read_after-returns-in_ok-ok_or-in-Number-clause-ok t c =
+    let is : token_of c.args.token ≡ Token.number c.in-Number.text.now = grind arith in
+    let x = c.in_ok-ok_or-in-Number.field-0 in
+    let parsed : c.parse.result ≡ Some x = grind arith in
+    ap (converted of_json) (ap (λ k. value c.args.depth (k ∷ c.args.reader.now)) is ∙ value_is c.args.depth _) ∙ rw (← c.parse.ensures, parsed, view-Number x)
+
+pub read_after-returns-in_ok-read_items-in-BeginArray-clause-ok : goal.read_after-returns-in_ok-read_items-in-BeginArray-clause-ok
+read_after-returns-in_ok-read_items-in-BeginArray-clause-ok t c =
+    let opened = ap (converted of_json) (ap (λ k. value c.args.depth (token_of k ∷ c.args.reader.now)) c.in-BeginArray.is ∙ value-begin_array c.args.depth c.args.reader.now (omega arith)) ∙ converted-array (items (value (c.args.depth - 1)) (length c.args.reader.now) c.args.reader.now) in
+    let found = c.in_ok-read_items-in-BeginArray in
+    opened ∙ ap (parse_map array) found.ensures.ok ∙ ap (λ d. Some (d, c.read_items.new.reader)) (sym (view-Array found.field-0))
+
+pub read_after-returns-in_ok-read_members-in-BeginObject-clause-ok : goal.read_after-returns-in_ok-read_members-in-BeginObject-clause-ok
+read_after-returns-in_ok-read_members-in-BeginObject-clause-ok t c =
+    let opened = ap (converted of_json) (ap (λ k. value c.args.depth (token_of k ∷ c.args.reader.now)) c.in-BeginObject.is ∙ value-begin_object c.args.depth c.args.reader.now (omega arith)) ∙ converted-object (members (value (c.args.depth - 1)) (length c.args.reader.now) c.args.reader.now) in
+    let found = c.in_ok-read_members-in-BeginObject in
+    opened ∙ ap (parse_map object) found.ensures.ok ∙ ap (λ d. Some (d, c.read_members.new.reader)) (sym (view-Object found.field-0))
+
+pub read_items-items-preserved : goal.read_items-items-preserved
+read_items-items-preserved t c =
+    let p = value c.args.depth in
+    let l = c.items in
+    let n = l.invariant.0 in
+    let going : (after_end_array l.reader ≡ None) × (c.take_end_array.new.self ≡ l.reader) = grind arith in
+    let done = c.in_ok-item.ensures in
+    let v = c.in_ok-item.item in
+    let r = c.read_value.new.reader in
+    let less : length r < length l.reader = rw (← going.1) done.shorter in
+    let pushed : c.push.new.self.items ≡ l.values.items ++ v ∷ [] = c.in_ok-push.ensures.items in
+    let turn = item_read p n l.reader r (view v) (omega (arith, l.invariant.1)) going.0 (rw (← going.1) done.ok) in (
+      n - 1,
+      omega (arith, l.invariant.1),
+      l.invariant.2 ∙ ap (parse_map (items_before l.values.items)) turn ∙ one_more_item l.values.items v _
+          ∙ ap (λ vs. parse_map (items_before vs) (converted of_items (items p (n - 1) r))) (sym pushed),
+      omega (arith, l.invariant.3),
+    )
+
+pub read_items-returns-clause-ok : goal.read_items-returns-clause-ok
+read_items-returns-clause-ok t c =
+    let p = value c.args.depth in
+    let l = c.items in
+    let n = l.invariant.0 in
+    let r = c.take_end_array.new.self in
+    l.invariant.2 ∙ ap (parse_map (items_before l.values.items)) (items_over p n l.reader r l.invariant.1 (grind arith)) ∙ ap (λ ds. Some (ds, r)) (items_before-no_items l.values.items)
+
+pub read_members-members-preserved : goal.read_members-members-preserved
+read_members-members-preserved t c =
+    let p = value c.args.depth in
+    let l = c.members in
+    let n = l.invariant.0 in
+    let old = members_view l.found.entries in
+    let k = c.in-Some.name.now in
+    let s = c.next_key.new.self in
+    let named : read_key l.reader ≡ Some (Some k, s) = grind arith in
+    let done = c.in_ok-member.ensures in
+    let v = c.in_ok-member.member in
+    let key = c.in_ok-from_str.field-0 in
+    let r = c.read_value.new.reader in
+    let less = read_key-shorter l.reader (Some k) s named in
+    let lesser = done.shorter in
+    let put_last : members_view c.insert.new.self.entries ≡ put k (view v) old =
+    ap members_view c.in_ok-insert.ensures.entries ∙ members_view-insert_entry l.found.entries key v ∙ ap (λ x. put x (view v) old) c.in_ok-from_str.ensures.ok in (
+      n - 1,
+      omega (arith, l.invariant.1),
+      l.invariant.2 ∙ member_read p old n k l.reader s r (view v) (omega (arith, l.invariant.1)) named done.ok
+          ∙ ap (λ found. converted (λ ms. of_members ms found) (members p (n - 1) r)) (sym put_last),
+      omega (arith, l.invariant.3),
+    )
+
+pub read_members-returns-clause-ok : goal.read_members-returns-clause-ok
+read_members-returns-clause-ok t c =
+    let p = value c.args.depth in
+    let l = c.members in
+    let n = l.invariant.0 in
+    let old = members_view l.found.entries in
+    l.invariant.2 ∙ members_over p old n l.reader c.next_key.new.self l.invariant.1 (grind arith)

@@ -1,0 +1,37 @@
+use Rattle.std.proofs.Common.{◌≡◌, ℕ, ◌+◌, ◌*◌, ◌≤◌, length}
+use Rattle.json.specs.Json.{items, members, value, parse_map}
+use Rattle.serde_json.specs.Data.{no_members}
+use Rattle.serde_json.specs.Read.{of_items, of_members, converted}
+use Rattle.serde_json.specs.View.{members_view}
+use Rattle.gltf_schema.proofs.Values.{items_before}
+use Rattle.gltf_schema.proofs.value.+read_value.Given as goal
+
+abbrev pub decreases-read_value : goal.decreases-read_value
+decreases-read_value l = 3 * l.depth + 1
+
+abbrev pub decreases-read_after : goal.decreases-read_after
+decreases-read_after l = 3 * l.depth
+
+abbrev pub decreases-read_items : goal.decreases-read_items
+decreases-read_items l = 3 * l.depth + 2
+
+abbrev pub decreases-read_members : goal.decreases-read_members
+decreases-read_members l = 3 * l.depth + 2
+
+abbrev pub invariant-read_items-items : goal.invariant-read_items-items
+invariant-read_items-items l =
+    (n : ℕ) × (length l.reader ≤ n)
+    × (converted of_items (items (value l.depth) (length l.initial.reader) l.initial.reader) ≡ parse_map (items_before l.values.items) (converted of_items (items (value l.depth) n l.reader)))
+    × (length l.reader ≤ length l.initial.reader)
+
+abbrev pub decreases-read_items-items : goal.decreases-read_items-items
+decreases-read_items-items l = length l.reader
+
+abbrev pub invariant-read_members-members : goal.invariant-read_members-members
+invariant-read_members-members l =
+    (n : ℕ) × (length l.reader ≤ n)
+    × (converted (λ ms. of_members ms no_members) (members (value l.depth) (length l.initial.reader) l.initial.reader) ≡ converted (λ ms. of_members ms (members_view l.found.entries)) (members (value l.depth) n l.reader))
+    × (length l.reader ≤ length l.initial.reader)
+
+abbrev pub decreases-read_members-members : goal.decreases-read_members-members
+decreases-read_members-members l = length l.reader

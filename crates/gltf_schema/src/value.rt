@@ -1,0 +1,128 @@
+//! Values of JSON, made of tokens in one pass.
+
+ghost use Rattle.std.specs.Prelude.{◌≡◌, ◌<◌, ◌≤◌, ◌∷◌, length, Some, IfOk, OnOk};
+ghost use Rattle.std.specs.Str.{bytes_eq};
+ghost use Rattle.json.specs.Json.{value, items, members};
+ghost use Rattle.json.specs.Reads.{token_of};
+ghost use Rattle.serde_json.specs.Data.{no_members};
+ghost use Rattle.serde_json.specs.Read.{of_json, of_items, of_members, converted};
+ghost use Rattle.serde_json.specs.View.{view, items_view, members_view};
+
+use crate::numeral;
+use crate::stream::Unread;
+use json::{Reader, Token};
+use serde_json::{Map, Value};
+use std::alloc::Global;
+
+/// Returns the value that is next in the text, with arrays and objects nested no deeper than
+/// `depth`: the one that `serde_json` reads there.
+#[cycle(read_value)]
+#[inline(always)]
+pub(crate) fn read_value<'a>(
+    alloc: Global,
+    reader: &mut Reader<'a>,
+    depth: usize,
+) -> Result<Value, Unread>
+    ensures ok { IfOk result
+        (λ v. converted of_json (value depth reader.old) ≡ Some (view v, reader.new)) }
+    ensures shorter { OnOk result (length reader.new < length reader.old) }
+{
+    let token = reader.next().ok_or(Unread)?;
+    read_after(alloc, token, reader, depth)
+}
+
+/// Returns the value that begins with a token, which was taken from the text, as [`read_value`].
+#[cycle(read_value)]
+#[inline(always)]
+pub(crate) fn read_after<'a>(
+    alloc: Global,
+    token: Token<'a>,
+    reader: &mut Reader<'a>,
+    depth: usize,
+) -> Result<Value, Unread>
+    ensures ok { IfOk result (λ v. converted of_json (value depth (token_of token.entry ∷ reader.old))
+        ≡ Some (view v, reader.new)) }
+    ensures no_longer { OnOk result (length reader.new ≤ length reader.old) }
+{
+    match token {
+        Token::String(text) => Ok(Value::String(String::from_str(alloc, text)?)),
+        Token::Number(text) => Ok(Value::Number(numeral::parse(text).ok_or(Unread)?)),
+        Token::Bool(b) => Ok(Value::Bool(b)),
+        Token::Null => Ok(Value::Null),
+        Token::EndObject | Token::EndArray | Token::Key(_) | Token::Bad => Err(Unread),
+        Token::BeginArray => {
+            if depth == 0 {
+                return Err(Unread);
+            }
+            Ok(Value::Array(read_items(alloc, reader, depth - 1)?))
+        }
+        Token::BeginObject => {
+            if depth == 0 {
+                return Err(Unread);
+            }
+            Ok(Value::Object(read_members(alloc, reader, depth - 1)?))
+        }
+    }
+}
+
+#[cycle(read_value)]
+#[inline(never)]
+fn read_items<'a>(
+    alloc: Global,
+    reader: &mut Reader<'a>,
+    depth: usize,
+) -> Result<Vec<Value>, Unread>
+    ensures ok { IfOk result
+        (λ v. converted of_items (items (value depth) (length reader.old) reader.old)
+        ≡ Some (items_view v.items, reader.new)) }
+    ensures shorter { OnOk result (length reader.new < length reader.old) }
+{
+    let mut values = Vec::new(alloc);
+    'items: while !reader.take_end_array() {
+        let item = read_value(alloc, reader, depth)?;
+        values.push(item)?;
+    }
+    Ok(values)
+}
+
+#[cycle(read_value)]
+#[inline(never)]
+fn read_members<'a>(
+    alloc: Global,
+    reader: &mut Reader<'a>,
+    depth: usize,
+) -> Result<Map<String, Value>, Unread>
+    ensures ok { IfOk result
+        (λ m. converted (λ ms. of_members ms no_members)
+        (members (value depth) (length reader.old) reader.old)
+        ≡ Some (members_view m.entries, reader.new)) }
+    ensures shorter { OnOk result (length reader.new < length reader.old) }
+{
+    let mut found = Map::new(alloc);
+    'members: while let Some(name) = reader.next_key()? {
+        let member = read_value(alloc, reader, depth)?;
+        drop(found.insert(String::from_str(alloc, name)?, member)?);
+    }
+    Ok(found)
+}
+
+/// Whether two names are the same. Names of one length mostly differ in the last byte, so the bytes
+/// are compared from the last to the first.
+#[inline(always)]
+pub(crate) fn is_same(a: &str, b: &str) -> bool
+    ensures { result ≡ bytes_eq a.now b.now }
+{
+    let (x, y) = (a.as_bytes(), b.as_bytes());
+    let n = x.len();
+    if n != y.len() {
+        return false;
+    }
+    let mut i = n;
+    while i > 0 {
+        i -= 1;
+        if x[i] != y[i] {
+            return false;
+        }
+    }
+    true
+}

@@ -306,16 +306,7 @@ class CrateTexts:
 
     def sound(self):
         made = self.made
-        unfolded, lemmas = [f"{made.base}_rows"], []
-        defaults = {text_of(row.mark[1]) for row in made.rows
-                    if row.mark[1:] and isinstance(row.mark[1], tuple)}
-        for inner in inner_objects(self.table, made):
-            if f"closed_object (defaults {inner.base}_rows)" in defaults:
-                # The default of a row is computed from these rows, which shows that they are sound.
-                unfolded.append(f"{inner.base}_rows")
-                lemmas += inner_objects(self.table, inner)
-            elif inner.base != "no":
-                lemmas.append(inner)
+        unfolded, lemmas = kind_parts(self.table, made)
         names = [*dict.fromkeys(f"{inner.base}_sound" for inner in lemmas)]
         return [f"pub {made.base}_sound : is_sound {made.kind} ≡ true",
                 f"unfolding {' '.join(unfolded)}",
@@ -341,6 +332,21 @@ def rewritten(names, end):
     if not names:
         return end
     return f"rw {names[0] if len(names) == 1 else '(' + ', '.join(names) + ')'} {end}"
+
+
+def kind_parts(table, made):
+    """What a lemma about an object's kind unfolds, and the objects on whose lemmas it depends."""
+    unfolded, lemmas = [f"{made.base}_rows"], []
+    defaults = {text_of(row.mark[1]) for row in made.rows
+                if row.mark[1:] and isinstance(row.mark[1], tuple)}
+    for inner in inner_objects(table, made):
+        if f"closed_object (defaults {inner.base}_rows)" in defaults:
+            # The default of a row is computed from these rows, which shows that they are sound.
+            unfolded.append(f"{inner.base}_rows")
+            lemmas += inner_objects(table, inner)
+        elif inner.base != "no":
+            lemmas.append(inner)
+    return unfolded, lemmas
 
 
 def inner_objects(table, made):

@@ -13,7 +13,7 @@ from settle import settle
 from sources import ROOT, trait_and_type
 
 FOLDER = ROOT / "docs" / "api"
-CRATES = ["gltf_json", "gltf_load", "gltf_glb", "gltf_hierarchy", "gltf_layout"]
+CRATES = ["gltf_json", "gltf_load", "gltf_buffers", "gltf_elements", "gltf_glb", "gltf_hierarchy", "gltf_layout"]
 HEAD = "<!-- Written by tools/gen_pages.py from the sources. -->\n"
 README = ROOT / "README.md"
 

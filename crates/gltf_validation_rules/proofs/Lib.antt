@@ -25,5 +25,7 @@ pub mod Leading
 pub mod KeysThere
 pub mod Pointing
 pub mod PointingRoot
+pub mod PointingParts
+pub mod PointingScene
 pub mod PointerText
 pub mod KeyFound

@@ -1,0 +1,7 @@
+pub mod Elements
+pub mod Iter
+pub mod Numbers
+pub mod Components
+pub mod Indices
+pub mod Normalized
+pub mod Sparse

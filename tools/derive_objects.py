@@ -12,8 +12,9 @@ from specs import OWN, Definitions
 
 # A pattern that no type has.
 NO_TYPE = "(?!)"
-# What `MOST_REQUIRED` is in the crate that reads rows.
-MOST_REQUIRED = 8
+# How many members may have to be there, as the crate that reads rows has it.
+MOST_REQUIRED = int(re.search(r"const MOST_REQUIRED: usize = (\d+);",
+                              (CRATES / SCHEMA / "src/stream.rt").read_text())[1])
 
 
 @dataclass

@@ -21,8 +21,8 @@ pub struct Accessor<'a, T: Component, const N: usize> {
 
 impl<'a, T: Component, const N: usize> Accessor<'a, T, N> {
     /// Returns an accessor of so many elements. They are those of its view, or zeros if it has none
-    /// (section 5.1.1), but for those that deviate. Fails if the view has not as many elements, then
-    /// if the deviating ones are those of another count.
+    /// (section 5.1.1), but for those that deviate. Fails if the view has not as many elements,
+    /// then if the deviating ones are those of another count.
     pub fn of(
         count: u64,
         base: Option<Components<'a, T, N>>,

@@ -1,6 +1,7 @@
 """What an object's own crate has of it: `Drop` beside the struct, and in files of their own
 `Object`, the answers of `read_rows` and of `write_members`, the values of factors, and in `specs/`
-that its kind is sound and how high it is."""
+that its kind is sound and how high it is. An object with rows that are written as null, in itself
+or below it, also has `StrictObject`, and the objects beside those rows a lemma."""
 from derive_exceptions import FACTS, Fact
 from derive_factors import Factor, object_values
 from derive_layout import block, call, ghosts, header, indented, struct
@@ -33,6 +34,10 @@ class Modules:
         self.blocks, self.lemmas, self.sources = {}, {}, {}
         self.modules = {}
         self.ghosts = table.ghost_names()
+        self.strict = [made for made in table.objects.values() if has_nulls(table, made)]
+        # The objects without nulls that are rows of objects with nulls.
+        self.null_free = [inner for inner in table.objects.values() if inner not in self.strict
+                          and any(inner in inner_objects(table, made) for made in self.strict)]
 
     def add(self, made, crate, module, lines):
         """Adds a block to the derived module of a module."""
@@ -90,7 +95,7 @@ class Modules:
     def own_names(self, path):
         """What derived text uses, but for the lemmas of the file itself."""
         own = {f"{made.base}_{word}" for made in self.table.objects.values()
-               if made.spec_path() == path for word in ("sound", "height")}
+               if made.spec_path() == path for word in ("sound", "height", "no_nulls")}
         return {name: module for name, module in self.ghosts.items() if name not in own}
 
 
@@ -129,6 +134,14 @@ class CrateTexts:
             files.count(made, lines)
         modules.add_lemma(made, self.sound())
         modules.add_lemma(made, self.height())
+        if made in modules.strict:
+            modules.add(made, made.crate, made.module, self.strict_object())
+            lines = self.strict_answers()
+            files.whole(folder / f"{made.name}StrictObject" / "write_strictly" / "Answers.antt",
+                        lines)
+            files.count(made, lines)
+        if made in modules.null_free:
+            modules.add_lemma(made, self.no_nulls())
 
     def drop(self):
         made = self.made
@@ -225,15 +238,33 @@ class CrateTexts:
         return sorted(self.made.rows, key=lambda row: row.name.encode())
 
     def write_members(self):
+        return ["fn write_members<W: WriteRows>(&self, to: &mut W) {",
+                *indented(self.written(lambda row: self.method(row)[1])), "}"]
+
+    def written(self, method_of):
+        """A call for each row, in the order of the names."""
         lines = [] if self.is_plain else ["to.others(&self.others);"]
         for row in self.by_name():
-            method = self.method(row)[1]
+            method = method_of(row)
             inner = ".0" if self.table.factor_of(self.made, row.type) else ""
             inner = ".number()" if row.kind == ("ChannelSampler",) else inner
             default = [self.table.default(self.made, row)] if method == "unless" else []
             lines += call(f"to.{method}", [f'"{row.name}"', f"&self.{row.field}{inner}", *default],
                           ";", 2)
-        return ["fn write_members<W: WriteRows>(&self, to: &mut W) {", *indented(lines), "}"]
+        return lines
+
+    def strict_method(self, row):
+        """The method of `StrictRows` for a row."""
+        method = self.method(row)[1]
+        inner = self.table.object_of(self.made, row.kind)
+        if inner and has_nulls(self.table, inner):
+            return f"{method}_strictly"
+        return "optional" if method == "or_null" else method
+
+    def strict_object(self):
+        return block(f"impl StrictObject for {self.made.name}", [
+            "fn write_strictly<W: StrictRows>(&self, to: &mut W) {",
+            *indented(self.written(self.strict_method)), "}"])
 
     def read_answers(self):
         facts, calls = [], Calls()
@@ -275,6 +306,43 @@ class CrateTexts:
                 f"use Rattle.{SCHEMA}.proofs.RowsWritten.{{{', '.join(used)}}}",
                 *self.answers("write_members", begin, "write", facts, "")]
 
+    def strict_answers(self):
+        facts, uses, calls = [], set(), Calls()
+        for row in self.by_name():
+            method, mark = self.strict_method(row), row.mark[0]
+            fact = f"{calls.next(method)}.ensures"
+            if method.partition("_")[0] in ("always", "optional"):
+                fact += f".{'optional' if mark == 'or_null' else mark}"
+            if mark == "always":
+                fact = f"({fact} _)"
+            inner = self.table.object_of(self.made, row.kind)
+            if inner and inner.base in self.table.objects and not has_nulls(self.table, inner):
+                word = "null_free_list" if row.is_list() else "null_free"
+                uses.add(word)
+                fact = f"({word} {inner.kind} {inner.base}_no_nulls {fact})"
+            facts.append(fact)
+        first = "all_written" if self.is_plain else "written_with_others"
+        begin = first if self.is_plain else f"{first} c.others.ensures"
+        answers = self.answers("write_strictly", begin, "write", facts, "", "StrictObject")
+        names = {name: module for name, module in self.table.ghost_names().items()
+                 if name.endswith(("_no_nulls", "_kind"))}
+        return [*self.header(),
+                "-- Each row is written in the order of the names.",
+                f"use Rattle.{SCHEMA}.proofs.RowsWritten.{{{first}, write_none, write_row}}",
+                *([f"use Rattle.{SCHEMA}.proofs.NullFreeRows.{{{', '.join(sorted(uses))}}}"]
+                  if uses else []),
+                *antt_uses("\n".join(facts), names), *answers]
+
+    def no_nulls(self):
+        """That nothing of the object is written as null because it is absent."""
+        made, unfolded = self.made, [self.made]
+        for one in unfolded:
+            unfolded += [inner for inner in inner_objects(self.table, one)
+                         if inner.base != "no" and inner not in unfolded]
+        return [f"pub {made.base}_no_nulls : without_nulls {made.kind} ≡ {made.kind}",
+                f"unfolding {' '.join(f'{one.base}_rows' for one in unfolded)}",
+                f"{made.base}_no_nulls = refl"]
+
     def around(self, row, verb):
         """What stands round the fact of a row."""
         return FACTS.get((self.made.base, row.name, verb), Fact("{}", []))
@@ -285,10 +353,10 @@ class CrateTexts:
         return Fact("", [name for fact in facts for name in fact.names],
                     tuple(use for fact in facts for use in fact.uses))
 
-    def answers(self, function, begin, verb, facts, end):
+    def answers(self, function, begin, verb, facts, end, of="Object"):
         made = self.made
         names = f"{made.base}_rows {made.base}_members"
-        module = ".".join([*made.module, DERIVED, f"{made.name}Object"])
+        module = ".".join([*made.module, DERIVED, f"{made.name}{of}"])
         lines = [f"({verb}_row {fact}" for fact in facts]
         lines[-1] += f" {verb}_none" + ")" * len(facts) + end
         return [
@@ -347,6 +415,12 @@ def kind_parts(table, made):
         elif inner.base != "no":
             lemmas.append(inner)
     return unfolded, lemmas
+
+
+def has_nulls(table, made):
+    """Whether a row of the object is written as null if it is absent, or one below it."""
+    return any(row.mark[0] == "or_null" for row in made.rows) or any(
+        has_nulls(table, inner) for inner in inner_objects(table, made))
 
 
 def inner_objects(table, made):

@@ -4,6 +4,7 @@ import re
 
 from derive_exceptions import BY_HAND, NUMBER_NAMES
 from derive_layout import block, ghosts
+from derive_sources import CRATES
 
 # What the numbers are called, by how many there are.
 NAMES = {2: "xy", 3: "rgb", 4: "rgba"}
@@ -71,5 +72,9 @@ class Factor:
     def write(self, modules, made):
         crate, *module, _ = self.path
         if (self.name, "value") not in BY_HAND:
+            if "DEFAULT" not in modules.table.sources.constants(self.path):
+                file = (CRATES / crate / "src").joinpath(*module).with_suffix(".rt")
+                modules.files.miss(file, 1, f"{self.name} has no 'pub const DEFAULT', which its "
+                                   "value is where the number is absent")
             modules.add(made, crate, module, self.value())
         modules.add(made, crate, module, self.tabled())

@@ -27,6 +27,7 @@ MODULES = {
         "Number Numbers ListOf IndexInto Attributes",
     f"Rattle.{SCHEMA}.specs.Sound": "is_sound",
     f"Rattle.{SCHEMA}.specs.Height": "IsHigh IsFlat",
+    f"Rattle.{SCHEMA}.specs.Nulls": "without_nulls",
     f"Rattle.{SCHEMA}.specs.Floats": "float_or floats_or",
     f"Rattle.{SCHEMA}.specs.Fields":
         "closed_object list_tree real_tree reals_tree index_tree text_tree attributes_tree",
@@ -43,7 +44,7 @@ MODULES = {
 
 # Types, traits and functions that derived code uses, by their paths.
 RUST = {
-    f"{SCHEMA}": "Object ReadRows WriteRows Tabled",
+    f"{SCHEMA}": "Object ReadRows StrictObject StrictRows WriteRows Tabled",
     f"{BASE}": "Step",
     f"{RULES}": "Context HasContext data_fault position_faults projection_fault source_fault "
                  "spot_fault",

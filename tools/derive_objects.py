@@ -46,7 +46,8 @@ class Object:
         """The modules of the definitions that it has, and of what is derived of them."""
         own, derived = f"Rattle.{self.definitions()}", f"Rattle.{self.definitions()}Derived"
         return {f"{self.base}_rows": own, f"{self.base}_members": own, self.kind: own,
-                f"{self.base}_sound": derived, f"{self.base}_height": derived}
+                f"{self.base}_sound": derived, f"{self.base}_height": derived,
+                f"{self.base}_no_nulls": derived}
 
     def source(self):
         return (CRATES / self.crate / "src").joinpath(*self.module).with_suffix(".rt")
@@ -188,6 +189,9 @@ class Table:
         made.module, made.name = rust[1:-1], rust[-1]
         made.tree = self.trees.get(rust, "")
         item = self.sources.item(rust)
+        if not self.sources.module(rust[:-1]):
+            raise Wrong(path, line, f"no crate or module declares 'mod {rust[-2]};', where "
+                        f"{made.base}_members looks for {made.name}")
         if not item or not item.members:
             raise Wrong(path, line, f"there is no 'pub struct {made.name}' with fields in "
                         f"{made.source().relative_to(ROOT)}")
@@ -243,12 +247,19 @@ class Table:
             if not re.fullmatch(wanted, self.bare_type(made, row.type)):
                 line = struct + line_of_field(source, struct, row.field)
                 raise Wrong(source, line, f"'{row.field}: {row.type}' doesn't fit the row "
-                            f"'{row.name}', {row.says()}")
+                            f"'{row.name}', {row.says()}{self.unknown_type(made, row)}")
             if renamed(tree) != renamed(row.member):
                 raise Wrong(path, row.line, f"the member of the row '{row.name}' is "
                             f"'{row.member}', and '{tree}' fits the row and the field")
             if row.default() and not row.is_list():
                 self.default(made, row)
+
+    def unknown_type(self, made, row):
+        """A note on a type that the module of the object doesn't name, or nothing."""
+        name = re.sub(r"^(?:Option|Vec)<(\w+)>$", r"\1", row.type)
+        if self.sources.item(self.path_of(made, name)):
+            return ""
+        return f"; no 'use', 'mod' or 'pub use' line names a type '{name}' there"
 
     def default(self, made, row):
         """The value of a missing member, in Rust."""

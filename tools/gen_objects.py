@@ -13,6 +13,7 @@ such a line.
 import collections
 import json
 import re
+import sys
 
 from object_forms import FORMS
 from settle import settle
@@ -59,6 +60,9 @@ def sample(kind):
         return [sample(kind[1:-1])]
     if kind.startswith("Numbers"):
         return [0.5] * int(kind.removeprefix("Numbers"))
+    if kind not in SAMPLES:
+        sys.exit(f"docs/SCHEMA.md: a row has the kind {kind}, of which there is no table, choice "
+                 "or sample")
     return SAMPLES[kind]
 
 
@@ -97,7 +101,9 @@ def places_of(kind, steps=()):
 PLACES = {}
 for found, steps in places_of("Root"):
     PLACES.setdefault(found, steps)
-assert set(PLACES) == set(OBJECTS), set(OBJECTS) - set(PLACES)
+if set(PLACES) != set(OBJECTS):
+    sys.exit("docs/SCHEMA.md: no row of another object leads to "
+             + ", ".join(sorted(set(OBJECTS) - set(PLACES))))
 
 
 def holding(name, value):

@@ -1,6 +1,6 @@
 """Writes docs/api/: a page for each public module of the crates that users name, with each item in
-full: its docstring, its signature, what its call requires, the names of its clauses, and a link to
-its line in the source.
+full: its docstring, its signature, what its call requires, what its clauses promise in the words of
+docs/PROMISES.md, the example that README names, and a link to its line in the source.
 
 `python3 tools/gen_pages.py` writes the pages; `--check` says whether they are current, and ends with
 status 1 and a short diff if one isn't.
@@ -9,13 +9,18 @@ import re
 import sys
 
 from gen_api import Page, documented, within
+from run_readme import rows_of
 from settle import settle
 from sources import ROOT, trait_and_type
 
 FOLDER = ROOT / "docs" / "api"
-CRATES = ["gltf_json", "gltf_load", "gltf_buffers", "gltf_elements", "gltf_glb", "gltf_hierarchy", "gltf_layout"]
+CRATES = ["gltf_json", "gltf_load", "gltf_accessors", "gltf_buffers", "gltf_elements", "gltf_findings", "gltf_glb",
+          "gltf_hierarchy", "gltf_layout", "gltf_report_lines"]
 HEAD = "<!-- Written by tools/gen_pages.py from the sources. -->\n"
 README = ROOT / "README.md"
+PROMISES = ROOT / "docs" / "PROMISES.md"
+# What README's table writes without its type is a call of this one.
+USUAL_OWNER = "Root"
 
 
 def file_name(path):
@@ -28,21 +33,37 @@ def anchor(title):
 
 
 def examples():
-    """The programs that show a call, by the call's name, from the table of README."""
+    """The programs that show a call or a type, by its name with its type's, from README's table."""
     found = {}
-    rows = re.findall(r"(?m)^\| [^|]+ \| ([^|]*`[^|]*) \| `([^|`]+)` \|$", README.read_text())
-    for calls, program in rows:
-        path = program if "/" in program else f"crates/gltf_examples/src/{program}.rt"
-        for call in re.findall(r"`([^`]+)`", calls):
-            found.setdefault(call.split("::")[-1], path)
+    for calls, files in rows_of(README.read_text()):
+        owner = USUAL_OWNER
+        for call in calls:
+            *front, name = call.split("::")
+            owner = front[-1] if front else owner
+            for file in files:
+                if re.search(rf"\b{name}\b", file.read_text()):
+                    key = name if name[0].isupper() else f"{owner}::{name}"
+                    found.setdefault(key, file.relative_to(ROOT).as_posix())
+    return found
+
+
+def promises():
+    """What docs/PROMISES.md promises of each call: the words of a line, and the names of clauses."""
+    found = {}
+    rows = re.findall(r"(?m)^\| ([^|]*`[^|]*) \| ([^|]+) \| ([^|]+) \|$", PROMISES.read_text())
+    for calls, words, clauses in rows:
+        names = re.findall(r"`(\w+)`|\bensures\b", re.sub(r"\([^)]*\)", "", clauses))
+        for call in re.findall(r"`([\w:]+)`", calls):
+            key = "::".join(call.split("::")[-2:])
+            found.setdefault(key, []).append((words, [name or "result" for name in names]))
     return found
 
 
 class Pages(Page):
     """The pages of one crate."""
 
-    def __init__(self, crate, shown):
-        self.crate, self.shown = crate, shown
+    def __init__(self, crate, shown, promised):
+        self.crate, self.shown, self.promised = crate, shown, promised
         super().__init__()
         self.collect(self.crates.roots[crate], (crate,))
         self.place()
@@ -87,7 +108,7 @@ class Pages(Page):
 
     def item(self, item, behind):
         lines = [f"## {item.name}", "", *prose(item.docs), ""]
-        lines += ["```rust", *self.declared(item), "```", "", *self.facts(item)]
+        lines += ["```rust", *self.declared(item), "```", "", *self.facts(item, item.name)]
         shown = behind or item
         blocks = self.blocks.get(id(shown), []) if shown.kind in ("struct", "enum") else []
         heads = [trait_and_type(block)[0] for block in blocks]
@@ -112,24 +133,48 @@ class Pages(Page):
 
     def method(self, owner, made):
         end = "" if made.kind == "fn" else ";"
-        return [f"### {owner}::{made.name}", "", *prose(made.docs), "",
-                "```rust", *within(f"{made.signature}{end}"), "```", "", *self.facts(made)]
+        name = f"{owner}::{made.name}"
+        return [f"### {name}", "", *prose(made.docs), "",
+                "```rust", *within(f"{made.signature}{end}"), "```", "", *self.facts(made, name)]
 
-    def facts(self, item):
-        """What a call requires, the names of its clauses, its example and its place."""
+    def facts(self, item, name):
+        """What a call requires and promises, its example and its place."""
         lines = []
         for kind, _, text in item.clauses:
             if kind == "requires":
                 lines += [f"Requires `{' '.join(text[1:-1].split())}`.", ""]
-        clauses = [label or "result" for kind, label, _ in item.clauses if kind == "ensures"]
-        if clauses:
-            lines += [f"Proved: {', '.join(f'`{one}`' for one in clauses)}.", ""]
-        if item.kind == "fn" and item.name in self.shown:
-            lines += [f"Example: [`{self.shown[item.name]}`](../../{self.shown[item.name]}).", ""]
+        lines += self.proved(item, name)
+        # A call of a document's lists is shown at the document.
+        shown = self.shown.get(name) or self.shown.get(name.replace("Get::", f"{USUAL_OWNER}::"))
+        if shown:
+            lines += [f"Example: [`{shown}`](../../{shown}).", ""]
         if item.place:
             file, line = item.place
             lines += [f"[{file}:{line}](../../{file}#L{line})", ""]
         return lines
+
+
+    def proved(self, item, name):
+        """A line for each promise of a call, and the names of the clauses that none speaks of."""
+        clauses = [label or "result" for kind, label, _ in item.clauses if kind == "ensures"]
+        if not clauses:
+            return []
+        lines, spoken = [], set()
+        for words, names in self.promised.get(name, []):
+            here = [one for one in names if one in clauses]
+            spoken.update(here)
+            if here:
+                lines.append(f"- {listed(here)}: {words}")
+        rest = [one for one in clauses if one not in spoken]
+        if not lines:
+            return [f"Proved: {listed(rest)}.", ""]
+        if rest:
+            lines.append(f"- {listed(rest)}")
+        return ["Proved ([docs/PROMISES.md](../PROMISES.md)):", "", *lines, ""]
+
+
+def listed(names):
+    return ", ".join(f"`{one}`" for one in names)
 
 
 def cell(text):
@@ -152,9 +197,9 @@ def contents(pages):
 
 
 def main():
-    pages, shown = {}, examples()
+    pages, shown, promised = {}, examples(), promises()
     for crate in CRATES:
-        pages.update(Pages(crate, shown).pages())
+        pages.update(Pages(crate, shown, promised).pages())
     pages[FOLDER / "README.md"] = contents(pages)
     FOLDER.mkdir(exist_ok=True)
     settle(pages)

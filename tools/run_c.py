@@ -1,11 +1,21 @@
 """Builds the library `gltf_c` and the programs in C, Python and Rust that call it, runs each on the
-documents of examples/, and compares output and exit status with what docs/SCHEMA.md says.
+documents of examples/, and compares output and exit status with what docs/SCHEMA.md says. It also
+tries what no program here does: null pointers at the length 0, every size of buffer, the version,
+and how much stack a call needs.
 
 `rt lib` proves the crate first. Where all crates below it are proved that takes a minute, else an
 hour; the programs take some seconds. A program whose compiler is missing is left out, and said so.
+`--built` takes the library as it lies in crates/gltf_c/out.
+
+`--dist` also makes the archive and the wheel (tools/dist.sh), for which `rt run` must have built
+gltf_lint and gltf_report. It unpacks them into a clean folder and runs the commands of docs/C.md,
+"From an archive", there. It compares what they print with the page, and builds a program by CMake.
+
 The script ends with status 1 if a program could not be built or one result differs.
 """
+import ctypes
 import os
+import re
 import shutil
 import subprocess
 import sys
@@ -52,6 +62,17 @@ CASES = [
 ]
 
 
+CMAKE = """\
+cmake_minimum_required(VERSION 3.13)
+project(check C)
+find_package(gltf_c 1.4 REQUIRED)
+add_executable(shared check.c)
+target_link_libraries(shared gltf_c::gltf_c)
+add_executable(static check.c)
+target_link_libraries(static gltf_c::static)
+"""
+
+
 class Failed(Exception):
     pass
 
@@ -71,7 +92,8 @@ def libraries():
     """Proves and builds the library. Returns it, and the kit's library by which it allocates."""
     if not shutil.which("rt"):
         raise Failed("rt isn't on the PATH: README.md says how to get it there")
-    run("rt", "lib", cwd=CRATE)
+    if "--built" not in sys.argv[1:]:
+        run("rt", "lib", cwd=CRATE)
     page = subprocess.run(["rt", "doc"], capture_output=True, text=True, check=True).stdout.strip()
     return CRATE / "out" / "libgltf_c.a", Path(page).parent / "c" / "liblibc_c.a"
 
@@ -86,7 +108,8 @@ def python_program(cc, folder, own, kit):
     shared = folder / "libgltf_c.so"
     all_of = ["-Wl,--whole-archive", own, "-Wl,--no-whole-archive"]
     run(cc, "-shared", *all_of, kit, "-o", shared)
-    return ["env", f"GLTF_C={shared}", sys.executable, EXAMPLES / "python" / "check.py"]
+    found_in = ["env", f"GLTF_C={shared}", f"PYTHONPATH={CRATE / 'python'}"]
+    return [*found_in, sys.executable, EXAMPLES / "python" / "check.py"]
 
 
 def rust_program(rustc, folder, own, kit):
@@ -108,6 +131,126 @@ def differences(name, program):
     return count
 
 
+class Library:
+    """The shared library, with calls that take what ctypes passes."""
+
+    def __init__(self, path):
+        class Returned(ctypes.Structure):
+            _fields_ = [("status", ctypes.c_uint8), ("needed", ctypes.c_size_t)]
+
+        self.loaded = ctypes.CDLL(str(path))
+        for name in ("check", "check_by", "rewrite", "version"):
+            getattr(self.loaded, f"gltf_c_{name}").restype = Returned
+
+    def call(self, name, inputs, output, room):
+        given = []
+        for item in inputs:
+            if isinstance(item, bool):
+                given.append(ctypes.c_bool(item))
+            else:
+                given += [ctypes.c_char_p(item), ctypes.c_size_t(len(item or b""))]
+        given += [output, ctypes.c_size_t(room)]
+        returned = getattr(self.loaded, f"gltf_c_{name}")(*given)
+        return returned.status, returned.needed
+
+
+def edge_faults(library):
+    """What differs from docs/C.md at null pointers and at each size of buffer."""
+    clean = (EXAMPLES / "clean.gltf").read_bytes()
+    refused, version = b"refused: not JSON\n", header_version().encode()
+    cases = [
+        ("check", [clean], 0, b"clean\n"),
+        ("check", [None], 2, refused),
+        ("check_by", [None, None, False], 2, refused),
+        ("check_by", [clean, None, True], 0, b"clean\n"),
+        ("rewrite", [clean], 0, CLEAN_ANEW.encode()),
+        ("rewrite", [None], 2, b""),
+        ("version", [], 0, version),
+    ]
+    for name, inputs, status, due in cases:
+        if library.call(name, inputs, None, 0) != (status, len(due)):
+            yield f"{name} {inputs} with a null output"
+        for room in range(len(due) + 2):
+            output = ctypes.create_string_buffer(b"." * room, room + 1)
+            found = library.call(name, inputs, output, room)
+            if found != (status, len(due)) or output.raw[:room] != due[:room].ljust(room, b"."):
+                yield f"{name} {inputs} with room for {room} bytes: {found}, {output.raw}"
+
+
+def header_version():
+    text = (CRATE / "include" / "gltf_c.h").read_text()
+    return re.search(r'^#define GLTF_C_VERSION "(.*)"$', text, re.M).group(1)
+
+
+def stack_needed(cc, folder, own, kit):
+    """The KiB of stack, to the next 8, with which each call passes on hostile documents."""
+    program = folder / "stack"
+    source = ROOT / "tools" / "dist" / "stack.c"
+    run(cc, "-O2", "-pthread", "-I", CRATE / "include", source, own, kit, "-o", program)
+    for kib in range(32, 1024, 8):
+        if subprocess.run([program, str(kib)], capture_output=True).returncode == 0:
+            return kib
+    raise Failed("the calls need more than 1 MiB of stack")
+
+
+def stated_stack():
+    """The KiB of stack that docs/C.md says a call needs."""
+    page = (ROOT / "docs" / "C.md").read_text()
+    return int(re.search(r"Give a thread (\d+) KiB", page).group(1))
+
+
+def more_faults(cc, folder, own, kit):
+    """Prints what is wrong beside the programs, and returns how much."""
+    faults = list(edge_faults(Library(folder / "libgltf_c.so")))
+    version = re.search(r"^## (\S+)", (ROOT / "CHANGELOG.md").read_text(), re.M).group(1)
+    if header_version() != version:
+        faults.append(f"the header has another version than CHANGELOG.md, {version}")
+    needed = stack_needed(cc, folder, own, kit)
+    print(f"stack: {needed} KiB are enough for each call; docs/C.md says {stated_stack()}")
+    if 2 * needed > stated_stack():
+        faults.append("docs/C.md doesn't state twice the stack that a call needs")
+    for fault in faults:
+        print(fault)
+    print(f"buffers, nulls, version and stack: {len(faults)} faults")
+    return len(faults)
+
+
+def archive_faults():
+    """Runs the commands of docs/C.md, "From an archive", in a clean folder, and compares."""
+    page = (ROOT / "docs" / "C.md").read_text()
+    part = re.search(r"(?ms)^## From an archive$(.*?)^## ", page).group(1)
+    commands = re.search(r"(?ms)^```sh\n(.*?)^```$", part).group(1)
+    due = re.search(r"(?ms)^```text\n(.*?)^```$", part).group(1)
+    with tempfile.TemporaryDirectory() as place:
+        home, folder = Path(place) / "home", Path(place) / "files"
+        home.mkdir()
+        run(ROOT / "tools" / "dist.sh", folder)
+        keep = {name: os.environ[name] for name in ("LANG",) if name in os.environ}
+        env = {"HOME": str(home), "PATH": f"{Path(sys.executable).parent}:/usr/bin:/bin", **keep}
+        ran = subprocess.run(["bash", "-ec", commands], cwd=folder, env=env, capture_output=True)
+        if (ran.returncode, ran.stdout.decode()) != (0, due):
+            print(f"archive: status {ran.returncode}\n{ran.stdout.decode()}{ran.stderr.decode()}")
+            return 1
+        print("archive: the commands of docs/C.md print what it says")
+        if not shutil.which("cmake"):
+            print("CMake: left out, since this machine hasn't got it")
+            return 0
+        return cmake_faults(home)
+
+
+def cmake_faults(home):
+    """Builds the program in C with both libraries by CMake, from what `make install` copied."""
+    project = home / "project"
+    project.mkdir()
+    (project / "CMakeLists.txt").write_text(CMAKE)
+    shutil.copy(EXAMPLES / "c" / "check.c", project)
+    built = project / "build"
+    run("cmake", "-S", project, "-B", built, f"-DCMAKE_PREFIX_PATH={home / '.local'}",
+        stdout=subprocess.DEVNULL)
+    run("cmake", "--build", built, stdout=subprocess.DEVNULL)
+    return sum(differences(f"CMake, {name}", [built / name]) > 0 for name in ("shared", "static"))
+
+
 def main():
     own, kit = libraries()
     cc = first_of(os.environ.get("CC"), "cc", "gcc", "clang")
@@ -124,6 +267,10 @@ def main():
                 count += differences(name, program(compiler, Path(folder), own, kit))
             else:
                 print(f"{name}: left out, since this machine has no compiler for it")
+        if cc:
+            count += more_faults(cc, Path(folder), own, kit)
+    if "--dist" in sys.argv[1:]:
+        count += archive_faults()
     sys.exit(1 if count else 0)
 
 

@@ -2,12 +2,14 @@
 
 `python3 tools/run_readme.py` checks in a moment, without the toolchain: each Rust program is an
 example of `gltf_examples`, each document is a file of `examples/`, each output is part of what
-`rt ci` compares as the output of `gltf_examples`, and README has at most 900 words. Its command
-that takes the library along copies it into a new folder, leaves an equal copy as it is, and refuses
-a copy that was changed.
-`--run` also runs its first command by `rt try`, and its programs in a repository into which the
-library was copied. That takes some minutes.
+`rt ci` compares as the output of `gltf_examples`, and README has at most 900 words. The examples of
+a row of its table have each call of the row. Its command that takes the library along copies it into
+a new folder, leaves an equal copy as it is, and refuses a copy that was changed.
+`--run` also runs its first command by `rt try`, its commands for the linter, and its programs in a
+repository into which the library was copied. That takes some minutes. The linter is built first if
+it isn't yet, which takes an hour.
 """
+import os
 import re
 import shutil
 import subprocess
@@ -17,6 +19,7 @@ from pathlib import Path
 
 ROOT = Path(__file__).resolve().parent.parent
 EXAMPLES = ROOT / "crates" / "gltf_examples"
+LINTER = ROOT / "crates" / "gltf_lint" / "out" / "gltf_lint"
 MOST_WORDS = 900
 BLOCK = re.compile(r"^```(\w+)\n(.*?)^```$", re.S | re.M)
 
@@ -25,6 +28,15 @@ def program_of(example):
     """An example as README shows it: without its first comment, and with `fn main`."""
     lines = [line for line in example.read_text().split("\n") if not line.startswith("//!")]
     return "\n".join(lines).replace("pub fn main", "fn main")
+
+
+def rows_of(text):
+    """The rows of README's table: the calls of each, which are no pages, and its examples."""
+    for calls, examples in re.findall(r"(?m)^\| [^|]+ \| ([^|]*`[^|]*) \| ([^|]*) \|$", text):
+        names = [name for name in re.findall(r"`([^`]+)`", calls) if "/" not in name]
+        files = [EXAMPLES / "src" / f"{name}.rt" if "/" not in name else ROOT / name
+                 for name in re.findall(r"`([^`]+)`", examples)]
+        yield names, files
 
 
 class Readme:
@@ -65,7 +77,16 @@ class Readme:
             self.expect(there, f"README names {path}, which isn't there")
         words = len(self.text.split())
         self.expect(words <= MOST_WORDS, f"README has {words} words")
+        self.check_table()
         self.check_copies()
+
+    def check_table(self):
+        """Looks for the calls of each row in its examples. A row may have no example yet."""
+        for calls, examples in rows_of(self.text):
+            shown = "".join(file.read_text() for file in examples if file.exists())
+            for call in calls if examples else []:
+                name = call.split("::")[-1]
+                self.expect(re.search(rf"\b{name}\b", shown), f"README: no example has {call}")
 
     def check_copies(self):
         """Copies the library, copies it again, and then over a change."""
@@ -94,8 +115,9 @@ class Readme:
         self.expect(done, f"the library wasn't copied: {ran}")
 
     def run(self):
-        """Runs README's first command, and its programs in a repository with a copy."""
+        """Runs README's first command, the linter, and its programs in a repository with a copy."""
         self.run_first_command()
+        self.run_linter()
         lines = dict(re.findall(r"`(my_\w+): ([\w ]+)`", self.text))
         with tempfile.TemporaryDirectory() as folder:
             copy = Path(folder)
@@ -123,6 +145,20 @@ class Readme:
         crate = ROOT / command.group(1)
         printed = self.tried(crate, (crate / command.group(2)).read_bytes())
         self.expect(printed in self.blocks["text"], f"{command.group()} printed:\n{printed}")
+
+    def run_linter(self):
+        """Runs README's commands for the linter, with a home folder of their own."""
+        commands = next(body for body in self.blocks["sh"] if "gltf_lint" in body)
+        if LINTER.exists():
+            commands = "".join(re.findall(r"(?m)^(?!.*\brt run\b).*\n", commands))
+        page = (ROOT / "docs" / "SCHEMA.md").read_text()
+        due = re.search(r"(?ms)^`gltf_lint \.` in the folder `examples`.*?^```text\n(.*?)^```", page)
+        with tempfile.TemporaryDirectory() as home:
+            ran = subprocess.run(["bash", "-e", "-c", commands], cwd=ROOT, capture_output=True,
+                                 env={**os.environ, "HOME": home})
+        printed = ran.stdout.decode().replace("examples/", "./")
+        right = (ran.returncode, printed) == (2, due.group(1))
+        self.expect(right, f"the linter: status {ran.returncode}, {printed}{ran.stderr.decode()}")
 
     def tried(self, crate, given=b"", options=()):
         """What `rt try` prints of a crate."""

@@ -12,7 +12,7 @@
 #include <string.h>
 
 /* Room for most outputs. A longer one is asked for again, with as much room as it needs. */
-#define ROOM 80
+#define ROOM 65536
 
 typedef struct {
     uint8_t *document;

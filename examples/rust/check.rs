@@ -15,7 +15,7 @@ use std::{env, fs, io};
 /// The library: safe calls, each of which returns its status and its output.
 mod gltf {
     /// Room for most outputs. A longer one is asked for again, with as much room as it needs.
-    const ROOM: usize = 80;
+    const ROOM: usize = 65536;
 
     #[repr(C)]
     struct Returned {

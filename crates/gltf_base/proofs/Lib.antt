@@ -4,3 +4,4 @@ pub mod SetLemmas
 pub mod KeyLemmas
 pub mod Escapes
 pub mod Codes
+pub mod Shortened

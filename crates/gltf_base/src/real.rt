@@ -16,9 +16,10 @@ pub struct Real {
 }
 
 impl Real {
-    ghost use Rattle.std.specs.Prelude.{IfOk, IfErr, None, Some, option_map};
+    ghost use Rattle.std.specs.Prelude.{IfOk, IfErr, IfSome, None, Some, option_map};
+    ghost use Rattle.std.specs.Float.{float_is_finite};
     ghost use Rattle.serde_json.specs.Find.{of_integer, of_float, to_float};
-    ghost use Rattle.gltf_base.specs.Reals.{real_value, real_number};
+    ghost use Rattle.gltf_base.specs.Reals.{real_value, real_number, IsShortFormOf};
 
     /// Returns the number if the value is one, and otherwise hands the value back.
     pub fn from_value(value: Value) -> Result<Real, Value>
@@ -52,6 +53,24 @@ impl Real {
             }),
             None => None,
         }
+    }
+
+    /// Returns the number with the digits of this `f32`, or `None` if it is infinite or NaN, which
+    /// JSON can't write. `0.7_f32` is the number that is written `0.7`, where
+    /// `from_f64(f64::from(number))` is written `0.699999988079071`.
+    ///
+    /// The digits are those that `ryu` writes. They read back as this `f32`, and the number is the
+    /// `f64` nearest to them.
+    pub fn from_f32(number: f32) -> Option<Real>
+        ensures finite { is_some result ≡ float_is_finite number }
+        ensures digits { IfSome result (λ x. IsShortFormOf number (real_number x)) }
+    {
+        if !number.is_finite() {
+            return None;
+        }
+        let mut buffer = ryu::Buffer::new();
+        let nearest: f64 = fast_float::parse(buffer.format_finite(number)).ok()?;
+        Real::from_f64(nearest)
     }
 
     /// Returns the nearest float.

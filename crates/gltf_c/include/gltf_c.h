@@ -1,8 +1,9 @@
 /* glTF 2.0 documents, checked and written anew. The calls are proved; docs/C.md says what of them,
  * how a program is linked, and what it owes them.
  *
- * All calls: a pointer is never NULL, also where its length is 0. `output` overlaps no other
- * argument. A call keeps no pointer and no memory after it returns. */
+ * All calls: a pointer may be NULL if its length is 0. `output` overlaps no other argument. A call
+ * keeps no pointer and no memory after it returns. It needs 512 KiB of stack, which a new thread
+ * of some systems doesn't have (docs/C.md, "Memory and threads"). */
 #ifndef GLTF_C_H
 #define GLTF_C_H
 
@@ -13,6 +14,9 @@
 #ifdef __cplusplus
 extern "C" {
 #endif
+
+/* The version of this header. gltf_c_version puts out that of the library. */
+#define GLTF_C_VERSION "1.4.1+1"
 
 /* The statuses. Each call says which of them it returns. */
 enum {
@@ -44,6 +48,9 @@ gltf_c_returned gltf_c_check_by(const uint8_t *document, size_t document_len,
                                 const uint8_t *names, size_t names_len,
                                 bool empty_texture,
                                 uint8_t *output, size_t output_len);
+
+/* Puts out the version of the library (status 0), without a newline at its end. */
+gltf_c_returned gltf_c_version(uint8_t *output, size_t output_len);
 
 /* Writes a document anew, in one line without a newline at its end (status 0). Without output the
  * status is 2, 3, 4 or 5. Members that the format's table doesn't have are left out: docs/C.md. */

@@ -1,5 +1,5 @@
 -- What the calls return.
-use Rattle.std.specs.Prelude.{◌≡◌, ◌⊎◌, true, ℕ, Bool, List, Result, Ok, Err, ⊤, if◌then◌else◌}
+use Rattle.std.specs.Prelude.{◌≡◌, ◌⊎◌, true, ℕ, Bool, List, Result, Ok, Err, ⊤, if◌then◌else◌, codes}
 use Rattle.std.specs.Str.Lines.{lines}
 use Rattle.std.specs.Global.{Vec}
 use Rattle.gltf_schema.specs.Invalid.{holds_invalid}
@@ -53,3 +53,7 @@ rewrite_status (document t) = if holds_invalid t then 5 else 0
 -- a call wrote a document anew, as far as the buffer has room
 abbrev pub IsRewritten : Answer → List ℕ → List ℕ → ℕ → Type 0
 IsRewritten due old new needed = (bytes : List ℕ) × IsWritingOf due bytes × IsFilled bytes old new needed
+
+-- the version of the ported crate, and the number of the port
+abbrev pub version_output : Output
+version_output = record { text = codes "1.4.1+1"; status = 0 }

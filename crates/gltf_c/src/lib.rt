@@ -9,7 +9,7 @@
 ghost use Rattle.std.specs.Prelude.{◌≡◌, ◌≢◌, ◌≤◌, ◌⊎◌, [], IsUtf8};
 ghost use Rattle.gltf_root.specs.Answer.{answer, no_json, no_document};
 ghost use Rattle.gltf_validation_rules.specs.Context.{standard_rules};
-ghost use Rattle.gltf_c.specs.Calls.{IsChecked, given_rules, IsRewritten, IsUnwritable, rewrite_status};
+ghost use Rattle.gltf_c.specs.Calls.{IsChecked, IsGiven, given_rules, IsRewritten, IsUnwritable, rewrite_status, version_output};
 ghost use Rattle.gltf_c.specs.Filled.{IsFilled};
 
 use gltf_report_lines::Outcome;
@@ -26,6 +26,8 @@ mod work;
 pub use returned::Returned;
 use returned::{fill, refuse, tell};
 use work::{check, lines_in, rewritten};
+
+const VERSION: &str = "1.4.1+1";
 
 const WRITTEN: u8 = 0;
 
@@ -119,5 +121,17 @@ pub extern "C" fn gltf_c_rewrite(alloc: Global, document: &[u8], output: &mut [u
         Err(Error::Schema) => refuse(NOT_DOCUMENT),
         Err(Error::InvalidItem) => refuse(INVALID_ITEM),
         Err(_) => refuse(NO_MEMORY),
+    }
+}
+
+/// Puts out the version of the library, with the status 0: the version of `gltf-json`, then `+` and
+/// the number of the port.
+#[unsafe(no_mangle)]
+pub extern "C" fn gltf_c_version(output: &mut [u8]) -> Returned
+    ensures { IsGiven version_output output.old output.new result }
+{
+    Returned {
+        status: WRITTEN,
+        needed: fill(output, VERSION.as_bytes()),
     }
 }

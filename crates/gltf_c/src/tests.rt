@@ -1,7 +1,7 @@
 //! That the calls succeed with ample memory, and what buffers with little room hold then.
 
 use crate::returned::Returned;
-use crate::{gltf_c_check, gltf_c_check_by, gltf_c_rewrite};
+use crate::{gltf_c_check, gltf_c_check_by, gltf_c_rewrite, gltf_c_version};
 use std::alloc::Global;
 
 const CLEAN: &[u8] = b"{\"asset\": {\"version\": \"2.0\"}, \"nodes\": []}\n";
@@ -108,4 +108,11 @@ fn little_room_takes_the_first_bytes(rt: HostRuntime) {
     for room in [0, 1, REWRITTEN.len() - 1, REWRITTEN.len()] {
         assert!(rt; rewrites_as(alloc, CLEAN, room, 0, REWRITTEN), "{room}");
     }
+}
+
+#[test]
+fn the_version_is_put_out(rt: HostRuntime) {
+    let mut buffer = [b'.'; ROOM];
+    let returned = gltf_c_version(&mut buffer);
+    assert!(rt; is_put(returned, 0, &buffer, "1.4.1+1"));
 }

@@ -4,4 +4,3 @@ pub mod Numbers
 pub mod Components
 pub mod Indices
 pub mod Normalized
-pub mod Sparse

@@ -3,7 +3,6 @@
 //! a buffer, and where elements lie in them (`gltf_layout`).
 #![tactic(auto)]
 
-mod accessor;
 mod component;
 mod components;
 mod elements;
@@ -13,19 +12,14 @@ mod indices;
 mod iter;
 pub mod laws;
 mod normalized;
-mod sparse;
 #[cfg(test)]
 mod tests;
 
-pub use accessor::Accessor;
 pub use component::Component;
 pub use components::{Components, Floats, Integers};
 pub use elements::Elements;
-pub use fault::{
-    AccessorFault, ComponentsFault, ElementsFault, IndicesFault, SparseFault, VertexFault,
-};
+pub use fault::{ComponentsFault, ElementsFault, IndicesFault, VertexFault};
 pub use index_type::IndexType;
 pub use indices::{Indices, indices_are_vertices};
 pub use iter::ElementsIter;
 pub use normalized::Normalized;
-pub use sparse::Sparse;

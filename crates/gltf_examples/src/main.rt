@@ -5,6 +5,7 @@
 mod builder;
 mod checker;
 mod exporter;
+mod files;
 mod glb;
 mod linter;
 mod loader;
@@ -23,5 +24,7 @@ fn main(rt: HostRuntime) -> Result<()> {
     println!(rt; "# builder")?;
     builder::main(rt)?;
     println!(rt; "# linter")?;
-    linter::main(rt)
+    linter::main(rt)?;
+    println!(rt; "# files")?;
+    files::main(rt)
 }

@@ -9,7 +9,9 @@ pub use gltf_parts::extras::Extras;
 pub use gltf_parts::image::Image;
 pub use gltf_parts::material::Material;
 pub use gltf_parts::texture::Texture;
-pub use gltf_parts::{Error, Schema, Source, accessor, buffer, extras, image, material, texture};
+pub use gltf_parts::{
+    Error, Schema, Source, Strict, Strip, accessor, buffer, extras, image, material, texture,
+};
 pub use gltf_root::root::Root;
 pub use gltf_scene::animation::Animation;
 pub use gltf_scene::asset::Asset;
@@ -73,15 +75,17 @@ pub mod laws {
 pub mod root {
     pub use gltf_base::{Index, PushError};
     pub use gltf_io::{ByteIn, ByteOut, Failed, Watched};
-    pub use gltf_root::root::{Get, Mark, Place, Root, RootItem};
+    pub use gltf_root::root::{Found, Get, Mark, Nulls, Place, Root, RootItem, Spacing, Style};
 }
 
 /// Validation: the faults of a document, and reports of them.
 pub mod validation {
     pub use gltf_base::validation::{Checked, Error, USize64};
-    pub use gltf_sinks::{By, Collect, Count, Sink, Stop, Take};
+    pub use gltf_sinks::{By, Collect, Count, NoRefusal, Sink, Stop, Take};
     pub use gltf_validation::validation::Validate;
-    pub use gltf_validation_clean::{Clean, CleanError, Item, Refused, Report};
+    pub use gltf_validation_clean::{
+        Clean, CleanError, Item, Refused, Report, TopLevelItem, ValidateRoot,
+    };
     pub use gltf_validation_rules::Rules;
     pub use gltf_validation_walk::Walk;
 }

@@ -36,7 +36,10 @@ impl Layout {
         if let Some((view, fault)) = next_view_fault(document, 0) {
             return Err(LayoutError::Fault(StorageFault::View { view, fault }));
         }
-        let mut places = Vec::new(alloc);
+        let mut places = match Vec::with_capacity(alloc, document.accessor_count()) {
+            Ok(places) => places,
+            Err(error) => return Err(LayoutError::Memory(error)),
+        };
         for accessor in 0..document.accessor_count() {
             match place_of(document, &document.accessor(accessor)) {
                 Ok(place) => {

@@ -1,2 +1,3 @@
+pub mod Escaped
 pub mod Lines
 pub mod Status

@@ -8,6 +8,7 @@ use Rattle.gltf_base.specs.Text.{path_text}
 use Rattle.gltf_base.specs.Pointers.{pointer_text}
 use Rattle.gltf_sinks.specs.Report.{Report}
 use Rattle.gltf_io.specs.Device.{saturated}
+use Rattle.gltf_lint.specs.Escaped.{escaped}
 use Rattle.gltf_lint.specs.declared.arguments.Format.{Format}
 use Rattle.gltf_lint.specs.declared.arguments.Format.TheVariants.{Text, Json}
 use Rattle.gltf_lint.specs.declared.tally.Tally.{Tally}
@@ -16,7 +17,7 @@ use Rattle.gltf_lint.specs.declared.tally.Tally.{Tally}
 abbrev pub line : List ℕ → List ℕ
 line text = text ++ 10 ∷ []
 
--- a report of a file as JSON
+-- a report of a file as JSON, and as text. Text escapes control bytes, or a name could be read as a line
 abbrev pub report_data : List ℕ → Report → Data
 report_data file r = object (member (codes "code") (string (error_code r.error))
     (member (codes "file") (string file)
@@ -25,7 +26,7 @@ report_data file r = object (member (codes "code") (string (error_code r.error))
     (member (codes "pointer") (string (pointer_text r.steps)) no_members)))))
 
 abbrev pub report_line : Format → List ℕ → Report → List ℕ
-report_line Text file r = line (file ++ codes ": " ++ path_text r.steps ++ codes ": " ++ error_text r.error)
+report_line Text file r = line (escaped file ++ codes ": " ++ escaped (path_text r.steps) ++ codes ": " ++ error_text r.error)
 report_line Json file r = line (compact_text (report_data file r))
 
 -- that so many more reports are not printed
@@ -33,12 +34,12 @@ abbrev pub rest_data : List ℕ → ℕ → Data
 rest_data file rest = object (member (codes "file") (string file) (member (codes "more") (number (unsigned rest)) no_members))
 
 abbrev pub rest_line : Format → List ℕ → ℕ → List ℕ
-rest_line Text file rest = line (file ++ codes ": and " ++ decimal rest ++ codes " more")
+rest_line Text file rest = line (escaped file ++ codes ": and " ++ decimal rest ++ codes " more")
 rest_line Json file rest = line (compact_text (rest_data file rest))
 
 -- that a file is refused, as text
 abbrev pub refused_line : List ℕ → List ℕ → List ℕ
-refused_line file why = line (file ++ codes ": refused: " ++ why)
+refused_line file why = line (escaped file ++ codes ": refused: " ++ escaped why)
 
 -- the counts of all files, as JSON and as text
 abbrev pub summary_data : Tally → Data

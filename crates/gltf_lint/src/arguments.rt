@@ -71,7 +71,11 @@ pub fn command<'a>(alloc: Global) -> Result<Command<'a>, AllocError> {
             <FILE>... "A .gltf or .glb file, a folder of them, or - for standard input"
         ))?
         .arg(arg!(in alloc; --json "Print a JSON object for each report"))?
-        .arg(arg!(in alloc; --enable <NAME>... "An extension that documents may require"))?
+        .arg(
+            arg!(in alloc; --enable <NAMES>... "Documents may require these too: A,B").value_delimiter(
+                ',',
+            ),
+        )?
         .arg(arg!(in alloc; --"empty-textures" "Textures may be without an image"))?
         .arg(
             arg!(in alloc; --max <N> "Print at most N reports for a file").value_parser(

@@ -1,6 +1,8 @@
 //! Documents from the bytes of files.
 
+use crate::files::has_extension;
 use crate::refusal::Refusal;
+use crate::text::text_fault;
 use gltf_glb::Glb;
 use gltf_root::root::Root;
 use gltf_schema::Error;
@@ -10,7 +12,7 @@ use std::alloc::Global;
 /// The JSON of a file: that of its container if it has one, else all of its bytes. A file has a
 /// container if its name ends in `.glb` or if it begins as one.
 fn json_of<'a>(name: &str, bytes: &'a [u8]) -> Result<&'a [u8], Refusal> {
-    if !name.ends_with(".glb") && !bytes.starts_with(b"glTF") {
+    if !has_extension(name, ".glb") && !bytes.starts_with(b"glTF") {
         return Ok(bytes);
     }
     match Glb::from_slice(bytes) {
@@ -22,8 +24,29 @@ fn json_of<'a>(name: &str, bytes: &'a [u8]) -> Result<&'a [u8], Refusal> {
 /// Why a text that is no JSON is refused, with the place.
 fn json_refusal(alloc: Global, json: &[u8]) -> Refusal {
     match Value::from_slice(alloc, json) {
-        Err(error) if !error.is_memory() => Refusal::Json(error),
+        Err(error) if !error.is_memory() => {
+            let (line, column) = (error.line(), error.column());
+            match text_fault(json, line, column) {
+                Some(fault) => Refusal::Text {
+                    fault,
+                    line,
+                    column,
+                },
+                None => Refusal::Json(error),
+            }
+        }
         _ => Refusal::Memory,
+    }
+}
+
+/// Whether a document says that its version is 1, as `1.0`. Out of memory, it returns `false`.
+fn is_version_1(alloc: Global, json: &[u8]) -> bool {
+    match Value::from_slice(alloc, json) {
+        Ok(value) => match value.pointer("/asset/version").and_then(Value::as_str) {
+            Some(version) => version.starts_with("1."),
+            None => false,
+        },
+        Err(_) => false,
     }
 }
 
@@ -31,6 +54,7 @@ fn json_refusal(alloc: Global, json: &[u8]) -> Refusal {
 fn schema_refusal(alloc: Global, json: &[u8]) -> Refusal {
     match Root::refused_at(alloc, json) {
         Ok(Some(place)) if place.pointer.is_empty() => Refusal::Schema,
+        Ok(Some(place)) if is_version_1(alloc, json) => Refusal::Version1(place),
         Ok(Some(place)) => Refusal::Member(place),
         _ => Refusal::Memory,
     }

@@ -1,10 +1,11 @@
 //! What there is to check: files, and folders of files.
 
 use crate::refusal::Refusal;
+use gltf_base::Error as DocumentError;
 use gltf_io::{ByteIn, Watched, read_to_end_into};
 use std::alloc::{AllocError, Global};
 use std::collections::BTreeMap;
-use std::fs::DirEntry;
+use std::fs::{DirEntry, OpenFile};
 use std::{fs, io};
 
 /// The name that stands for standard input.
@@ -33,14 +34,30 @@ impl Kind {
     }
 
     /// What an entry of a folder names: a folder, or a file with the name of a document. A link to
-    /// a folder is not followed, or a folder could be checked inside itself.
-    fn of_entry(entry: &DirEntry) -> io::Result<Option<Kind>> {
-        let name = entry.file_name();
+    /// a folder is not followed, or a folder could be checked inside itself. A pipe or a device is
+    /// no file here, since reading it might not end.
+    fn of_entry(rt: &HostRuntime, entry: &DirEntry) -> io::Result<Option<Kind>> {
         if entry.file_type()?.is_dir() {
             return Ok(Some(Kind::Folder));
         }
-        let is_document = name.ends_with(".gltf") || name.ends_with(".glb");
-        Ok(is_document.then_some(Kind::File))
+        let name = entry.file_name();
+        let is_document = has_extension(name, ".gltf") || has_extension(name, ".glb");
+        Ok((is_document && may_be_read(rt, entry)).then_some(Kind::File))
+    }
+}
+
+/// Whether a name ends so, in capitals or not.
+pub fn has_extension(name: &str, extension: &str) -> bool {
+    let at = name.len().saturating_sub(extension.len());
+    name.as_bytes()[at..].eq_ignore_ascii_case(extension.as_bytes())
+}
+
+/// Whether an entry is a regular file, or a link to one. A link to nothing is read, and so it is
+/// refused by its name.
+fn may_be_read(rt: &HostRuntime, entry: &DirEntry) -> bool {
+    match fs::metadata(rt, entry.path()) {
+        Ok(metadata) => metadata.is_file(),
+        Err(_) => true,
     }
 }
 
@@ -58,7 +75,7 @@ impl Entries {
         let mut found = BTreeMap::new(alloc);
         let mut errors = Vec::new(alloc);
         for entry in fs::read_dir(rt, folder)? {
-            match entry.and_then(|entry| Ok((Kind::of_entry(&entry)?, entry))) {
+            match entry.and_then(|entry| Ok((Kind::of_entry(rt, &entry)?, entry))) {
                 Ok((Some(kind), entry)) => {
                     found.insert(String::from_str(alloc, entry.path().as_str())?, kind)?;
                 }
@@ -93,9 +110,15 @@ impl Buffers {
         if path == STANDARD_INPUT {
             return self.read_all(&mut Watched::new(rt.reader()));
         }
-        match fs::open(rt, path) {
-            Ok(file) => self.read_all(&mut Watched::new(file)),
-            Err(error) => Err(Refusal::Unreadable(error)),
+        let file = match fs::open(rt, path) {
+            Ok(file) => file,
+            Err(error) => return Err(Refusal::Unreadable(error)),
+        };
+        match file.metadata() {
+            Ok(metadata) if metadata.len() > MOST_BYTES => {
+                Err(Refusal::Unread(DocumentError::TooLong))
+            }
+            _ => self.read_all(&mut Watched::new(file)),
         }
     }
 

@@ -5,9 +5,10 @@ use crate::document::document_of;
 use crate::files::{Buffers, Entries, Kind};
 use crate::lines::{Found, found_in};
 use crate::messages::{refusal_line, summary_line};
-use crate::refusal::Refusal;
+use crate::refusal::{Refusal, entry_refusal};
 use crate::tally::Tally;
-use anyhow::Result;
+use crate::words::NOT_UTF8;
+use std::io;
 
 /// What is still to be checked, and what was found so far.
 #[derive(Drop)]
@@ -21,7 +22,7 @@ pub struct Linter<'a> {
 }
 
 impl<'a> Linter<'a> {
-    pub fn new(rt: &'a HostRuntime, options: Options<'a>) -> Result<Linter<'a>> {
+    pub fn new(rt: &'a HostRuntime, options: Options<'a>) -> io::Result<Linter<'a>> {
         Ok(Linter {
             rt,
             options,
@@ -32,7 +33,7 @@ impl<'a> Linter<'a> {
     }
 
     /// Checks what these arguments name, in their order, and prints the reports.
-    pub fn check_all(&mut self, names: &[&str]) -> Result<()> {
+    pub fn check_all(&mut self, names: &[&str]) -> io::Result<()> {
         for name in names {
             self.check_argument(name)?;
         }
@@ -41,7 +42,10 @@ impl<'a> Linter<'a> {
 
     /// Checks the file or the folder that an argument names. A folder without a document, here or
     /// below, is refused.
-    fn check_argument(&mut self, name: &str) -> Result<()> {
+    fn check_argument(&mut self, name: &str) -> io::Result<()> {
+        if let Some(name) = name.strip_suffix(NOT_UTF8) {
+            return self.refuse(name, &Refusal::Argument);
+        }
         let kind = Kind::of_argument(self.rt, name);
         let before = self.tally.files;
         let path = String::from_str(self.rt.alloc(), name)?;
@@ -60,18 +64,18 @@ impl<'a> Linter<'a> {
     }
 
     /// Prints the summary, and returns the exit status.
-    pub fn finish(&self) -> Result<u8> {
+    pub fn finish(&self) -> io::Result<u8> {
         let line = summary_line(self.rt.alloc(), self.options.format, &self.tally)?;
         self.rt.print(line.as_str())?;
         Ok(self.tally.status())
     }
 
     /// Puts what is in a folder in front, in order of names.
-    fn expand(&mut self, folder: &str) -> Result<()> {
+    fn expand(&mut self, folder: &str) -> io::Result<()> {
         match Entries::of(self.rt, folder) {
             Ok(entries) => {
                 for error in entries.errors {
-                    self.refuse(folder, &Refusal::Unreadable(error))?;
+                    self.refuse(folder, &entry_refusal(error))?;
                 }
                 for entry in entries.found.into_iter().rev() {
                     self.waiting.push(entry)?;
@@ -83,7 +87,7 @@ impl<'a> Linter<'a> {
     }
 
     /// Checks a file, and prints its reports.
-    fn check(&mut self, path: &str) -> Result<()> {
+    fn check(&mut self, path: &str) -> io::Result<()> {
         match self.found(path) {
             Ok(found) => {
                 self.rt.print(found.lines.as_str())?;
@@ -103,7 +107,7 @@ impl<'a> Linter<'a> {
     }
 
     /// Prints why a path is refused.
-    fn refuse(&mut self, path: &str, refusal: &Refusal) -> Result<()> {
+    fn refuse(&mut self, path: &str, refusal: &Refusal) -> io::Result<()> {
         let line = refusal_line(self.rt.alloc(), self.options.format, path, refusal)?;
         self.rt.print(line.as_str())?;
         self.tally.add_refused();

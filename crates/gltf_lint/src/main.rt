@@ -3,6 +3,7 @@
 
 mod arguments;
 mod document;
+mod escape;
 mod files;
 mod lines;
 mod lint;
@@ -10,17 +11,19 @@ mod messages;
 mod refusal;
 mod reports;
 mod tally;
+mod text;
+mod words;
 
-use anyhow::Result;
 use arguments::{Options, command, enabled_extensions};
 use clap::ArgMatches;
 use lint::Linter;
-use std::env;
+use std::io::{self, ErrorKind};
 use std::process::ExitCode;
 use tally::REFUSED;
+use words::words;
 
 /// Checks what the arguments name, prints a summary and returns the exit status.
-fn check(rt: &HostRuntime, matches: &ArgMatches<'_>) -> Result<u8> {
+fn check(rt: &HostRuntime, matches: &ArgMatches<'_>) -> io::Result<u8> {
     let enabled = enabled_extensions(rt.alloc(), matches)?;
     let mut linter = Linter::new(rt, Options::of(matches, &enabled))?;
     linter.check_all(matches.get_strs("FILE").unwrap_or(&[]))?;
@@ -28,9 +31,9 @@ fn check(rt: &HostRuntime, matches: &ArgMatches<'_>) -> Result<u8> {
 }
 
 /// Reads the arguments and does what they say.
-fn run(rt: &HostRuntime) -> Result<u8> {
+fn run(rt: &HostRuntime) -> io::Result<u8> {
     let alloc = rt.alloc();
-    let words: Vec<String> = env::args(rt)?.collect(alloc)?;
+    let words = words(rt)?;
     match command(alloc)?.try_get_matches_from(words.as_slice()) {
         Ok(matches) => check(rt, &matches),
         Err(error) => {
@@ -44,8 +47,11 @@ fn main(rt: HostRuntime) -> ExitCode {
     match run(&rt) {
         Ok(status) => ExitCode::from(status),
         Err(error) => {
-            // There is nothing left to do if this fails too.
-            let _ = eprintln!(rt; "gltf_lint: {error:#}");
+            // Who closes the output early, as `head` does, wants no message.
+            if error.kind() != ErrorKind::BrokenPipe {
+                // There is nothing left to do if this fails too.
+                let _ = eprintln!(rt; "gltf_lint: {error}");
+            }
             ExitCode::from(REFUSED)
         }
     }

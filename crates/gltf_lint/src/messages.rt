@@ -5,6 +5,7 @@ ghost use Rattle.serde_json.specs.View.{view};
 ghost use Rattle.gltf_lint.specs.Lines.{refused_line, summary_data, summary_text};
 
 use crate::arguments::Format;
+use crate::escape::escaped;
 use crate::refusal::Refusal;
 use crate::reports::push_value;
 use crate::tally::Tally;
@@ -32,10 +33,12 @@ fn refusal_value(alloc: Global, file: &str, refusal: &Refusal) -> Result<Value, 
 }
 
 /// Appends the text for a file that is refused.
-fn push_refused(lines: &mut String, file: &str, why: &str) -> Result<(), AllocError>
+fn push_refused(alloc: Global, lines: &mut String, file: &str, why: &str) -> Result<(), AllocError>
     ensures { OnOk result (string_bytes lines.new
         ≡ string_bytes lines.old ++ refused_line file.now why.now) }
 {
+    let file = escaped(alloc, file)?;
+    let why = escaped(alloc, why)?;
     writeln!(lines, "{file}: refused: {why}")
 }
 
@@ -48,7 +51,7 @@ pub fn refusal_line(
 ) -> Result<String, AllocError> {
     let mut line = String::new(alloc);
     match format {
-        Format::Text => push_refused(&mut line, file, &refusal.to_string(alloc)?)?,
+        Format::Text => push_refused(alloc, &mut line, file, &refusal.to_string(alloc)?)?,
         Format::Json => push_value(alloc, &mut line, &refusal_value(alloc, file, refusal)?)?,
     }
     Ok(line)

@@ -8,6 +8,7 @@ ghost use Rattle.gltf_sinks.specs.Report.{report};
 ghost use Rattle.gltf_lint.specs.Lines.{line, report_data, report_line, rest_data, rest_line};
 
 use crate::arguments::Format;
+use crate::escape::escaped;
 use gltf_base::validation::Error;
 use gltf_base::{Path, Steps};
 use serde_json::{Value, json};
@@ -56,7 +57,8 @@ pub fn push_report(
 {
     match format {
         Format::Text => {
-            let path = Path::of(alloc, steps)?;
+            let file = escaped(alloc, file)?;
+            let path = escaped(alloc, Path::of(alloc, steps)?.as_str())?;
             writeln!(lines, "{file}: {path}: {error}")
         }
         Format::Json => push_value(alloc, lines, &report_value(alloc, file, steps, error)?),
@@ -82,7 +84,10 @@ pub fn push_rest(
         ++ rest_line format file.now rest) }
 {
     match format {
-        Format::Text => writeln!(lines, "{file}: and {rest} more"),
+        Format::Text => {
+            let file = escaped(alloc, file)?;
+            writeln!(lines, "{file}: and {rest} more")
+        }
         Format::Json => push_value(alloc, lines, &rest_value(alloc, file, rest)?),
     }
 }

@@ -1,3 +1,4 @@
 pub mod Documents
 pub mod Rooted
 pub mod Spans
+pub mod Reading

@@ -1,4 +1,9 @@
+pub mod Attributes
+pub mod Buffers
 pub mod Documents
+pub mod Glb
 pub mod Named
+pub mod Read
 pub mod Roots
 pub mod Spans
+pub mod Transforms

@@ -1,5 +1,6 @@
 //! Why the elements of an accessor are not found.
 
+use gltf_accessors::AccessFault;
 use gltf_layout::Misfit;
 use thiserror::Error;
 
@@ -27,4 +28,23 @@ pub enum LayoutFault {
     /// The accessor doesn't fit its view, or the view its buffer.
     #[error("{0}")]
     Misfit(Misfit),
+}
+
+/// Why an accessor of a document is not read.
+#[derive(Clone, Copy, Debug, PartialEq, Eq, Error)]
+pub enum ReadFault {
+    /// The document has no such accessor.
+    #[error("there is no accessor {accessor}")]
+    NoSuchAccessor {
+        /// The number that is no accessor's.
+        accessor: u32,
+    },
+    /// The accessor has another format, or its data is not what it says.
+    #[error("accessor {accessor}: {fault}")]
+    Accessor {
+        /// The number of the accessor.
+        accessor: u32,
+        /// What is wrong with it.
+        fault: AccessFault,
+    },
 }

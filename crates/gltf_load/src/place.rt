@@ -1,12 +1,14 @@
 //! Where the elements of an accessor lie.
 
-ghost use Rattle.std.specs.Prelude.{◌≡◌, Some, None, Ok, IfOk, IfErr, option_map};
+ghost use Rattle.std.specs.Prelude.{◌≡◌, Some, None, Ok, IfOk, IfErr, IfSome, option_map};
 ghost use Rattle.gltf_layout.specs.declared.span.Span.{Span};
-ghost use Rattle.gltf_load.specs.Spans.{IsPlace, LieIn, IsLayoutFault, IsAccessorLayout, IsChoiceFault, offset_or_0, view_layout};
+ghost use Rattle.gltf_load.specs.Spans.{IsPlace, LieIn, IsLayoutFault, IsAccessorLayout, IsChoiceFault, HasValidChoices, offset_or_0, view_layout};
+ghost use Rattle.gltf_layout.specs.declared.span.AccessorLayout.{AccessorLayout};
+ghost use Rattle.gltf_layout.specs.Fits.{size_of};
 
 use crate::fault::LayoutFault;
 use gltf_base::validation::{Checked, USize64};
-use gltf_layout::{AccessorLayout, Span, ViewLayout};
+use gltf_layout::{AccessorLayout, Span, ViewLayout, element_size};
 use gltf_parts::accessor::Accessor;
 use gltf_parts::buffer::{Buffer, Stride, View};
 
@@ -50,6 +52,19 @@ pub fn span_of(
     match Span::of(&layout, &view_layout(view), buffer.byte_length.0) {
         Ok(span) => Ok(Some(span)),
         Err(misfit) => Err(LayoutFault::Misfit(misfit)),
+    }
+}
+
+/// Returns the size of an element of an accessor in bytes, with the padding of matrix columns (glTF
+/// 2.0, section 3.6.2.4). `None` if its component type or its type is invalid.
+pub fn element_size_of(accessor: &Accessor) -> Option<u64>
+    ensures size { IfSome result (λ size. (l : AccessorLayout) × IsAccessorLayout accessor.now l
+        × (size ≡ size_of l)) }
+    ensures none { result ≡ None → HasValidChoices accessor.now → ⊥ }
+{
+    match accessor_layout(accessor) {
+        Ok(layout) => Some(element_size(layout.type_, layout.component_type)),
+        Err(_) => None,
     }
 }
 

@@ -2,6 +2,7 @@
 -- crates/gltf_parts/src/accessor/sparse.rt and crates/gltf_parts/src/accessor.rt. Do not edit.
 use Rattle.gltf_parts.specs.Accessor.{accessor_kind, accessor_rows, sparse_indices_kind, sparse_indices_rows, sparse_kind, sparse_rows, sparse_values_kind, sparse_values_rows}
 use Rattle.gltf_schema.specs.Height.{IsHigh}
+use Rattle.gltf_schema.specs.Nulls.{without_nulls}
 use Rattle.gltf_schema.specs.Sound.{is_sound}
 use Rattle.std.specs.Prelude.{refl, true, ◌≡◌}
 
@@ -20,6 +21,10 @@ sparse_sound = rw (sparse_indices_sound, sparse_values_sound) refl
 pub accessor_sound : is_sound accessor_kind ≡ true
 unfolding accessor_rows
 accessor_sound = rw sparse_sound refl
+
+pub accessor_no_nulls : without_nulls accessor_kind ≡ accessor_kind
+unfolding accessor_rows sparse_rows sparse_indices_rows sparse_values_rows
+accessor_no_nulls = refl
 
 pub sparse_indices_height : IsHigh 1 sparse_indices_kind
 unfolding sparse_indices_rows

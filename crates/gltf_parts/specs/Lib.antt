@@ -10,3 +10,4 @@ pub mod MaterialExtension
 pub mod MaterialExtensionDerived
 pub mod Material
 pub mod MaterialDerived
+pub mod Textures

@@ -4,6 +4,7 @@ use Rattle.gltf_parts.specs.Material.{material_kind, material_rows, normal_textu
 use Rattle.gltf_parts.specs.MaterialExtensionDerived.{material_extension_height, material_extension_sound}
 use Rattle.gltf_parts.specs.TextureDerived.{info_height, info_sound}
 use Rattle.gltf_schema.specs.Height.{IsHigh}
+use Rattle.gltf_schema.specs.Nulls.{without_nulls}
 use Rattle.gltf_schema.specs.Sound.{is_sound}
 use Rattle.std.specs.Prelude.{refl, true, ◌≡◌}
 
@@ -15,9 +16,17 @@ pub normal_texture_sound : is_sound normal_texture_kind ≡ true
 unfolding normal_texture_rows
 normal_texture_sound = refl
 
+pub normal_texture_no_nulls : without_nulls normal_texture_kind ≡ normal_texture_kind
+unfolding normal_texture_rows
+normal_texture_no_nulls = refl
+
 pub occlusion_texture_sound : is_sound occlusion_texture_kind ≡ true
 unfolding occlusion_texture_rows
 occlusion_texture_sound = refl
+
+pub occlusion_texture_no_nulls : without_nulls occlusion_texture_kind ≡ occlusion_texture_kind
+unfolding occlusion_texture_rows
+occlusion_texture_no_nulls = refl
 
 pub material_sound : is_sound material_kind ≡ true
 unfolding material_rows pbr_metallic_roughness_rows

@@ -9,6 +9,7 @@
 use Rattle.gltf_parts.specs.MaterialExtension.{emissive_strength_kind, emissive_strength_rows, ior_kind, ior_rows, material_extension_rows, material_extensions_kind, pbr_specular_glossiness_kind, pbr_specular_glossiness_rows, specular_kind, specular_rows, transmission_kind, transmission_rows, unlit_height, volume_kind, volume_rows}
 use Rattle.gltf_parts.specs.TextureDerived.{info_height, info_sound}
 use Rattle.gltf_schema.specs.Height.{IsFlat, IsHigh}
+use Rattle.gltf_schema.specs.Nulls.{without_nulls}
 use Rattle.gltf_schema.specs.Sound.{is_sound}
 use Rattle.std.specs.Prelude.{refl, true, ◌≡◌}
 
@@ -32,9 +33,17 @@ pub ior_sound : is_sound ior_kind ≡ true
 unfolding ior_rows
 ior_sound = refl
 
+pub ior_no_nulls : without_nulls ior_kind ≡ ior_kind
+unfolding ior_rows
+ior_no_nulls = refl
+
 pub emissive_strength_sound : is_sound emissive_strength_kind ≡ true
 unfolding emissive_strength_rows
 emissive_strength_sound = refl
+
+pub emissive_strength_no_nulls : without_nulls emissive_strength_kind ≡ emissive_strength_kind
+unfolding emissive_strength_rows
+emissive_strength_no_nulls = refl
 
 pub material_extension_sound : is_sound material_extensions_kind ≡ true
 unfolding material_extension_rows

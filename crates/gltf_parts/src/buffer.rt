@@ -15,7 +15,9 @@ pub use gltf_base::buffer::{
 };
 use gltf_base::validation::{Checked, USize64};
 use gltf_base::{Index, Listed};
-use gltf_schema::{Error, Refusal, Schema, Source, Stream, Tabled, Unread, whole_or_refused};
+use gltf_schema::{
+    Error, Refusal, Schema, Source, Stream, Strip, Tabled, Unread, whole_or_refused,
+};
 use json::Token;
 use serde_json::Value;
 use std::alloc::Global;
@@ -50,6 +52,8 @@ impl Schema for Stride {
     fn encode(&self, _alloc: Global) -> Result<Value, Error> {
         Ok(Value::from(self.0))
     }
+
+    fn strip(&mut self, _what: Strip) {}
 }
 
 /// Binary data, in a file or in its URI (glTF 2.0, section 5.10).

@@ -13,7 +13,7 @@ use crate::extensions;
 use crate::extras::Extras;
 pub use gltf_base::image::VALID_MIME_TYPES;
 use gltf_base::{Index, Listed};
-use gltf_schema::{Error, Refusal, Schema, Source, Stream, Tabled, Unread};
+use gltf_schema::{Error, Refusal, Schema, Source, Stream, Strip, Tabled, Unread};
 use json::Token;
 use serde_json::Value;
 use std::alloc::Global;
@@ -48,6 +48,8 @@ impl Schema for MimeType {
     fn encode(&self, alloc: Global) -> Result<Value, Error> {
         self.0.encode(alloc)
     }
+
+    fn strip(&mut self, _what: Strip) {}
 }
 
 /// Image data, in a buffer view or at a URI (glTF 2.0, section 5.18).

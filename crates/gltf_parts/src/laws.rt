@@ -4,10 +4,10 @@ ghost use Rattle.std.specs.Prelude.{◌≡◌, ◌==◌};
 
 use crate::buffer::Stride;
 pub use gltf_schema::laws::{
-    keys_have_the_indexes_of_their_last_names, read_trees_are_plain,
-    read_trees_are_refused_where_invalid, trees_of_a_kind_are_refused_where_invalid,
-    values_are_refused_at_one_place, written_trees_are_read_back,
-    written_trees_hold_nothing_invalid,
+    keys_have_the_indexes_of_their_last_names, kinds_without_nulls_read_the_same,
+    read_trees_are_plain, read_trees_are_refused_where_invalid,
+    trees_of_a_kind_are_refused_where_invalid, values_are_refused_at_one_place,
+    written_trees_are_read_back, written_trees_hold_nothing_invalid,
 };
 use std::hash::Hash;
 

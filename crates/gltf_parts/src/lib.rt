@@ -12,5 +12,6 @@ pub mod texture;
 
 pub use gltf_schema::{
     DroppedExtensions, Error, KeptExtensions, Object, Omittable, OwnedStep, Printing, ReadRows,
-    Reading, Refusal, Schema, Source, Stream, Tabled, Tokens, Unlisted, Unread, WriteRows, Writing,
+    Reading, Refusal, Schema, Source, Stream, Strict, StrictObject, StrictRows, Strip, Tabled,
+    Tokens, Unlisted, Unread, WriteRows, Writing,
 };

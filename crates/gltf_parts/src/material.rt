@@ -15,7 +15,7 @@ use crate::texture::{Info, Texture};
 pub use gltf_base::material::{AlphaMode, VALID_ALPHA_MODES};
 use gltf_base::validation::Checked;
 use gltf_base::{Index, Listed, Real};
-use gltf_schema::{Error, Refusal, Schema, Source, Stream, Tabled, Unread};
+use gltf_schema::{Error, Refusal, Schema, Source, Stream, Strip, Tabled, Unread};
 use json::Token;
 use serde_json::Value;
 use std::alloc::Global;
@@ -287,6 +287,8 @@ impl Schema for AlphaCutoff {
     fn encode(&self, alloc: Global) -> Result<Value, Error> {
         self.0.encode(alloc)
     }
+
+    fn strip(&mut self, _what: Strip) {}
 }
 
 /// An emissive factor: red, green, blue; `None` means zeros.
@@ -308,5 +310,6 @@ impl PbrBaseColorFactor {
 }
 
 mod strength;
+mod textures;
 
 pub use strength::StrengthFactor;

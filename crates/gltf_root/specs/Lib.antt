@@ -10,7 +10,9 @@ pub mod ItemTrees
 pub mod Answer
 pub mod Decoded
 pub mod Place
+pub mod FoundText
 pub mod Written
+pub mod Styled
 pub mod Rewritten
 pub mod RootDerived
 pub mod RootExtensionDerived

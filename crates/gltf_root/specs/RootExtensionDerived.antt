@@ -1,8 +1,10 @@
 -- Written by tools/derive.py from crates/gltf_root/specs/RootExtension.antt and
 -- crates/gltf_root/src/extensions/root.rt. Do not edit.
 use Rattle.gltf_root.specs.RootExtension.{lights_kind, lights_rows, root_extension_rows, root_extensions_kind, variants_kind, variants_rows}
+use Rattle.gltf_scene.specs.Light.{light_rows, spot_rows, variant_rows}
 use Rattle.gltf_scene.specs.LightDerived.{light_height, light_sound, variant_height, variant_sound}
 use Rattle.gltf_schema.specs.Height.{IsFlat, IsHigh}
+use Rattle.gltf_schema.specs.Nulls.{without_nulls}
 use Rattle.gltf_schema.specs.Sound.{is_sound}
 use Rattle.std.specs.Prelude.{refl, true, ◌≡◌}
 
@@ -17,6 +19,10 @@ variants_sound = rw variant_sound refl
 pub root_extension_sound : is_sound root_extensions_kind ≡ true
 unfolding root_extension_rows
 root_extension_sound = rw (lights_sound, variants_sound) refl
+
+pub root_extension_no_nulls : without_nulls root_extensions_kind ≡ root_extensions_kind
+unfolding root_extension_rows lights_rows variants_rows light_rows variant_rows spot_rows
+root_extension_no_nulls = refl
 
 pub lights_height : IsHigh 3 lights_kind
 unfolding lights_rows

@@ -3,6 +3,7 @@
 #![tactic(auto)]
 
 pub mod extensions;
+mod found;
 pub mod laws;
 pub mod root;
 mod text;

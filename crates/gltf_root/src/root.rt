@@ -27,11 +27,15 @@ mod mark;
 mod parse;
 mod print;
 mod refused;
+mod strip;
+mod style;
 mod top_level;
 
+pub use crate::found::Found;
 pub use crate::text::Place;
 pub use get::{Get, RootItem};
 pub use mark::Mark;
+pub use style::{Nulls, Spacing, Style};
 pub use top_level::TopLevel;
 
 /// A whole document (glTF 2.0, section 5.17).

@@ -6,8 +6,9 @@ ghost use Rattle.gltf_base.specs.Steps.{step_of};
 ghost use Rattle.gltf_schema.specs.Read.{read};
 ghost use Rattle.gltf_schema.specs.RowPlacing.{owned_step};
 ghost use Rattle.gltf_root.specs.Decoded.{IsDecoded};
-ghost use Rattle.gltf_root.specs.Place.{IsAtEnd, IsPlaceIn};
+ghost use Rattle.gltf_root.specs.Place.{IsAtEnd, IsPlaceIn, IsFoundIn, IsJsonIn};
 
+use crate::found::Found;
 use gltf_base::Path;
 use gltf_base::path::Step;
 use gltf_schema::{Error, OwnedStep, Refusal, Schema, read_text};
@@ -90,5 +91,37 @@ pub fn refused_in_text<T: Schema>(alloc: Global, text: &str) -> Result<Option<Pl
         Ok(_) => Ok(None),
         Err(Refusal::At(steps)) => Ok(Some(Place::of(alloc, &steps)?)),
         Err(Refusal::Memory(refused)) => Err(Error::Memory(refused)),
+    }
+}
+
+/// Returns the same place, and what is there. It reads the text twice.
+pub(crate) fn found_in_text<T: Schema>(
+    alloc: Global,
+    text: &str,
+) -> Result<Option<(Place, Found)>, Error>
+    ensures { IsFoundIn T.kind text.now result }
+{
+    match refused_in_text::<T>(alloc, text) {
+        Ok(Some(place)) => match json_in(alloc, text) {
+            Ok(value) => {
+                let found = Found::of(value.pointer(place.pointer.as_str()));
+                Ok(Some((place, found)))
+            }
+            Err(e) => Err(e),
+        },
+        Ok(None) => Ok(None),
+        Err(e) => Err(e),
+    }
+}
+
+/// Returns the value of a text. Fails with `Json` if it is no JSON, and with `Memory` if out of
+/// memory.
+fn json_in(alloc: Global, text: &str) -> Result<Value, Error>
+    ensures { IsJsonIn text.now result }
+{
+    match Value::from_str(alloc, text) {
+        Ok(value) => Ok(value),
+        Err(e) if e.is_memory() => Err(Error::Memory(AllocError)),
+        Err(_) => Err(Error::Json),
     }
 }

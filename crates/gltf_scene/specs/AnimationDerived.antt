@@ -2,6 +2,7 @@
 -- crates/gltf_scene/src/animation.rt. Do not edit.
 use Rattle.gltf_scene.specs.Animation.{animation_channel_kind, animation_channel_rows, animation_kind, animation_rows, animation_sampler_kind, animation_sampler_rows, animation_target_kind, animation_target_rows}
 use Rattle.gltf_schema.specs.Height.{IsHigh}
+use Rattle.gltf_schema.specs.Nulls.{without_nulls}
 use Rattle.gltf_schema.specs.Sound.{is_sound}
 use Rattle.std.specs.Prelude.{refl, true, ◌≡◌}
 
@@ -20,6 +21,10 @@ animation_channel_sound = rw animation_target_sound refl
 pub animation_sound : is_sound animation_kind ≡ true
 unfolding animation_rows
 animation_sound = rw (animation_sampler_sound, animation_channel_sound) refl
+
+pub animation_no_nulls : without_nulls animation_kind ≡ animation_kind
+unfolding animation_rows animation_sampler_rows animation_channel_rows animation_target_rows
+animation_no_nulls = refl
 
 pub animation_sampler_height : IsHigh 1 animation_sampler_kind
 unfolding animation_sampler_rows

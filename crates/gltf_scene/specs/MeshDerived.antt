@@ -2,6 +2,7 @@
 -- crates/gltf_scene/src/extensions/mesh.rt and crates/gltf_scene/src/mesh.rt. Do not edit.
 use Rattle.gltf_scene.specs.Mesh.{mesh_kind, mesh_rows, morph_target_kind, morph_target_rows, primitive_extension_rows, primitive_extensions_kind, primitive_kind, primitive_rows, variant_mapping_kind, variant_mapping_rows, variant_mappings_kind, variant_mappings_rows}
 use Rattle.gltf_schema.specs.Height.{IsFlat, IsHigh}
+use Rattle.gltf_schema.specs.Nulls.{without_nulls}
 use Rattle.gltf_schema.specs.Sound.{is_sound}
 use Rattle.std.specs.Prelude.{refl, true, ◌≡◌}
 
@@ -28,6 +29,10 @@ primitive_sound = rw (primitive_extension_sound, morph_target_sound) refl
 pub mesh_sound : is_sound mesh_kind ≡ true
 unfolding mesh_rows
 mesh_sound = rw primitive_sound refl
+
+pub mesh_no_nulls : without_nulls mesh_kind ≡ mesh_kind
+unfolding mesh_rows primitive_rows primitive_extension_rows morph_target_rows variant_mappings_rows variant_mapping_rows
+mesh_no_nulls = refl
 
 pub variant_mapping_height : IsFlat variant_mapping_kind
 unfolding variant_mapping_rows

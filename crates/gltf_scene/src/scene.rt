@@ -15,7 +15,7 @@ use crate::mesh::Mesh;
 use crate::skin::Skin;
 use gltf_base::{Index, Listed, Real};
 use gltf_parts::extras::Extras;
-use gltf_schema::{Error, Refusal, Schema, Source, Stream, Tabled, Unread};
+use gltf_schema::{Error, Refusal, Schema, Source, Stream, Strip, Tabled, Unread};
 use json::Token;
 use serde_json::Value;
 use std::alloc::Global;
@@ -212,4 +212,6 @@ impl Schema for UnitQuaternion {
     fn encode(&self, alloc: Global) -> Result<Value, Error> {
         self.0.encode(alloc)
     }
+
+    fn strip(&mut self, _what: Strip) {}
 }

@@ -10,6 +10,7 @@ pub mod OneRowPlaced
 pub mod Putting
 pub mod RowsPut
 pub mod RowsWritten
+pub mod RowsStripped
 pub mod PuttingIn
 pub mod AttributesBack
 pub mod ReadBack
@@ -30,6 +31,8 @@ pub mod ByName
 pub mod RowSteps
 pub mod RowsPrinted
 pub mod ObjectPrinted
+pub mod NullsLeftOut
+pub mod NullFreeRows
 pub mod RowPrinting
 pub mod OthersPut
 pub mod Turns

@@ -3,6 +3,7 @@ pub mod Tree
 pub mod Kind
 pub mod Read
 pub mod Write
+pub mod Nulls
 pub mod Put
 pub mod Plain
 pub mod Invalid
@@ -15,6 +16,8 @@ pub mod Attributes
 pub mod Taken
 pub mod RowReading
 pub mod Streamed
+pub mod Stripped
+pub mod RowStripping
 pub mod KindsStreamedAlike
 pub mod KindsReadAlike
 pub mod Writings

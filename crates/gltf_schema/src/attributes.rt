@@ -17,6 +17,7 @@ use crate::placing::{OwnedStep, Refusal};
 use crate::schema::Schema;
 use crate::source::Source;
 use crate::stream::{Stream, Unread};
+use crate::stripping::Strip;
 use crate::tabled::Tabled;
 use gltf_base::mesh::Semantic;
 use gltf_base::validation::Checked;
@@ -72,6 +73,8 @@ impl<P: Names> Schema for BTreeMap<Checked<Semantic>, IndexTo<P>> {
     fn encode(&self, alloc: Global) -> Result<Value, Error> {
         Ok(Value::Object(encode_entries(alloc, self)?))
     }
+
+    fn strip(&mut self, _what: Strip) {}
 }
 
 /// Each member's index under the key that its name means; of names with one key the last one's

@@ -16,6 +16,7 @@ ghost use Rattle.gltf_schema.specs.OfKind.{is_of_kind};
 ghost use Rattle.gltf_schema.specs.Read.{read};
 ghost use Rattle.gltf_schema.specs.Refused.{IsRefusedAt};
 ghost use Rattle.gltf_schema.specs.Write.{write};
+ghost use Rattle.gltf_schema.specs.Nulls.{without_nulls};
 
 /// What a sound kind reads is plain.
 pub fn read_trees_are_plain()
@@ -68,4 +69,15 @@ pub fn values_are_refused_at_one_place()
         → read kind d ≡ None }
     ensures unique { (kind : Kind) (d : Data) (steps others : List Step)
         → IsRefusedAt steps kind d → IsRefusedAt others kind d → steps ≡ others }
+{}
+
+/// A kind without nulls reads what the kind reads. A plain tree that is written without nulls is
+/// read back as that tree, and a tree is refused for writing without nulls if and only if it is
+/// refused with them.
+pub fn kinds_without_nulls_read_the_same()
+    ensures reads { (kind : Kind) (d : Data) → read (without_nulls kind) d ≡ read kind d }
+    ensures reads_back { (kind : Kind) (t : Tree) (d : Data) → is_sound kind ≡ true
+        → is_plain kind t ≡ true → write (without_nulls kind) t ≡ Some d → read kind d ≡ Some t }
+    ensures refused { (kind : Kind) (t : Tree) → (write (without_nulls kind) t ≡ None)
+        ↔ (write kind t ≡ None) }
 {}

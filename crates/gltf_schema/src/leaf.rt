@@ -1,27 +1,19 @@
-//! Kinds without rows.
+//! Kinds without rows, but for lists.
 
-ghost use Rattle.std.specs.Prelude.{◌≡◌, ◌∷◌, OnOk, IfOk, map, option_map, refl, is_some, IfErr, IsTrue};
-ghost use Rattle.json.specs.Token.{begin_array};
-ghost use Rattle.serde_json.specs.Find.{as_array};
-ghost use Rattle.serde_json.specs.Data.{array};
-ghost use Rattle.serde_json.specs.View.{view, items_view};
-ghost use Rattle.gltf_schema.specs.Tree.{whole, truth, trees, list};
-ghost use Rattle.gltf_schema.specs.Kind.{IndexInto, U32, U64, Number, Numbers, Text, Truth, Any, ListOf};
-ghost use Rattle.gltf_schema.specs.Read.{read, read_items, small_number as number_of_32_bits};
-ghost use Rattle.gltf_schema.specs.Fields.{any_tree, index_tree, list_tree, real_tree, reals_tree, size_tree, text_tree};
-ghost use Rattle.gltf_schema.specs.Write.{write, write_items};
-ghost use Rattle.gltf_schema.specs.Invalid.{any_holds_invalid};
-ghost use Rattle.gltf_schema.specs.Outcome.{Reads, Writes};
-ghost use Rattle.gltf_schema.specs.RowPlacing.{place_of, IsInside, ReadsOrPlaces};
-ghost use Rattle.gltf_schema.specs.Printings.{printing_state, PrintsValue};
-ghost use Rattle.gltf_schema.specs.Streamed.{ReadsAt};
+ghost use Rattle.std.specs.Prelude.{◌≡◌, refl};
+ghost use Rattle.gltf_schema.specs.Tree.{whole, truth};
+ghost use Rattle.gltf_schema.specs.Kind.{IndexInto, U32, U64, Number, Numbers, Text, Truth, Any};
+ghost use Rattle.gltf_schema.specs.Read.{small_number as number_of_32_bits};
+ghost use Rattle.gltf_schema.specs.Fields.{any_tree, index_tree, real_tree, reals_tree, size_tree, text_tree};
 ghost use Rattle.gltf_schema.specs.Leaves.{checked_tree, choice_of, checked_tree-present};
 
-use crate::placing::{OwnedStep, Refusal, whole_or_refused};
+use crate::list::{decode_items, encode_items, place_items, print_items};
+use crate::placing::{Refusal, whole_or_refused};
 use crate::printing::Printing;
 use crate::schema::Schema;
 use crate::source::Source;
 use crate::stream::{Stream, Unread};
+use crate::stripping::Strip;
 use crate::tabled::Tabled;
 use crate::tokens::Tokens;
 use crate::{numeral, whole};
@@ -63,6 +55,8 @@ impl Schema for u32 {
     fn print<W: Tokens>(&self, to: &mut Printing<W>) {
         to.whole(u64::from(*self));
     }
+
+    fn strip(&mut self, _what: Strip) {}
 }
 
 impl Tabled for USize64 {
@@ -93,6 +87,8 @@ impl Schema for USize64 {
     fn print<W: Tokens>(&self, to: &mut Printing<W>) {
         to.whole(self.0);
     }
+
+    fn strip(&mut self, _what: Strip) {}
 }
 
 impl<P: Names> Tabled for IndexTo<P> {
@@ -123,6 +119,8 @@ impl<P: Names> Schema for IndexTo<P> {
     fn print<W: Tokens>(&self, to: &mut Printing<W>) {
         to.whole(u64::from(self.number()));
     }
+
+    fn strip(&mut self, _what: Strip) {}
 }
 
 impl Tabled for Real {
@@ -163,6 +161,8 @@ impl Schema for Real {
     fn print<W: Tokens>(&self, to: &mut Printing<W>) {
         to.value(self.as_value());
     }
+
+    fn strip(&mut self, _what: Strip) {}
 }
 
 impl<const N: usize> Tabled for [Real; N] {
@@ -210,6 +210,8 @@ impl<const N: usize> Schema for [Real; N] {
         let numbers: &[Real] = self;
         print_items(numbers, to);
     }
+
+    fn strip(&mut self, _what: Strip) {}
 }
 
 impl Tabled for bool {
@@ -243,6 +245,8 @@ impl Schema for bool {
     fn print<W: Tokens>(&self, to: &mut Printing<W>) {
         to.truth(*self);
     }
+
+    fn strip(&mut self, _what: Strip) {}
 }
 
 impl Tabled for String {
@@ -276,6 +280,8 @@ impl Schema for String {
     fn print<W: Tokens>(&self, to: &mut Printing<W>) {
         to.text(self.as_str());
     }
+
+    fn strip(&mut self, _what: Strip) {}
 }
 
 impl Tabled for Value {
@@ -306,6 +312,8 @@ impl Schema for Value {
     fn print<W: Tokens>(&self, to: &mut Printing<W>) {
         to.value(self);
     }
+
+    fn strip(&mut self, _what: Strip) {}
 }
 
 impl<T: Choice> Tabled for Checked<T> {
@@ -402,45 +410,8 @@ impl<T: Choice> Schema for Checked<T> {
             Spelling::Name(name) => to.text(name),
         }
     }
-}
 
-impl<T: Schema> Schema for Vec<T> {
-    ghost is_never_absent = { λ _. refl };
-
-    fn from_token<'a>(token: Token<'a>, from: &mut Stream<'a>) -> Result<Vec<T>, Unread> {
-        match token {
-            Token::BeginArray => read_items(from),
-            _ => Err(Unread),
-        }
-    }
-
-    fn decode_from<S: Source>(alloc: Global, source: S) -> Result<Vec<T>, Error> {
-        let Some(items) = source.into_items() else {
-            return Err(Error::Schema);
-        };
-        decode_items::<S, T>(alloc, items)
-    }
-
-    fn decode_or_place<S: Source>(alloc: Global, source: S) -> Result<Vec<T>, Refusal>
-        ensures by_table { ReadsOrPlaces (λ v. list (trees (map T.tree v.items))) result
-            (ListOf T.kind) (S.given source) }
-        // An array is refused at one of its items.
-        ensures inside { IfErr result (λ r. IsTrue (is_some (as_array (S.given source)))
-            → IsInside (place_of r)) }
-    {
-        match source.into_items() {
-            Some(items) => place_items::<S, T>(alloc, items),
-            None => Err(Refusal::here(alloc, Error::Schema)),
-        }
-    }
-
-    fn encode(&self, alloc: Global) -> Result<Value, Error> {
-        Ok(Value::Array(encode_items(alloc, self)?))
-    }
-
-    fn print<W: Tokens>(&self, to: &mut Printing<W>) {
-        print_items(self, to);
-    }
+    fn strip(&mut self, _what: Strip) {}
 }
 
 /// A whole number of 32 bits.
@@ -448,81 +419,4 @@ fn small_number<S: Source>(source: &S) -> Option<u32>
     ensures { result ≡ number_of_32_bits (S.given source.now) }
 {
     u32::try_from(source.whole()?).ok()
-}
-
-/// Each item, in order.
-fn decode_items<S: Source, T: Schema>(alloc: Global, items: S::Items) -> Result<Vec<T>, Error>
-    ensures { Reads (λ v. trees (map T.tree v.items)) result
-        (read_items (read T.kind) (S.items items)) }
-{
-    let mut found = Vec::with_capacity(alloc, S::room(&items))?;
-    let mut rest = items;
-    'items: while let Some(item) = S::next(&mut rest) {
-        T::decode_onto(alloc, item, &mut found)?;
-    }
-    Ok(found)
-}
-
-/// Reads the items of an array whose bracket was taken.
-fn read_items<'a, T: Schema>(from: &mut Stream<'a>) -> Result<Vec<T>, Unread>
-    ensures read { IfOk result (λ v. ReadsAt (ListOf T.kind) (list_tree T.tree v.items)
-        from.old.depth (begin_array ∷ from.old.reader) from.new.reader) }
-    ensures depth { OnOk result (from.new.depth ≡ from.old.depth) }
-    ensures pass { OnOk result (from.new.pass ≡ from.old.pass) }
-{
-    if from.depth == 0 {
-        return Err(Unread);
-    }
-    from.depth -= 1;
-    let mut list = Vec::new(from.alloc);
-    'items: while !from.reader.take_end_array() {
-        let token = from.reader.next().ok_or(Unread)?;
-        T::read_onto(&mut list, token, from)?;
-    }
-    from.depth += 1;
-    Ok(list)
-}
-
-/// Each item, in order. Fails with the place of the first item that is refused.
-fn place_items<S: Source, T: Schema>(alloc: Global, items: S::Items) -> Result<Vec<T>, Refusal>
-    ensures by_table { ReadsOrPlaces (λ v. list (trees (map T.tree v.items))) result (ListOf T.kind)
-        (array (S.items items)) }
-    ensures inside { IfErr result (λ r. IsInside (place_of r)) }
-{
-    let mut found = Vec::with_capacity(alloc, S::room(&items))?;
-    let mut rest = items;
-    'items: while let Some(item) = S::next(&mut rest) {
-        match T::decode_or_place(alloc, item) {
-            Ok(value) => found.push(value)?,
-            Err(refusal) => return Err(refusal.within(OwnedStep::Index(found.len()))),
-        }
-    }
-    Ok(found)
-}
-
-/// Each item, in order.
-fn encode_items<T: Schema>(alloc: Global, items: &[T]) -> Result<Vec<Value>, Error>
-    ensures { Writes (λ v. items_view v.items) result
-        (write_items (write T.kind) (trees (map T.tree items.now)))
-        (any_holds_invalid (trees (map T.tree items.now))) }
-{
-    let mut written = Vec::with_capacity(alloc, items.len())?;
-    for item in items {
-        written.push(item.encode(alloc)?)?;
-    }
-    Ok(written)
-}
-
-/// Each item, in order, in brackets.
-fn print_items<T: Schema, W: Tokens>(items: &[T], to: &mut Printing<W>)
-    ensures { PrintsValue (printing_state W.written W.before to.old)
-        (option_map array (write_items (write T.kind) (trees (map T.tree items.now))))
-        (any_holds_invalid (trees (map T.tree items.now)))
-        (printing_state W.written W.before to.new) }
-{
-    to.begin_array();
-    for item in items {
-        item.print(to);
-    }
-    to.end_array();
 }

@@ -23,12 +23,14 @@ ghost use Rattle.gltf_schema.specs.Outcome.{Reads, ReadsOnto, Writes};
 ghost use Rattle.gltf_schema.specs.RowReading.{ReadsMembers, Starts, required_in};
 ghost use Rattle.gltf_schema.specs.RowPlacing.{place_of, IsInside, ReadsOrPlaces};
 ghost use Rattle.gltf_schema.specs.Streamed.{ReadsAt, ReadsItem};
+ghost use Rattle.gltf_schema.specs.Stripped.{stripped};
 
 use crate::placing::{Refusal, place_members};
 use crate::printing::Printing;
 use crate::reading::{ReadRows, Reading};
 use crate::source::Source;
 use crate::stream::{Stream, Unread, read_object};
+use crate::stripping::{Strip, strip_object};
 use crate::tabled::Tabled;
 use crate::tokens::Tokens;
 use crate::writing::{WriteRows, Writing};
@@ -152,6 +154,11 @@ pub trait Schema: Tabled + Drop + Sized {
             Err(e) => to.fail(e),
         }
     }
+
+    /// Strips the value in its place, at every depth. It takes no memory. For a kind without objects
+    /// inside its values it does nothing.
+    fn strip(&mut self, what: Strip)
+        ensures { Self.tree self.new ≡ stripped what Self.kind (Self.tree self.old) };
 
     // What is there is not seen as missing.
     ghost is_never_absent: { (x : Self) → is_absent (Self.tree x) ≡ false };
@@ -337,5 +344,9 @@ impl<T: Object> Schema for T {
         let outer = to.begin_members();
         self.write_members(to);
         to.end_members(outer);
+    }
+
+    fn strip(&mut self, what: Strip) {
+        strip_object(self, what);
     }
 }

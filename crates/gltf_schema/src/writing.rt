@@ -94,8 +94,8 @@ pub trait WriteRows: Drop {
 /// Once a row was refused, the methods write nothing, and [`Writing::finish`] fails with the error.
 #[derive(Drop)]
 pub struct Writing {
-    alloc: Global,
-    state: Result<Map<String, Value>, Error>,
+    pub(crate) alloc: Global,
+    pub(crate) state: Result<Map<String, Value>, Error>,
 }
 
 impl Writing {

@@ -10,4 +10,4 @@ mod sink;
 pub use by::{By, Take};
 pub use collect::Collect;
 pub use found::tell;
-pub use sink::{Count, Sink, Stop};
+pub use sink::{Count, NoRefusal, Sink, Stop};

@@ -57,6 +57,24 @@ impl<R: Display> Display for Stop<R> {
 
 impl<R: Debug + Display + Drop> std::error::Error for Stop<R> {}
 
+/// Why a [`Count`] refuses a report. It refuses none, and nothing makes a value of this type.
+#[derive(Clone, Copy, Debug, Drop, PartialEq, Eq)]
+pub struct NoRefusal {
+    _private: (),
+}
+
+impl Display for NoRefusal {
+    ghost use Rattle.std.specs.Prelude.{codes, Some};
+
+    ghost output = { λ _. Some (codes "Report refused") };
+
+    fn fmt<W: Write>(&self, f: &mut Formatter<W>) -> fmt::Result {
+        f.write_str("Report refused")
+    }
+}
+
+impl std::error::Error for NoRefusal {}
+
 /// A sink that counts reports. It refuses none, and stops rising at the greatest number it can
 /// hold.
 #[derive(Clone, Debug, Drop)]
@@ -81,7 +99,7 @@ impl Count {
 }
 
 impl Sink for Count {
-    type Refusal = ();
+    type Refusal = NoRefusal;
 
     ghost State = { ℕ };
 
@@ -91,7 +109,7 @@ impl Sink for Count {
 
     ghost refuses = { λ _ _ _ _ _. ⊥ };
 
-    fn report(&mut self, _path: &Steps<'_>, _error: Error) -> Result<(), ()> {
+    fn report(&mut self, _path: &Steps<'_>, _error: Error) -> Result<(), NoRefusal> {
         self.count = self.count.saturating_add(1);
         Ok(())
     }

@@ -4,6 +4,8 @@ pub mod Pushing
 pub mod FirstReports
 pub mod Reporting
 pub mod Setting
+pub mod Asking
+pub mod TakingBack
 pub mod Replacing
 pub mod HeldAgain
 pub mod Changing

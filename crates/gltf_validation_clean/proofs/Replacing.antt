@@ -5,7 +5,7 @@ use Rattle.std.proofs.lemmas.Grind.{common_steps}
 use Rattle.std.proofs.lemmas.Option.{none-some, same_Some, slice_get_within}
 use Rattle.gltf_base.specs.Lists.{ListName}
 use Rattle.gltf_schema.specs.Fields.{closed_object}
-use Rattle.gltf_schema.specs.Tree.{Tree, Trees, absent, end, is_absent, items_in, list, tree_at, tree_or_absent, trees, with_tree}
+use Rattle.gltf_schema.specs.Tree.{Tree, Trees, absent, end, is_absent, items_in, tree_at, tree_or_absent, trees, with_tree}
 use Rattle.gltf_root.specs.Lists.{count_in, extension_in, extensions_name, is_there, lights_name, lights_way, list_in, variants_name, variants_way}
 use Rattle.gltf_root.specs.Named.{put_at, put_named, reached}
 use Rattle.gltf_root.specs.Pushed.{with_list}
@@ -64,19 +64,19 @@ abbrev extended : Root → Tree → Tree
 extended r extensions = closed_object (put_named extensions_name root_rows extensions (root_members r))
 
 -- what is put is there
-abbrev IsPutThere : ListName → Trees → Tree → Type 0
+abbrev pub IsPutThere : ListName → Trees → Tree → Type 0
 IsPutThere named ts root = list_in named (with_list named ts root) ≡ ts
 
 -- what was put before is gone
-abbrev IsPutAgain : ListName → Trees → Trees → Tree → Type 0
+abbrev pub IsPutAgain : ListName → Trees → Trees → Tree → Type 0
 IsPutAgain named ts us root = with_list named us (with_list named ts root) ≡ with_list named us root
 
 -- the list that is there changes nothing
-abbrev IsPutItself : ListName → Tree → Type 0
+abbrev pub IsPutItself : ListName → Tree → Type 0
 IsPutItself named root = is_there named root ≡ true → with_list named (list_in named root) root ≡ root
 
 -- all three
-abbrev IsPut : ListName → Trees → Trees → Tree → Type 0
+abbrev pub IsPut : ListName → Trees → Trees → Tree → Type 0
 IsPut named ts us root = IsPutThere named ts root × IsPutAgain named ts us root × IsPutItself named root
 
 lights_put : (r : Root) (ts us : Trees) (e : RootExtensions) (found : Option KhrLightsPunctual)
@@ -101,7 +101,7 @@ unfolding root_rows root_members root_extension_rows variants_rows
 of_variants r ts us None = (refl, refl, λ there. absurd cc)
 of_variants r ts us (Some e) = variants_put r ts us e e.khr_materials_variants
 
-list_put : (r : Root) (named : ListName) (ts us : Trees) → IsPut named ts us (root_tree r)
+pub list_put : (r : Root) (named : ListName) (ts us : Trees) → IsPut named ts us (root_tree r)
 unfolding root_rows root_members
 list_put r ListName.lights ts us = of_lights r ts us r.extensions
 list_put r ListName.variants ts us = of_variants r ts us r.extensions

@@ -5,5 +5,6 @@ pub mod FirstReport
 pub mod Reported
 pub mod Replaced
 pub mod Set
+pub mod TakenBack
 pub mod Changes
 pub mod ErrorText

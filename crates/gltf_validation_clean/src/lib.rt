@@ -13,9 +13,12 @@ mod replace;
 mod report;
 mod reported;
 mod set;
+mod undo;
+mod validate_root;
 
 pub use clean::Clean;
-pub use item::Item;
+pub use item::{Item, TopLevelItem};
 pub use push::CleanError;
 pub use refused::Refused;
 pub use report::Report;
+pub use validate_root::ValidateRoot;

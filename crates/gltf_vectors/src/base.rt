@@ -2,4 +2,5 @@
 
 mod choices;
 mod made;
+mod textures;
 mod values;

@@ -1,8 +1,13 @@
 //! Whole documents that take memory, and the example of `README.md`.
 
 mod example;
+mod found;
+mod questions;
 mod refused_growths;
 mod refused_pushes;
+mod stripped;
+mod styles;
+mod undone;
 
 /// A document with its version alone, of 27 bytes: what a new one is written as.
 pub(crate) const NEW: &str = r#"{"asset":{"version":"2.0"}}"#;

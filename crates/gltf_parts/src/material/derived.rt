@@ -19,7 +19,7 @@ use super::{
 use gltf_base::Index;
 use gltf_base::material::AlphaMode;
 use gltf_base::validation::Checked;
-use gltf_schema::{Object, ReadRows, Tabled, WriteRows};
+use gltf_schema::{Object, ReadRows, StrictObject, StrictRows, Tabled, WriteRows};
 use std::alloc::Global;
 
 impl Object for PbrMetallicRoughness {
@@ -75,6 +75,18 @@ impl Object for PbrMetallicRoughness {
         to.optional("extras", &self.extras);
         to.optional("metallicFactor", &self.metallic_factor.0);
         to.optional("metallicRoughnessTexture", &self.metallic_roughness_texture);
+        to.optional("roughnessFactor", &self.roughness_factor.0);
+    }
+}
+
+impl StrictObject for PbrMetallicRoughness {
+    fn write_strictly<W: StrictRows>(&self, to: &mut W) {
+        to.optional("baseColorFactor", &self.base_color_factor.0);
+        to.optional_strictly("baseColorTexture", &self.base_color_texture);
+        to.optional("extensions", &self.extensions);
+        to.optional("extras", &self.extras);
+        to.optional("metallicFactor", &self.metallic_factor.0);
+        to.optional_strictly("metallicRoughnessTexture", &self.metallic_roughness_texture);
         to.optional("roughnessFactor", &self.roughness_factor.0);
     }
 }
@@ -250,6 +262,22 @@ impl Object for Material {
         to.optional("normalTexture", &self.normal_texture);
         to.optional("occlusionTexture", &self.occlusion_texture);
         to.always("pbrMetallicRoughness", &self.pbr_metallic_roughness);
+    }
+}
+
+impl StrictObject for Material {
+    fn write_strictly<W: StrictRows>(&self, to: &mut W) {
+        to.optional("alphaCutoff", &self.alpha_cutoff);
+        to.always("alphaMode", &self.alpha_mode);
+        to.always("doubleSided", &self.double_sided);
+        to.optional("emissiveFactor", &self.emissive_factor.0);
+        to.optional_strictly("emissiveTexture", &self.emissive_texture);
+        to.optional_strictly("extensions", &self.extensions);
+        to.optional("extras", &self.extras);
+        to.optional("name", &self.name);
+        to.optional("normalTexture", &self.normal_texture);
+        to.optional("occlusionTexture", &self.occlusion_texture);
+        to.always_strictly("pbrMetallicRoughness", &self.pbr_metallic_roughness);
     }
 }
 

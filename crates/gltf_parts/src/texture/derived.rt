@@ -11,7 +11,7 @@ use super::{Info, NO_IMAGE, Sampler, Texture};
 use gltf_base::Index;
 use gltf_base::texture::WrappingMode;
 use gltf_base::validation::Checked;
-use gltf_schema::{Object, ReadRows, WriteRows};
+use gltf_schema::{Object, ReadRows, StrictObject, StrictRows, WriteRows};
 use std::alloc::Global;
 
 impl Object for Sampler {
@@ -155,6 +155,15 @@ impl Object for Info {
 
     fn write_members<W: WriteRows>(&self, to: &mut W) {
         to.optional("extensions", &self.extensions);
+        to.optional("extras", &self.extras);
+        to.always("index", &self.index);
+        to.always("texCoord", &self.tex_coord);
+    }
+}
+
+impl StrictObject for Info {
+    fn write_strictly<W: StrictRows>(&self, to: &mut W) {
+        to.optional_strictly("extensions", &self.extensions);
         to.optional("extras", &self.extras);
         to.always("index", &self.index);
         to.always("texCoord", &self.tex_coord);

@@ -10,7 +10,7 @@ ghost use Rattle.std.specs.Prelude.{false};
 
 use super::Root;
 use gltf_scene::asset::Asset;
-use gltf_schema::{Object, ReadRows, WriteRows};
+use gltf_schema::{Object, ReadRows, StrictObject, StrictRows, WriteRows};
 use std::alloc::Global;
 
 impl Object for Root {
@@ -95,6 +95,30 @@ impl Object for Root {
         to.optional("extras", &self.extras);
         to.list("images", &self.images);
         to.list("materials", &self.materials);
+        to.list("meshes", &self.meshes);
+        to.list("nodes", &self.nodes);
+        to.list("samplers", &self.samplers);
+        to.optional("scene", &self.scene);
+        to.list("scenes", &self.scenes);
+        to.list("skins", &self.skins);
+        to.list("textures", &self.textures);
+    }
+}
+
+impl StrictObject for Root {
+    fn write_strictly<W: StrictRows>(&self, to: &mut W) {
+        to.list("accessors", &self.accessors);
+        to.list("animations", &self.animations);
+        to.always("asset", &self.asset);
+        to.list("bufferViews", &self.buffer_views);
+        to.list("buffers", &self.buffers);
+        to.list("cameras", &self.cameras);
+        to.optional("extensions", &self.extensions);
+        to.list("extensionsRequired", &self.extensions_required);
+        to.list("extensionsUsed", &self.extensions_used);
+        to.optional("extras", &self.extras);
+        to.list("images", &self.images);
+        to.list_strictly("materials", &self.materials);
         to.list("meshes", &self.meshes);
         to.list("nodes", &self.nodes);
         to.list("samplers", &self.samplers);

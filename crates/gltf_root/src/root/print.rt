@@ -20,7 +20,7 @@ use serde_json::Value;
 use std::alloc::Global;
 
 /// How many bytes a text has room for at first.
-const FIRST_ROOM: usize = 128;
+pub(super) const FIRST_ROOM: usize = 128;
 
 impl Root {
     /// Encodes the document as a JSON value. Fails with `InvalidItem` if and only if it holds an
@@ -138,7 +138,7 @@ fn text_of(bytes: Vec<u8>) -> String
 }
 
 /// Writes bytes. Fails with `Write` if the writer fails, and with nothing else.
-fn write_out<W: ByteOut>(writer: &mut W, bytes: &[u8]) -> Result<(), Error>
+pub(super) fn write_out<W: ByteOut>(writer: &mut W, bytes: &[u8]) -> Result<(), Error>
     ensures whole { OnOk result (Appends (W.taken writer.old) (W.taken writer.new) bytes.now) }
     ensures front { AppendsFront (W.taken writer.old) (W.taken writer.new) bytes.now }
     ensures works { OnOk result (W.has_failed writer.new ≡ W.has_failed writer.old) }

@@ -1,11 +1,12 @@
 //! The place at which the table refuses a document.
 
 ghost use Rattle.std.specs.Prelude.{◌≡◌, Err, IsUtf8};
-ghost use Rattle.gltf_root.specs.Place.{IsPlaceIn};
+ghost use Rattle.gltf_root.specs.Place.{IsPlaceIn, IsFoundIn};
 ghost use Rattle.gltf_root.specs.Root.{root_kind};
 
 use super::Root;
-use crate::text::{Place, refused_in_text};
+use crate::found::Found;
+use crate::text::{Place, found_in_text, refused_in_text};
 use gltf_schema::Error;
 use simdutf8::compat::from_utf8;
 use std::alloc::Global;
@@ -25,6 +26,18 @@ impl Root {
     {
         match from_utf8(bytes) {
             Ok(text) => refused_in_text::<Root>(alloc, text),
+            Err(_) => Err(Error::Json),
+        }
+    }
+
+    /// Returns the place that [`Root::refused_at`] returns, and what JSON is there. `None` and the
+    /// errors are those of that call. It reads the bytes twice.
+    pub fn refused_and_found(alloc: Global, bytes: &[u8]) -> Result<Option<(Place, Found)>, Error>
+        ensures text { IsUtf8 bytes.now → IsFoundIn root_kind bytes.now result }
+        ensures no_text { (IsUtf8 bytes.now → ⊥) → result ≡ Err Error.Json }
+    {
+        match from_utf8(bytes) {
+            Ok(text) => found_in_text::<Root>(alloc, text),
             Err(_) => Err(Error::Json),
         }
     }

@@ -193,6 +193,28 @@ fn float(number: f64) -> Option<f64> {
     }
 }
 
+/// The float of a number that has the digits of an `f32`, if it is made.
+fn short(number: f32) -> Option<f64> {
+    match Real::from_f32(number) {
+        Some(real) => Some(real.as_f64()),
+        None => None,
+    }
+}
+
+#[test]
+fn reals_have_the_digits_of_an_f32(_rt: HostRuntime) -> Result<(), Fail> {
+    holds(short(0.7) == Some(0.7), "0.7")?;
+    holds(short(-0.1) == Some(-0.1), "-0.1")?;
+    holds(
+        short(16777216.0) == Some(16777216.0),
+        "the whole numbers of an f32 end",
+    )?;
+    holds(short(f32::MAX) == Some(3.4028235e38), "the greatest f32")?;
+    holds(short(1e-45) == Some(1e-45), "the least f32 above 0")?;
+    holds(short(f32::INFINITY).is_none(), "infinity is no number")?;
+    holds(short(f32::NAN).is_none(), "NaN is no number")
+}
+
 #[test]
 fn reals_are_numbers_alone(rt: HostRuntime) -> Result<(), Fail> {
     holds(fraction(rt.alloc(), "null")?.is_none(), "null is no number")?;

@@ -8,7 +8,7 @@ ghost use Rattle.std.proofs.Common.{lit≤};
 ghost use Rattle.std.specs.Prelude.{true};
 
 use super::Material;
-use gltf_schema::{Object, ReadRows, WriteRows};
+use gltf_schema::{Object, ReadRows, StrictObject, StrictRows, WriteRows};
 use serde_json::Map;
 use std::alloc::Global;
 
@@ -75,5 +75,21 @@ impl Object for Material {
         to.optional("KHR_materials_transmission", &self.transmission);
         to.optional("KHR_materials_unlit", &self.unlit);
         to.optional("KHR_materials_volume", &self.volume);
+    }
+}
+
+impl StrictObject for Material {
+    fn write_strictly<W: StrictRows>(&self, to: &mut W) {
+        to.others(&self.others);
+        to.optional("KHR_materials_emissive_strength", &self.emissive_strength);
+        to.optional("KHR_materials_ior", &self.ior);
+        to.optional_strictly(
+            "KHR_materials_pbrSpecularGlossiness",
+            &self.pbr_specular_glossiness,
+        );
+        to.optional_strictly("KHR_materials_specular", &self.specular);
+        to.optional_strictly("KHR_materials_transmission", &self.transmission);
+        to.optional("KHR_materials_unlit", &self.unlit);
+        to.optional_strictly("KHR_materials_volume", &self.volume);
     }
 }

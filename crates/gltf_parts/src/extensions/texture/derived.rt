@@ -15,7 +15,7 @@ ghost use Rattle.std.specs.Prelude.{false, true, ◌≡◌};
 use super::{
     Info, TextureTransform, TextureTransformOffset, TextureTransformRotation, TextureTransformScale,
 };
-use gltf_schema::{Object, ReadRows, Tabled, WriteRows};
+use gltf_schema::{Object, ReadRows, StrictObject, StrictRows, Tabled, WriteRows};
 use serde_json::Map;
 use std::alloc::Global;
 
@@ -67,6 +67,16 @@ impl Object for TextureTransform {
     }
 }
 
+impl StrictObject for TextureTransform {
+    fn write_strictly<W: StrictRows>(&self, to: &mut W) {
+        to.optional("extras", &self.extras);
+        to.optional("offset", &self.offset.0);
+        to.optional("rotation", &self.rotation.0);
+        to.optional("scale", &self.scale.0);
+        to.optional("texCoord", &self.tex_coord);
+    }
+}
+
 impl Object for Info {
     ghost rows = { info_extension_rows };
 
@@ -103,6 +113,13 @@ impl Object for Info {
     fn write_members<W: WriteRows>(&self, to: &mut W) {
         to.others(&self.others);
         to.optional("KHR_texture_transform", &self.texture_transform);
+    }
+}
+
+impl StrictObject for Info {
+    fn write_strictly<W: StrictRows>(&self, to: &mut W) {
+        to.others(&self.others);
+        to.optional_strictly("KHR_texture_transform", &self.texture_transform);
     }
 }
 

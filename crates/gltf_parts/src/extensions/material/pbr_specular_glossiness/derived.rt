@@ -14,7 +14,7 @@ ghost use Rattle.std.specs.Prelude.{true, ◌≡◌};
 
 use super::{PbrDiffuseFactor, PbrSpecularFactor, PbrSpecularGlossiness};
 use crate::material::StrengthFactor;
-use gltf_schema::{Object, ReadRows, Tabled, WriteRows};
+use gltf_schema::{Object, ReadRows, StrictObject, StrictRows, Tabled, WriteRows};
 use serde_json::Map;
 use std::alloc::Global;
 
@@ -72,6 +72,21 @@ impl Object for PbrSpecularGlossiness {
         to.optional("glossinessFactor", &self.glossiness_factor.0);
         to.optional("specularFactor", &self.specular_factor.0);
         to.optional(
+            "specularGlossinessTexture",
+            &self.specular_glossiness_texture,
+        );
+    }
+}
+
+impl StrictObject for PbrSpecularGlossiness {
+    fn write_strictly<W: StrictRows>(&self, to: &mut W) {
+        to.others(&self.others);
+        to.optional("diffuseFactor", &self.diffuse_factor.0);
+        to.optional_strictly("diffuseTexture", &self.diffuse_texture);
+        to.optional("extras", &self.extras);
+        to.optional("glossinessFactor", &self.glossiness_factor.0);
+        to.optional("specularFactor", &self.specular_factor.0);
+        to.optional_strictly(
             "specularGlossinessTexture",
             &self.specular_glossiness_texture,
         );

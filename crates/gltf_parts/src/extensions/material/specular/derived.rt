@@ -12,7 +12,7 @@ ghost use Rattle.std.proofs.Common.{lit≤};
 ghost use Rattle.std.specs.Prelude.{false, ◌≡◌};
 
 use super::{Specular, SpecularColorFactor, SpecularFactor};
-use gltf_schema::{Object, ReadRows, Tabled, WriteRows};
+use gltf_schema::{Object, ReadRows, StrictObject, StrictRows, Tabled, WriteRows};
 use std::alloc::Global;
 
 impl Object for Specular {
@@ -60,6 +60,16 @@ impl Object for Specular {
         to.optional("specularColorTexture", &self.specular_color_texture);
         to.optional("specularFactor", &self.specular_factor.0);
         to.optional("specularTexture", &self.specular_texture);
+    }
+}
+
+impl StrictObject for Specular {
+    fn write_strictly<W: StrictRows>(&self, to: &mut W) {
+        to.optional("extras", &self.extras);
+        to.optional("specularColorFactor", &self.specular_color_factor.0);
+        to.optional_strictly("specularColorTexture", &self.specular_color_texture);
+        to.optional("specularFactor", &self.specular_factor.0);
+        to.optional_strictly("specularTexture", &self.specular_texture);
     }
 }
 

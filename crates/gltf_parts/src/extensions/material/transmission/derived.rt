@@ -12,7 +12,7 @@ ghost use Rattle.std.proofs.Common.{lit≤};
 ghost use Rattle.std.specs.Prelude.{false, ◌≡◌};
 
 use super::{Transmission, TransmissionFactor};
-use gltf_schema::{Object, ReadRows, Tabled, WriteRows};
+use gltf_schema::{Object, ReadRows, StrictObject, StrictRows, Tabled, WriteRows};
 use std::alloc::Global;
 
 impl Object for Transmission {
@@ -54,6 +54,14 @@ impl Object for Transmission {
         to.optional("extras", &self.extras);
         to.optional("transmissionFactor", &self.transmission_factor.0);
         to.optional("transmissionTexture", &self.transmission_texture);
+    }
+}
+
+impl StrictObject for Transmission {
+    fn write_strictly<W: StrictRows>(&self, to: &mut W) {
+        to.optional("extras", &self.extras);
+        to.optional("transmissionFactor", &self.transmission_factor.0);
+        to.optional_strictly("transmissionTexture", &self.transmission_texture);
     }
 }
 

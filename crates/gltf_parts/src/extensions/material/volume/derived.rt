@@ -12,7 +12,7 @@ ghost use Rattle.std.proofs.Common.{lit≤};
 ghost use Rattle.std.specs.Prelude.{false, ◌≡◌};
 
 use super::{AttenuationColor, AttenuationDistance, ThicknessFactor, Volume};
-use gltf_schema::{Object, ReadRows, Tabled, WriteRows};
+use gltf_schema::{Object, ReadRows, StrictObject, StrictRows, Tabled, WriteRows};
 use std::alloc::Global;
 
 impl Object for Volume {
@@ -60,6 +60,16 @@ impl Object for Volume {
         to.optional("extras", &self.extras);
         to.optional("thicknessFactor", &self.thickness_factor.0);
         to.optional("thicknessTexture", &self.thickness_texture);
+    }
+}
+
+impl StrictObject for Volume {
+    fn write_strictly<W: StrictRows>(&self, to: &mut W) {
+        to.optional("attenuationColor", &self.attenuation_color.0);
+        to.optional("attenuationDistance", &self.attenuation_distance.0);
+        to.optional("extras", &self.extras);
+        to.optional("thicknessFactor", &self.thickness_factor.0);
+        to.optional_strictly("thicknessTexture", &self.thickness_texture);
     }
 }
 

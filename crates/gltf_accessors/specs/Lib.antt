@@ -1,0 +1,7 @@
+pub mod Data
+pub mod Formats
+pub mod Parts
+pub mod Reads
+pub mod Sparse
+pub mod Values
+pub mod Vectors

@@ -1,0 +1,79 @@
+"""glTF 2.0 documents, checked and written anew by the library gltf_c.
+
+Each call takes the bytes of a document, and returns a status and the bytes of its output:
+
+    status, lines = gltf_c.check(Path("model.gltf").read_bytes())
+
+The statuses are those of gltf_c.h. The library is the file that GLTF_C names, else the one in this
+package.
+"""
+import ctypes
+import os
+from pathlib import Path
+
+OK = 0
+REPORTS = 1
+NOT_JSON = 2
+NOT_GLTF = 3
+NO_MEMORY = 4
+INVALID_ITEM = 5
+NOT_TEXT = 6
+
+# Room for most outputs. A longer one is asked for again, with as much room as it needs.
+_ROOM = 65536
+
+
+class _Returned(ctypes.Structure):
+    _fields_ = [("status", ctypes.c_uint8), ("needed", ctypes.c_size_t)]
+
+
+def _loaded():
+    """The library, with the types of its calls."""
+    path = os.environ.get("GLTF_C") or Path(__file__).with_name("libgltf_c.so")
+    library = ctypes.CDLL(str(path))
+    slice_of = [ctypes.c_char_p, ctypes.c_size_t]
+    for name, arguments in {
+        "gltf_c_check": slice_of + slice_of,
+        "gltf_c_check_by": slice_of + slice_of + [ctypes.c_bool] + slice_of,
+        "gltf_c_rewrite": slice_of + slice_of,
+        "gltf_c_version": slice_of,
+    }.items():
+        call = getattr(library, name)
+        call.argtypes, call.restype = arguments, _Returned
+    return library
+
+
+_library = _loaded()
+
+
+def _ask(call, *given):
+    room = _ROOM
+    while True:
+        output = ctypes.create_string_buffer(room)
+        returned = call(*given, output, room)
+        if returned.needed <= room:
+            return returned.status, output.raw[: returned.needed]
+        room = returned.needed
+
+
+def check(document):
+    """A line for each report of a document, `clean`, or why it was refused."""
+    return _ask(_library.gltf_c_check, document, len(document))
+
+
+def check_by(document, names, empty_texture=False):
+    """The same by rules: the names of the extensions that the document may require, and whether a
+    texture may be without an image."""
+    lines = "\n".join(names).encode()
+    given = (document, len(document), lines, len(lines), empty_texture)
+    return _ask(_library.gltf_c_check_by, *given)
+
+
+def rewrite(document):
+    """The document in one line, as `Root::to_vec` writes it."""
+    return _ask(_library.gltf_c_rewrite, document, len(document))
+
+
+def version():
+    """The version of the library."""
+    return _ask(_library.gltf_c_version)[1].decode()

@@ -1,0 +1,95 @@
+-- All findings of a document.
+use Rattle.std.specs.Prelude.{◌≡◌, List, [], ◌∷◌, ◌++◌, not, ◌&&◌, ◌==◌, length, Option, Some, None}
+use Rattle.gltf_scene.specs.declared.extensions.scene.khr_lights_punctual.Light.{Light}
+use Rattle.gltf_root.specs.declared.extensions.root.KhrLightsPunctual.{KhrLightsPunctual}
+use Rattle.gltf_root.specs.declared.extensions.root.Root.{Root as Extension}
+use Rattle.gltf_root.specs.declared.root.Root.{Root}
+use Rattle.gltf_findings.specs.declared.code.Code.TheVariants.{UnresolvedReference, UnsatisfiedDependency}
+use Rattle.gltf_findings.specs.declared.name.Name.TheVariants.{Scene, ExtensionsRequired}
+use Rattle.gltf_findings.specs.declared.finding.Object.TheVariants.{Document}
+use Rattle.gltf_findings.specs.declared.finding.Place.TheVariants.{Member}
+use Rattle.gltf_findings.specs.declared.finding.Finding.{Finding}
+use Rattle.gltf_findings.specs.declared.findings.Findings.{Findings}
+use Rattle.gltf_findings.specs.declared.nodes.NodeRules.{NodeRules as Counts}
+use Rattle.gltf_findings.specs.Found.{broken, found, findings_from}
+use Rattle.gltf_findings.specs.Rules.{is_some_unresolved}
+use Rattle.gltf_findings.specs.Hierarchy.{AreHierarchyRules}
+use Rattle.gltf_findings.specs.Accessors.{accessor_findings}
+use Rattle.gltf_findings.specs.Views.{buffer_rules, view_findings}
+use Rattle.gltf_findings.specs.Textures.{image_rules, sampler_rules, texture_rules}
+use Rattle.gltf_findings.specs.Materials.{material_findings}
+use Rattle.gltf_findings.specs.Meshes.{mesh_findings}
+use Rattle.gltf_findings.specs.Animations.{animation_findings}
+use Rattle.gltf_findings.specs.Cameras.{camera_findings}
+use Rattle.gltf_findings.specs.Lights.{light_findings}
+use Rattle.gltf_findings.specs.Nodes.{node_findings, scene_findings}
+use Rattle.gltf_findings.specs.Skins.{skin_findings}
+
+-- what a list of findings holds
+abbrev pub found_in : Findings → List Finding
+found_in f = f.found.items
+
+abbrev pub root_rules : Root → List (Option Finding)
+root_rules r =
+    broken (is_some_unresolved (length r.scenes.items) r.scene) UnresolvedReference (Member Document Scene)
+    -- section 3.12: a required extension is a used one
+    ∷ broken (not (length r.extensions_required.items == 0) && (length r.extensions_used.items == 0)) UnsatisfiedDependency (Member Document ExtensionsRequired)
+    ∷ []
+
+abbrev pub lights_in : Option KhrLightsPunctual → List Light
+lights_in None = []
+lights_in (Some x) = x.lights.items
+
+abbrev pub lights_of_extension : Option Extension → List Light
+lights_of_extension None = []
+lights_of_extension (Some e) = lights_in e.khr_lights_punctual
+
+-- the lights of a document (`KHR_lights_punctual`)
+abbrev pub lights_of : Root → List Light
+lights_of r = lights_of_extension r.extensions
+
+abbrev pub stored_findings : Root → List Finding
+stored_findings r =
+    findings_from (accessor_findings r.buffer_views.items) 0 r.accessors.items
+    ++ findings_from (λ n x. found (buffer_rules n x)) 0 r.buffers.items
+    ++ findings_from (view_findings r.buffers.items) 0 r.buffer_views.items
+
+abbrev pub shown_findings : Root → List Finding
+shown_findings r =
+    findings_from (λ n x. found (image_rules r.buffer_views.items n x)) 0 r.images.items
+    ++ findings_from (material_findings (length r.textures.items)) 0 r.materials.items
+    ++ findings_from (mesh_findings r.buffer_views.items r.accessors.items (length r.materials.items)) 0 r.meshes.items
+    ++ findings_from (λ n x. found (sampler_rules n x)) 0 r.samplers.items
+    ++ findings_from (λ n x. found (texture_rules (length r.samplers.items) (length r.images.items) n x)) 0 r.textures.items
+
+abbrev pub staged_findings : Root → List Finding
+staged_findings r =
+    findings_from (animation_findings r.buffer_views.items r.accessors.items r.nodes.items) 0 r.animations.items
+    ++ findings_from camera_findings 0 r.cameras.items
+    ++ findings_from light_findings 0 (lights_of r)
+
+-- how many items there are that nodes may name
+abbrev pub counts_of : Root → Counts
+counts_of r = record {
+  cameras = length r.cameras.items;
+  meshes = length r.meshes.items;
+  skins = length r.skins.items;
+  lights = length (lights_of r);
+  nodes = length r.nodes.items;
+}
+
+abbrev pub placed_findings : Root → List Finding
+placed_findings r =
+    findings_from (node_findings (counts_of r)) 0 r.nodes.items
+    ++ findings_from (scene_findings (length r.nodes.items)) 0 r.scenes.items
+    ++ findings_from (skin_findings (length r.nodes.items) r.buffer_views.items r.accessors.items) 0 r.skins.items
+
+-- what is wrong with a document, but for the hierarchy of its nodes
+abbrev pub findings_of : Root → List Finding
+findings_of r = found (root_rules r) ++ stored_findings r ++ shown_findings r ++ staged_findings r ++ placed_findings r
+
+-- what is wrong with a document: the faults of the hierarchy come last
+pub record AreFindings (r : Root) (all : List Finding) : Type 0 where
+  pub hierarchy : List (Option Finding)
+  pub are_of : AreHierarchyRules r.nodes.items hierarchy
+  pub each : all ≡ findings_of r ++ found hierarchy

@@ -1,0 +1,8 @@
+use Rattle.std.proofs.Common.{sym, ◌∙◌, refl}
+use Rattle.gltf_accessors.specs.declared.format.Usage.TheVariants as usages
+use Rattle.gltf_accessors.specs.Reads.{IsJointsAt, IsJointsFault}
+use Rattle.gltf_load.proofs.Reading.{named_ok}
+use Rattle.gltf_load.proofs.reader.Reader.read_joints.Goals as goal
+
+pub returns-in-Ok : goal.returns-in-Ok
+returns-in-Ok c = named_ok usages.Joints IsJointsAt IsJointsFault _ _ _ _ _ _ _ _ (sym c.accessor_of.ensures ∙ c.in-Some.is) refl refl c.in-Ok.ensures.found c.joints.ensures c.optional_with_number.ensures

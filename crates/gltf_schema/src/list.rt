@@ -1,0 +1,155 @@
+//! Lists of a kind.
+
+ghost use Rattle.std.specs.Prelude.{◌≡◌, ◌∷◌, OnOk, IfOk, map, option_map, refl, is_some, IfErr, IsTrue};
+ghost use Rattle.json.specs.Token.{begin_array};
+ghost use Rattle.serde_json.specs.Find.{as_array};
+ghost use Rattle.serde_json.specs.Data.{array};
+ghost use Rattle.serde_json.specs.View.{items_view};
+ghost use Rattle.gltf_schema.specs.Tree.{trees, list};
+ghost use Rattle.gltf_schema.specs.Kind.{ListOf};
+ghost use Rattle.gltf_schema.specs.Read.{read, read_items};
+ghost use Rattle.gltf_schema.specs.Fields.{list_tree};
+ghost use Rattle.gltf_schema.specs.Write.{write, write_items};
+ghost use Rattle.gltf_schema.specs.Invalid.{any_holds_invalid};
+ghost use Rattle.gltf_schema.specs.Outcome.{Reads, Writes};
+ghost use Rattle.gltf_schema.specs.RowPlacing.{place_of, IsInside, ReadsOrPlaces};
+ghost use Rattle.gltf_schema.specs.Printings.{printing_state, PrintsValue};
+ghost use Rattle.gltf_schema.specs.Streamed.{ReadsAt};
+
+use crate::placing::{OwnedStep, Refusal};
+use crate::printing::Printing;
+use crate::schema::Schema;
+use crate::source::Source;
+use crate::stream::{Stream, Unread};
+use crate::stripping::{Strip, strip_items};
+use crate::tokens::Tokens;
+use gltf_base::Error;
+use json::Token;
+use serde_json::Value;
+use std::alloc::Global;
+
+impl<T: Schema> Schema for Vec<T> {
+    ghost is_never_absent = { λ _. refl };
+
+    fn from_token<'a>(token: Token<'a>, from: &mut Stream<'a>) -> Result<Vec<T>, Unread> {
+        match token {
+            Token::BeginArray => read_items(from),
+            _ => Err(Unread),
+        }
+    }
+
+    fn decode_from<S: Source>(alloc: Global, source: S) -> Result<Vec<T>, Error> {
+        let Some(items) = source.into_items() else {
+            return Err(Error::Schema);
+        };
+        decode_items::<S, T>(alloc, items)
+    }
+
+    fn decode_or_place<S: Source>(alloc: Global, source: S) -> Result<Vec<T>, Refusal>
+        ensures by_table { ReadsOrPlaces (λ v. list (trees (map T.tree v.items))) result
+            (ListOf T.kind) (S.given source) }
+        // An array is refused at one of its items.
+        ensures inside { IfErr result (λ r. IsTrue (is_some (as_array (S.given source)))
+            → IsInside (place_of r)) }
+    {
+        match source.into_items() {
+            Some(items) => place_items::<S, T>(alloc, items),
+            None => Err(Refusal::here(alloc, Error::Schema)),
+        }
+    }
+
+    fn encode(&self, alloc: Global) -> Result<Value, Error> {
+        Ok(Value::Array(encode_items(alloc, self)?))
+    }
+
+    fn print<W: Tokens>(&self, to: &mut Printing<W>) {
+        print_items(self, to);
+    }
+
+    fn strip(&mut self, what: Strip) {
+        strip_items(self, what);
+    }
+}
+
+/// Each item, in order.
+pub(crate) fn decode_items<S: Source, T: Schema>(
+    alloc: Global,
+    items: S::Items,
+) -> Result<Vec<T>, Error>
+    ensures { Reads (λ v. trees (map T.tree v.items)) result
+        (read_items (read T.kind) (S.items items)) }
+{
+    let mut found = Vec::with_capacity(alloc, S::room(&items))?;
+    let mut rest = items;
+    'items: while let Some(item) = S::next(&mut rest) {
+        T::decode_onto(alloc, item, &mut found)?;
+    }
+    Ok(found)
+}
+
+/// Reads the items of an array whose bracket was taken.
+fn read_items<'a, T: Schema>(from: &mut Stream<'a>) -> Result<Vec<T>, Unread>
+    ensures read { IfOk result (λ v. ReadsAt (ListOf T.kind) (list_tree T.tree v.items)
+        from.old.depth (begin_array ∷ from.old.reader) from.new.reader) }
+    ensures depth { OnOk result (from.new.depth ≡ from.old.depth) }
+    ensures pass { OnOk result (from.new.pass ≡ from.old.pass) }
+{
+    if from.depth == 0 {
+        return Err(Unread);
+    }
+    from.depth -= 1;
+    let mut list = Vec::new(from.alloc);
+    'items: while !from.reader.take_end_array() {
+        let token = from.reader.next().ok_or(Unread)?;
+        T::read_onto(&mut list, token, from)?;
+    }
+    from.depth += 1;
+    Ok(list)
+}
+
+/// Each item, in order. Fails with the place of the first item that is refused.
+pub(crate) fn place_items<S: Source, T: Schema>(
+    alloc: Global,
+    items: S::Items,
+) -> Result<Vec<T>, Refusal>
+    ensures by_table { ReadsOrPlaces (λ v. list (trees (map T.tree v.items))) result (ListOf T.kind)
+        (array (S.items items)) }
+    ensures inside { IfErr result (λ r. IsInside (place_of r)) }
+{
+    let mut found = Vec::with_capacity(alloc, S::room(&items))?;
+    let mut rest = items;
+    'items: while let Some(item) = S::next(&mut rest) {
+        match T::decode_or_place(alloc, item) {
+            Ok(value) => found.push(value)?,
+            Err(refusal) => return Err(refusal.within(OwnedStep::Index(found.len()))),
+        }
+    }
+    Ok(found)
+}
+
+/// Each item, in order.
+pub(crate) fn encode_items<T: Schema>(alloc: Global, items: &[T]) -> Result<Vec<Value>, Error>
+    ensures { Writes (λ v. items_view v.items) result
+        (write_items (write T.kind) (trees (map T.tree items.now)))
+        (any_holds_invalid (trees (map T.tree items.now))) }
+{
+    let mut written = Vec::with_capacity(alloc, items.len())?;
+    for item in items {
+        written.push(item.encode(alloc)?)?;
+    }
+    Ok(written)
+}
+
+/// Each item, in order, in brackets.
+pub(crate) fn print_items<T: Schema, W: Tokens>(items: &[T], to: &mut Printing<W>)
+    ensures { PrintsValue (printing_state W.written W.before to.old)
+        (option_map array (write_items (write T.kind) (trees (map T.tree items.now))))
+        (any_holds_invalid (trees (map T.tree items.now)))
+        (printing_state W.written W.before to.new) }
+{
+    to.begin_array();
+    for item in items {
+        item.print(to);
+    }
+    to.end_array();
+}

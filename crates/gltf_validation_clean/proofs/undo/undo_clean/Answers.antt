@@ -1,0 +1,51 @@
+-- The document without the item is looked at, and the item is put back if there is a fault.
+use Rattle.std.proofs.Common.{◌≡◌, [], ◌∷◌, ◌++◌, None, sym, ◌∙◌, ap, subst}
+use Rattle.std.specs.List.{last_or}
+use Rattle.gltf_schema.specs.Tree.{Tree, object}
+use Rattle.gltf_sinks.specs.Report.{first_fault_of}
+use Rattle.gltf_root.specs.Root.{root_tree}
+use Rattle.gltf_root.specs.declared.root.mark.Mark.TheVariants.{Listed}
+use Rattle.gltf_root.proofs.Undoing.{last_or_pop}
+use Rattle.gltf_validation_rules.specs.Context.{rules_of}
+use Rattle.gltf_validation_rules.specs.Reports.{document_reports}
+use Rattle.gltf_validation_clean.specs.Clean.{IsClean}
+use Rattle.gltf_validation_clean.proofs.Sinking.{no_first_fault}
+use Rattle.gltf_validation_clean.proofs.TakingBack.{popped, put_back_last}
+use Rattle.gltf_validation_clean.proofs.undo.undo_clean.Goals as goal
+
+pub returns-in-None : goal.returns-in-None
+returns-in-None g c =
+    let old = c.args.root.now in
+    let items = (g.T.TopLevel.held old).items in
+    let list = c.pop.new.self in
+    let mid = g.T.TopLevel.put list old in
+    let by = rules_of c.args.rules.now in
+    let tree : g.row.T.Denot → Tree = λ x. object (g.T.Object.members x) (g.T.Object.unknown x) in
+    let less : items ≡ list.items ++ c.in-Some.item ∷ [] = sym {b = items} (ap (λ l. l.items) c.list_in_mut.ensures.lent) ∙ c.in-Some.ensures.items in
+    let gone = popped tree g.T.Listed.list items list.items c.in-Some.item (root_tree old) (root_tree mid)
+    (g.met.T.TopLevel.tree_lists_items old) less (g.met.T.TopLevel.put_replaces_list old list).1 in (
+      ap (last_or None) less ∙ last_or_pop None list.items c.in-Some.item,
+      subst (IsClean by) gone (no_first_fault (document_reports by (root_tree mid)) (sym c.in-None.ensures)),
+      gone,
+    )
+
+pub returns-in-Ok : goal.returns-in-Ok
+returns-in-Ok g c =
+    let old = c.args.root.now in
+    let items = (g.T.TopLevel.held old).items in
+    let list = c.pop.new.self in
+    let mid = g.T.TopLevel.put list old in
+    let back = c.push.new.self in
+    let given = c.list_in_mut-in-Some-first_fault in
+    let by = rules_of c.args.rules.now in
+    let tree : g.row.T.Denot → Tree = λ x. object (g.T.Object.members x) (g.T.Object.unknown x) in
+    let put = g.met.T.TopLevel.put_replaces_list old list in
+    let stands = g.met.T.TopLevel.tree_lists_items old in
+    let less : items ≡ list.items ++ c.in-Some.item ∷ [] = sym {b = items} (ap (λ l. l.items) c.list_in_mut.ensures.lent) ∙ c.in-Some.ensures.items in
+    let gone = popped tree g.T.Listed.list items list.items c.in-Some.item (root_tree old) (root_tree mid) stands less put.1 in
+    let same : back.items ≡ items =
+    c.in-Ok.ensures.items ∙ ap (λ l. l.items ++ c.in-Some.item ∷ []) (given.ensures.lent ∙ put.0) ∙ sym less in (
+      ap (λ t. first_fault_of (document_reports by t)) (sym gone) ∙ sym c.in-Some-first_fault.ensures,
+      put_back_last tree g.T.Listed.list items list.items back.items old (root_tree mid) (root_tree (g.T.TopLevel.put back mid))
+          (g.met.T.TopLevel.needs_no_extension (root_tree old) Listed).0 stands put.1 (g.met.T.TopLevel.put_replaces_list mid back).1 same,
+    )

@@ -2,6 +2,5 @@ pub mod Data
 pub mod Formats
 pub mod Parts
 pub mod Reads
-pub mod Sparse
 pub mod Values
 pub mod Vectors

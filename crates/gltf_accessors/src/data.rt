@@ -4,13 +4,11 @@ ghost use Rattle.std.specs.Prelude.{◌≡◌, IfOk, IfErr};
 ghost use Rattle.gltf_buffers.specs.Buffered.{bytes_at};
 ghost use Rattle.gltf_accessors.specs.Data.{format_of, IsBase, IsBaseFault, IsSparseAt, IsSparseAtFault, IsSparseOf, IsSparseOfFault, IsAccessorAt, IsDataFault};
 
-use crate::accessor::Accessor;
 use crate::fault::{AccessorDataFault, DeviatingFault, PartFault};
 use crate::format::Format;
 use crate::part::{components_at, indices_at};
-use crate::sparse::Sparse;
 use gltf_buffers::Buffers;
-use gltf_elements::{Component, Components};
+use gltf_elements::{Accessor, Component, Components, Sparse};
 use gltf_layout::{Location, Place, SparsePlace};
 
 /// An accessor, and the buffers in which its elements lie (glTF 2.0, section 5.1).
@@ -39,19 +37,19 @@ impl<'a> AccessorData<'a> {
 
 /// The elements of an accessor, as those of N components.
 pub fn accessor_at<'a, T: Component, const N: usize>(
-    data: &AccessorData<'a>,
+    stored: &AccessorData<'a>,
 ) -> Result<Accessor<'a, T, N>, AccessorDataFault>
-    ensures accessor { IfOk result (IsAccessorAt (bytes_at data.now.buffers.now)
-        data.now.place.now) }
-    ensures fault { IfErr result (IsDataFault T.may_be T.SIZE N (bytes_at data.now.buffers.now)
-        data.now.place.now) }
+    ensures accessor { IfOk result (IsAccessorAt (bytes_at stored.now.buffers.now)
+        stored.now.place.now) }
+    ensures fault { IfErr result (IsDataFault T.may_be T.SIZE N (bytes_at stored.now.buffers.now)
+        stored.now.place.now) }
 {
-    let place = data.place;
-    let base = match base_at(&place.elements, data.buffers) {
+    let place = stored.place;
+    let base = match base_at(&place.elements, stored.buffers) {
         Ok(base) => base,
         Err(fault) => return Err(AccessorDataFault::Elements(fault)),
     };
-    let sparse = match sparse_at(&place.sparse, place.count, data.buffers) {
+    let sparse = match sparse_at(&place.sparse, place.count, stored.buffers) {
         Ok(sparse) => sparse,
         Err(fault) => return Err(AccessorDataFault::Deviating(fault)),
     };

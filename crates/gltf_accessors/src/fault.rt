@@ -1,43 +1,8 @@
 //! Why accessors can't be read.
 
 use crate::format::FormatFault;
-use gltf_elements::{ComponentsFault, ElementsFault, IndicesFault};
+use gltf_elements::{ComponentsFault, ElementsFault, IndicesFault, SparseFault};
 use thiserror::Error;
-
-/// Why elements can't deviate from those of a base.
-#[derive(Clone, Copy, Debug, PartialEq, Eq, Error)]
-pub enum SparseFault {
-    /// There are not as many indices as values.
-    #[error("there are not as many sparse indices as values")]
-    Count,
-    /// An index is not above the one before.
-    #[error("the sparse index {index} is not above the one at place {place}")]
-    NotRising {
-        /// The place of the index before.
-        place: u64,
-        /// The index.
-        index: u32,
-    },
-    /// An index is that of no element.
-    #[error("the sparse index {index}, at place {place}, is that of no element")]
-    BehindEnd {
-        /// The place of the index.
-        place: u64,
-        /// The index.
-        index: u32,
-    },
-}
-
-/// Why elements are not those of an accessor.
-#[derive(Clone, Copy, Debug, PartialEq, Eq, Error)]
-pub enum AccessorFault {
-    /// The view has more or fewer elements than the accessor.
-    #[error("the view has not as many elements as the accessor")]
-    Count,
-    /// The elements that deviate are those of another count.
-    #[error("the sparse indices were checked for another count")]
-    SparseCount,
-}
 
 /// Why elements at a place can't be read.
 #[derive(Clone, Copy, Debug, PartialEq, Eq, Error)]

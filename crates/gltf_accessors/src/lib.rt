@@ -4,7 +4,6 @@
 //! the bytes of the buffers (`gltf_buffers`).
 #![tactic(auto)]
 
-mod accessor;
 mod attributes;
 mod data;
 mod fault;
@@ -13,19 +12,15 @@ mod outputs;
 mod part;
 mod primitive_indices;
 mod reading;
-mod sparse;
 #[cfg(test)]
 mod tests;
 mod vectors;
 
-pub use accessor::Accessor;
 pub use attributes::{Colors, Joints};
 pub use data::AccessorData;
-pub use fault::{
-    AccessFault, AccessorDataFault, AccessorFault, DeviatingFault, PartFault, SparseFault,
-};
+pub use fault::{AccessFault, AccessorDataFault, DeviatingFault, PartFault};
 pub use format::{Format, FormatFault, Usage};
+pub use gltf_elements::{Accessor, AccessorFault, Sparse, SparseFault};
 pub use outputs::Outputs;
 pub use primitive_indices::PrimitiveIndices;
-pub use sparse::Sparse;
 pub use vectors::Vectors;

@@ -4,8 +4,7 @@ ghost use Rattle.std.specs.Prelude.{◌≡◌, ◌<◌, ◌↔◌, IsTrue, IfErr
 ghost use Rattle.gltf_elements.specs.Indices.{IsVertex};
 ghost use Rattle.gltf_accessors.specs.Vectors.{indices_len, indices_type, IsIndex, NamesVertex, NamesNoVertex, NameVertices, IsVertexFault};
 
-use crate::accessor::Accessor;
-use gltf_elements::{IndexType, VertexFault};
+use gltf_elements::{Accessor, IndexType, VertexFault};
 
 /// The indices of a primitive, by how they are stored (glTF 2.0, section 5.24.2).
 #[derive(Debug, Drop)]

@@ -7,7 +7,6 @@ ghost use Rattle.gltf_accessors.specs.Formats.{Allows, usage_of};
 ghost use Rattle.gltf_accessors.specs.Data.{format_of, IsAccessorAt};
 ghost use Rattle.gltf_accessors.specs.Reads.{ReadsData, IsFormatFault, IsFloatsFault, IsVectorsAt, IsVectorsFault, IsColorsAt, IsColorsFault, IsJointsAt, IsJointsFault, IsIndicesAt, IsPrimitiveIndicesFault, IsOutputsAt, IsOutputsFault};
 
-use crate::accessor::Accessor;
 use crate::attributes::{Colors, Joints};
 use crate::data::{AccessorData, accessor_at};
 use crate::fault::{AccessFault, AccessorDataFault};
@@ -17,6 +16,7 @@ use crate::primitive_indices::PrimitiveIndices;
 use crate::vectors::Vectors;
 use gltf_base::accessor::{AccessorType, ComponentType};
 use gltf_base::animation::Property;
+use gltf_elements::Accessor;
 
 /// Each call fails with `Format` if the usage doesn't allow the format of the accessor, and with
 /// `Data` if its data is not what it says. It takes time in proportion to the components, and no
@@ -127,7 +127,8 @@ impl<'a> AccessorData<'a> {
 
     /// Returns the elements as inverse bind matrices, column by column (section 5.28.1).
     pub fn inverse_bind_matrices(&self) -> Result<Accessor<'a, f32, 16>, AccessFault>
-        ensures { ReadsData usages.InverseBindMatrices IsAccessorAt (IsFloatsFault 16) self.now result }
+        ensures { ReadsData usages.InverseBindMatrices IsAccessorAt (IsFloatsFault 16) self.now
+            result }
     {
         self.floats(Usage::InverseBindMatrices)
     }

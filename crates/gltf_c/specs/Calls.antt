@@ -7,7 +7,10 @@ use Rattle.gltf_schema.specs.Tree.{Tree}
 use Rattle.gltf_base.specs.declared.error.Error.{Error}
 use Rattle.gltf_base.specs.declared.error.Error.TheVariants as errors
 use Rattle.gltf_root.specs.Answer.{Answer, no_json, no_document, document}
-use Rattle.gltf_root.specs.Written.{IsCompactOf, IsReadBack}
+use Rattle.gltf_root.specs.Styled.{IsReadBackIn, IsTextIn, style_of}
+use Rattle.gltf_root.specs.declared.root.style.Nulls.TheVariants.{LeftOut}
+use Rattle.gltf_root.specs.declared.root.style.Spacing.TheVariants.{Compact}
+use Rattle.gltf_root.specs.declared.root.style.Style.{Style}
 use Rattle.gltf_validation_rules.specs.Context.{Rules}
 use Rattle.gltf_report_lines.specs.Output.{Output, output, refusal}
 use Rattle.gltf_c.specs.Filled.{IsFilled}
@@ -27,9 +30,13 @@ abbrev pub IsChecked : Rules → List ℕ → List ℕ → List ℕ → Returned
 IsChecked rules bytes old new returned =
     IsGiven (output rules bytes) old new returned ⊎ IsGiven refusal old new returned
 
+-- one line, without nulls where the format allows none
+abbrev pub rewrite_style : Style
+rewrite_style = style_of Compact LeftOut
+
 -- a document was written, with these bytes
 abbrev pub IsWritingOf : Answer → List ℕ → Type 0
-IsWritingOf due bytes = (t : Tree) × (due ≡ document t) × IsCompactOf t bytes × IsReadBack t bytes
+IsWritingOf due bytes = (t : Tree) × (due ≡ document t) × IsTextIn rewrite_style t bytes × IsReadBackIn rewrite_style t bytes
 
 -- a document was read that can't be written, because something in it is invalid
 abbrev pub IsUnwritable : Answer → Type 0

@@ -90,8 +90,9 @@ pub extern "C" fn gltf_c_check_by(
 }
 
 /// Writes a document anew: in one line, without blanks between its tokens, and with each default of
-/// the format left out or put in as `Root::to_vec` does. Output comes with the status 0 alone. The
-/// bytes decide the status, except that it is 4 if out of memory.
+/// the format left out or put in as `Root::to_vec` does. An absent member is left out where
+/// `Root::to_vec` writes a null that the format doesn't allow. Output comes with the status 0 alone.
+/// The bytes decide the status, except that it is 4 if out of memory.
 ///
 /// | Status | Meaning |
 /// |---|---|

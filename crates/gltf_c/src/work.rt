@@ -8,7 +8,7 @@ ghost use Rattle.gltf_c.specs.Calls.{IsChecked, IsRewriting};
 
 use crate::returned::{Returned, tell};
 use gltf_report_lines::Outcome;
-use gltf_root::root::Root;
+use gltf_root::root::{Nulls, Root, Spacing, Style};
 use gltf_schema::Error;
 use gltf_validation_rules::Rules;
 use std::alloc::{AllocError, Global};
@@ -32,9 +32,15 @@ pub(crate) fn lines_in(alloc: Global, text: &str) -> Result<Vec<&str>, AllocErro
     text.lines().collect(alloc)
 }
 
+/// One line, without nulls where the format allows none.
+const STYLE: Style = Style {
+    spacing: Spacing::Compact,
+    nulls: Nulls::LeftOut,
+};
+
 /// The bytes that a document is written as again.
 pub(crate) fn rewritten(alloc: Global, document: &[u8]) -> Result<Vec<u8>, Error>
     ensures { IsRewriting (answer document.now) result }
 {
-    Root::from_slice(alloc, document)?.to_vec(alloc)
+    Root::from_slice(alloc, document)?.to_vec_with(alloc, STYLE)
 }

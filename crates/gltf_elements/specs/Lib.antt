@@ -1,5 +1,6 @@
 pub mod Elements
 pub mod Iter
+pub mod Sparse
 pub mod Numbers
 pub mod Components
 pub mod Indices

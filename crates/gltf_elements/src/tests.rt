@@ -1,5 +1,7 @@
 //! Elements, numbers and faults that are worked by hand.
 
+mod accessor;
+
 use crate::{
     Components, ComponentsFault, Elements, Floats, IndexType, Indices, IndicesFault, Integers,
     Normalized, VertexFault, indices_are_vertices,

@@ -3,7 +3,7 @@ use Rattle.std.specs.Prelude.{◌≡◌, ℕ, ◌<◌, ◌^◌, List, length, ma
 use Rattle.gltf_hierarchy.specs.declared.fault.HierarchyFault.{HierarchyFault}
 use Rattle.gltf_hierarchy.specs.declared.fault.HierarchyFault.TheVariants.{TooManyNodes, NoSuchChild, TwoParents, Cycle, Memory}
 use Rattle.gltf_hierarchy.specs.Faults.{AreFaults}
-use Rattle.gltf_load.specs.Named.{children_named}
+use Rattle.gltf_document.specs.Named.{children_named}
 use Rattle.gltf_scene.specs.declared.scene.Node.{Node}
 use Rattle.gltf_findings.specs.declared.code.Code.TheVariants.{NodeParentOverride, NodeLoop}
 use Rattle.gltf_findings.specs.declared.name.Name.TheVariants.{Nodes, Children}

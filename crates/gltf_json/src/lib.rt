@@ -75,7 +75,9 @@ pub mod laws {
 pub mod root {
     pub use gltf_base::{Index, PushError};
     pub use gltf_io::{ByteIn, ByteOut, Failed, Watched};
-    pub use gltf_root::root::{Found, Get, Mark, Nulls, Place, Root, RootItem, Spacing, Style};
+    pub use gltf_root::root::{
+        Found, Get, Mark, Mismatch, Nulls, Place, Root, RootItem, Spacing, Style, Wanted,
+    };
 }
 
 /// Validation: the faults of a document, and reports of them.

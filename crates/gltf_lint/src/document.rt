@@ -52,10 +52,10 @@ fn is_version_1(alloc: Global, json: &[u8]) -> bool {
 
 /// Why JSON that is no glTF document is refused, with the place.
 fn schema_refusal(alloc: Global, json: &[u8]) -> Refusal {
-    match Root::refused_at(alloc, json) {
-        Ok(Some(place)) if place.pointer.is_empty() => Refusal::Schema,
-        Ok(Some(place)) if is_version_1(alloc, json) => Refusal::Version1(place),
-        Ok(Some(place)) => Refusal::Member(place),
+    match Root::mismatch_in(alloc, json) {
+        Ok(Some(mismatch)) if mismatch.place.pointer.is_empty() => Refusal::Schema,
+        Ok(Some(mismatch)) if is_version_1(alloc, json) => Refusal::Version1(mismatch.place),
+        Ok(Some(mismatch)) => Refusal::Member(mismatch),
         _ => Refusal::Memory,
     }
 }

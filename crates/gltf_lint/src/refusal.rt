@@ -1,7 +1,7 @@
 //! Why a file is refused.
 
 use crate::text::TextFault;
-use gltf_root::root::Place;
+use gltf_root::root::{Mismatch, Place};
 use gltf_schema::Error as DocumentError;
 use std::alloc::AllocError;
 use std::io::{self, ErrorKind};
@@ -45,9 +45,9 @@ pub enum Refusal {
     /// 1.
     #[error("glTF 1.0, not 2.0: {0}")]
     Version1(Place),
-    /// Its JSON is no glTF document, because of what is at this place.
+    /// Its JSON is no glTF document: at a place, another JSON is wanted than is there.
     #[error("JSON, but not a glTF document: {0}")]
-    Member(Place),
+    Member(Mismatch),
     /// Out of memory.
     #[error("out of memory")]
     Memory,
@@ -81,7 +81,8 @@ impl Refusal {
     /// The place of what is not as in a glTF document.
     pub fn place(&self) -> Option<&Place> {
         match self {
-            Refusal::Member(place) | Refusal::Version1(place) => Some(place),
+            Refusal::Member(mismatch) => Some(&mismatch.place),
+            Refusal::Version1(place) => Some(place),
             _ => None,
         }
     }

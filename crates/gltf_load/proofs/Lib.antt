@@ -1,4 +1,2 @@
-pub mod Documents
-pub mod Rooted
-pub mod Spans
+pub mod Named
 pub mod Reading

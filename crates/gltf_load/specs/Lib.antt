@@ -1,9 +1,2 @@
-pub mod Attributes
-pub mod Buffers
-pub mod Documents
-pub mod Glb
-pub mod Named
 pub mod Read
-pub mod Roots
-pub mod Spans
 pub mod Transforms

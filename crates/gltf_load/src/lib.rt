@@ -12,24 +12,12 @@
 
 mod accessors;
 mod attribute;
-mod buffers;
-mod document;
 mod fault;
-mod glb;
-pub mod laws;
-mod nodes;
-mod place;
 mod reader;
-mod scene;
-mod skin;
-#[cfg(test)]
-mod tests;
 mod transform;
 
 pub use accessors::Accessors;
-pub use document::Document;
-pub use fault::{LayoutFault, ReadFault};
-pub use glb::glb_fits;
+pub use fault::ReadFault;
 pub use gltf_accessors::{
     AccessFault, Accessor, AccessorData, AccessorDataFault, Colors, DeviatingFault, Format,
     FormatFault, Joints, Outputs, PartFault, PrimitiveIndices, Sparse,
@@ -38,6 +26,10 @@ pub use gltf_accessors::{
 pub use gltf_buffers::{
     BufferFault, BufferList, Buffers, DataFault, FileFault, Folder, PathFault, Resolve,
     StoredBuffer,
+};
+pub use gltf_document::{
+    Document, LayoutFault, element_size_of, forest_of, glb_fits, is_scene_of, joints_of, laws,
+    span_of,
 };
 pub use gltf_elements::{
     Component, Components, ComponentsFault, Elements, ElementsFault, Floats, IndexType, Indices,
@@ -49,9 +41,5 @@ pub use gltf_layout::{
     AccessorFault, Layout, LayoutError, LayoutFaults, Location, Misfit, Place, PlaceFault, Span,
     SparseFault, SparsePlace, StorageFault, ViewFault, element_size,
 };
-pub use nodes::forest_of;
-pub use place::{element_size_of, span_of};
 pub use reader::Reader;
-pub use scene::is_scene_of;
-pub use skin::joints_of;
 pub use transform::local_matrix;

@@ -3,19 +3,19 @@
 ghost use Rattle.std.specs.Prelude.{◌≡◌, option_map};
 ghost use Rattle.gltf_base.specs.Indexes.{index_number};
 ghost use Rattle.gltf_base.specs.Keys.{positions, normals, tangents, tex_coords, colors, joints, weights, key_eq};
-ghost use Rattle.gltf_base.specs.Semantics.{checked_key};
+ghost use Rattle.gltf_base.specs.Semantics.{semantic_key};
 ghost use Rattle.gltf_accessors.specs.declared.format.Usage.TheVariants as usages;
 ghost use Rattle.gltf_accessors.specs.Data.{IsAccessorAt};
 ghost use Rattle.gltf_accessors.specs.Reads.{IsFloatsFault, IsVectorsAt, IsVectorsFault, IsColorsAt, IsColorsFault, IsJointsAt, IsJointsFault, IsIndicesAt, IsPrimitiveIndicesFault};
 ghost use Rattle.gltf_load.specs.Read.{ReadsNamed, attribute_at};
-ghost use Rattle.gltf_load.specs.Attributes.{attribute_key};
 
 use crate::accessors::{Accessors, optional_with_number};
-use crate::attribute::{Attribute, accessor_of};
-use crate::document::Document;
+use crate::attribute::accessor_of;
 use crate::fault::ReadFault;
 use gltf_accessors::{Accessor, Colors, Joints, PrimitiveIndices, Vectors};
+use gltf_base::mesh::Semantic;
 use gltf_buffers::Buffers;
+use gltf_document::Document;
 use gltf_layout::Layout;
 use gltf_scene::mesh::Primitive;
 
@@ -61,7 +61,7 @@ impl<'a> Reader<'a> {
         ensures { ReadsNamed usages.Positions IsAccessorAt (IsFloatsFault 3) self.now.accessors
             (attribute_at positions self.now.primitive.now) result }
     {
-        let Some(number) = accessor_of(&self.primitive.attributes, Attribute::Positions) else {
+        let Some(number) = accessor_of(&self.primitive.attributes, Semantic::Positions) else {
             return Ok(None);
         };
         match self.accessors.named(number) {
@@ -76,7 +76,7 @@ impl<'a> Reader<'a> {
         ensures { ReadsNamed usages.Normals IsAccessorAt (IsFloatsFault 3) self.now.accessors
             (attribute_at normals self.now.primitive.now) result }
     {
-        let Some(number) = accessor_of(&self.primitive.attributes, Attribute::Normals) else {
+        let Some(number) = accessor_of(&self.primitive.attributes, Semantic::Normals) else {
             return Ok(None);
         };
         match self.accessors.named(number) {
@@ -91,7 +91,7 @@ impl<'a> Reader<'a> {
         ensures { ReadsNamed usages.Tangents IsAccessorAt (IsFloatsFault 4) self.now.accessors
             (attribute_at tangents self.now.primitive.now) result }
     {
-        let Some(number) = accessor_of(&self.primitive.attributes, Attribute::Tangents) else {
+        let Some(number) = accessor_of(&self.primitive.attributes, Semantic::Tangents) else {
             return Ok(None);
         };
         match self.accessors.named(number) {
@@ -106,7 +106,7 @@ impl<'a> Reader<'a> {
         ensures { ReadsNamed usages.TexCoords IsVectorsAt (IsVectorsFault 2) self.now.accessors
             (attribute_at (tex_coords set) self.now.primitive.now) result }
     {
-        let Some(number) = accessor_of(&self.primitive.attributes, Attribute::TexCoords(set)) else {
+        let Some(number) = accessor_of(&self.primitive.attributes, Semantic::TexCoords(set)) else {
             return Ok(None);
         };
         match self.accessors.named(number) {
@@ -121,7 +121,7 @@ impl<'a> Reader<'a> {
         ensures { ReadsNamed usages.Colors IsColorsAt IsColorsFault self.now.accessors
             (attribute_at (colors set) self.now.primitive.now) result }
     {
-        let Some(number) = accessor_of(&self.primitive.attributes, Attribute::Colors(set)) else {
+        let Some(number) = accessor_of(&self.primitive.attributes, Semantic::Colors(set)) else {
             return Ok(None);
         };
         match self.accessors.named(number) {
@@ -136,7 +136,7 @@ impl<'a> Reader<'a> {
         ensures { ReadsNamed usages.Joints IsJointsAt IsJointsFault self.now.accessors
             (attribute_at (joints set) self.now.primitive.now) result }
     {
-        let Some(number) = accessor_of(&self.primitive.attributes, Attribute::Joints(set)) else {
+        let Some(number) = accessor_of(&self.primitive.attributes, Semantic::Joints(set)) else {
             return Ok(None);
         };
         match self.accessors.named(number) {
@@ -151,7 +151,7 @@ impl<'a> Reader<'a> {
         ensures { ReadsNamed usages.Weights IsVectorsAt (IsVectorsFault 4) self.now.accessors
             (attribute_at (weights set) self.now.primitive.now) result }
     {
-        let Some(number) = accessor_of(&self.primitive.attributes, Attribute::Weights(set)) else {
+        let Some(number) = accessor_of(&self.primitive.attributes, Semantic::Weights(set)) else {
             return Ok(None);
         };
         match self.accessors.named(number) {

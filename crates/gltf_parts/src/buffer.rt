@@ -16,11 +16,11 @@ pub use gltf_base::buffer::{
 use gltf_base::validation::{Checked, USize64};
 use gltf_base::{Index, Listed};
 use gltf_schema::{
-    Error, Refusal, Schema, Source, Stream, Strip, Tabled, Unread, whole_or_refused,
+    Error, Refusal, Schema, Shape, Source, Stream, Strip, Tabled, Unread, whole_or_refused,
 };
 use json::Token;
 use serde_json::Value;
-use std::alloc::Global;
+use std::alloc::{AllocError, Global};
 
 mod derived;
 
@@ -54,6 +54,10 @@ impl Schema for Stride {
     }
 
     fn strip(&mut self, _what: Strip) {}
+
+    fn outline(alloc: Global, nodes: &mut Vec<Shape>) -> Result<usize, AllocError> {
+        USize64::outline(alloc, nodes)
+    }
 }
 
 /// Binary data, in a file or in its URI (glTF 2.0, section 5.10).

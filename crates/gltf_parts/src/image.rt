@@ -13,10 +13,10 @@ use crate::extensions;
 use crate::extras::Extras;
 pub use gltf_base::image::VALID_MIME_TYPES;
 use gltf_base::{Index, Listed};
-use gltf_schema::{Error, Refusal, Schema, Source, Stream, Strip, Tabled, Unread};
+use gltf_schema::{Error, Refusal, Schema, Shape, Source, Stream, Strip, Tabled, Unread};
 use json::Token;
 use serde_json::Value;
-use std::alloc::Global;
+use std::alloc::{AllocError, Global};
 
 mod derived;
 
@@ -50,6 +50,10 @@ impl Schema for MimeType {
     }
 
     fn strip(&mut self, _what: Strip) {}
+
+    fn outline(alloc: Global, nodes: &mut Vec<Shape>) -> Result<usize, AllocError> {
+        String::outline(alloc, nodes)
+    }
 }
 
 /// Image data, in a buffer view or at a URI (glTF 2.0, section 5.18).

@@ -15,10 +15,10 @@ use crate::texture::{Info, Texture};
 pub use gltf_base::material::{AlphaMode, VALID_ALPHA_MODES};
 use gltf_base::validation::Checked;
 use gltf_base::{Index, Listed, Real};
-use gltf_schema::{Error, Refusal, Schema, Source, Stream, Strip, Tabled, Unread};
+use gltf_schema::{Error, Refusal, Schema, Shape, Source, Stream, Strip, Tabled, Unread};
 use json::Token;
 use serde_json::Value;
-use std::alloc::Global;
+use std::alloc::{AllocError, Global};
 
 mod derived;
 
@@ -289,6 +289,10 @@ impl Schema for AlphaCutoff {
     }
 
     fn strip(&mut self, _what: Strip) {}
+
+    fn outline(alloc: Global, nodes: &mut Vec<Shape>) -> Result<usize, AllocError> {
+        Real::outline(alloc, nodes)
+    }
 }
 
 /// An emissive factor: red, green, blue; `None` means zeros.

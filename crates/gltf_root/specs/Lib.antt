@@ -10,6 +10,9 @@ pub mod ItemTrees
 pub mod Answer
 pub mod Decoded
 pub mod Place
+pub mod Wanted
+pub mod NodesWithin
+pub mod Mismatch
 pub mod FoundText
 pub mod Written
 pub mod Styled

@@ -5,7 +5,9 @@
 pub mod extensions;
 mod found;
 pub mod laws;
+mod mismatch;
 pub mod root;
 mod text;
+mod wanted;
 
 pub use text::{Place, decode_text, refused_in_text};

@@ -32,7 +32,9 @@ mod style;
 mod top_level;
 
 pub use crate::found::Found;
+pub use crate::mismatch::Mismatch;
 pub use crate::text::Place;
+pub use crate::wanted::Wanted;
 pub use get::{Get, RootItem};
 pub use mark::Mark;
 pub use style::{Nulls, Spacing, Style};

@@ -44,7 +44,7 @@ pub struct Place {
 
 impl Place {
     /// The place at the end of these steps. Fails only if out of memory.
-    fn of(alloc: Global, steps: &[OwnedStep]) -> Result<Place, AllocError>
+    pub(crate) fn of(alloc: Global, steps: &[OwnedStep]) -> Result<Place, AllocError>
         ensures { IfOk result (IsAtEnd (map owned_step steps.now)) }
     {
         let steps = borrowed(alloc, steps)?;
@@ -116,7 +116,7 @@ pub(crate) fn found_in_text<T: Schema>(
 
 /// Returns the value of a text. Fails with `Json` if it is no JSON, and with `Memory` if out of
 /// memory.
-fn json_in(alloc: Global, text: &str) -> Result<Value, Error>
+pub(crate) fn json_in(alloc: Global, text: &str) -> Result<Value, Error>
     ensures { IsJsonIn text.now result }
 {
     match Value::from_str(alloc, text) {

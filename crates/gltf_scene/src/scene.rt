@@ -15,10 +15,10 @@ use crate::mesh::Mesh;
 use crate::skin::Skin;
 use gltf_base::{Index, Listed, Real};
 use gltf_parts::extras::Extras;
-use gltf_schema::{Error, Refusal, Schema, Source, Stream, Strip, Tabled, Unread};
+use gltf_schema::{Error, Refusal, Schema, Shape, Source, Stream, Strip, Tabled, Unread};
 use json::Token;
 use serde_json::Value;
-use std::alloc::Global;
+use std::alloc::{AllocError, Global};
 
 mod derived;
 
@@ -214,4 +214,8 @@ impl Schema for UnitQuaternion {
     }
 
     fn strip(&mut self, _what: Strip) {}
+
+    fn outline(alloc: Global, nodes: &mut Vec<Shape>) -> Result<usize, AllocError> {
+        <[Real; 4]>::outline(alloc, nodes)
+    }
 }

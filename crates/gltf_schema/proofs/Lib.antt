@@ -11,6 +11,7 @@ pub mod Putting
 pub mod RowsPut
 pub mod RowsWritten
 pub mod RowsStripped
+pub mod RowsOutlined
 pub mod PuttingIn
 pub mod AttributesBack
 pub mod ReadBack

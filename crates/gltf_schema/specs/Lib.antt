@@ -18,6 +18,8 @@ pub mod RowReading
 pub mod Streamed
 pub mod Stripped
 pub mod RowStripping
+pub mod Outline
+pub mod RowOutlining
 pub mod KindsStreamedAlike
 pub mod KindsReadAlike
 pub mod Writings

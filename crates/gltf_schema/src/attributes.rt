@@ -13,6 +13,7 @@ ghost use Rattle.gltf_schema.specs.Outcome.{Writes};
 ghost use Rattle.gltf_schema.specs.RowPlacing.{ReadsOrPlaces};
 ghost use Rattle.gltf_schema.specs.Streamed.{ReadsAt};
 
+use crate::outline::{Shape, add_node};
 use crate::placing::{OwnedStep, Refusal};
 use crate::schema::Schema;
 use crate::source::Source;
@@ -24,7 +25,7 @@ use gltf_base::validation::Checked;
 use gltf_base::{Error, IndexTo, Names};
 use json::Token;
 use serde_json::{Map, Value};
-use std::alloc::Global;
+use std::alloc::{AllocError, Global};
 use std::collections::BTreeMap;
 
 impl<P: Names> Tabled for BTreeMap<Checked<Semantic>, IndexTo<P>> {
@@ -75,6 +76,11 @@ impl<P: Names> Schema for BTreeMap<Checked<Semantic>, IndexTo<P>> {
     }
 
     fn strip(&mut self, _what: Strip) {}
+
+    fn outline(alloc: Global, nodes: &mut Vec<Shape>) -> Result<usize, AllocError> {
+        let values = IndexTo::<P>::outline(alloc, nodes)?;
+        add_node(nodes, Shape::Indexes(values))
+    }
 }
 
 /// Each member's index under the key that its name means; of names with one key the last one's

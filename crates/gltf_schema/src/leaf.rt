@@ -7,7 +7,9 @@ ghost use Rattle.gltf_schema.specs.Read.{small_number as number_of_32_bits};
 ghost use Rattle.gltf_schema.specs.Fields.{any_tree, index_tree, real_tree, reals_tree, size_tree, text_tree};
 ghost use Rattle.gltf_schema.specs.Leaves.{checked_tree, choice_of, checked_tree-present};
 
-use crate::list::{decode_items, encode_items, place_items, print_items};
+use crate::list::{decode_items, place_items};
+use crate::list_writing::{ByTable, encode_items, print_items};
+use crate::outline::{Shape, add_node, spelling_shape};
 use crate::placing::{Refusal, whole_or_refused};
 use crate::printing::Printing;
 use crate::schema::Schema;
@@ -22,7 +24,7 @@ use gltf_base::validation::{Checked, USize64};
 use gltf_base::{Error, IndexTo, Names, Real};
 use json::Token;
 use serde_json::Value;
-use std::alloc::Global;
+use std::alloc::{AllocError, Global};
 
 impl Tabled for u32 {
     ghost kind = { U32 };
@@ -57,6 +59,10 @@ impl Schema for u32 {
     }
 
     fn strip(&mut self, _what: Strip) {}
+
+    fn outline(_alloc: Global, nodes: &mut Vec<Shape>) -> Result<usize, AllocError> {
+        add_node(nodes, Shape::Whole32)
+    }
 }
 
 impl Tabled for USize64 {
@@ -89,6 +95,10 @@ impl Schema for USize64 {
     }
 
     fn strip(&mut self, _what: Strip) {}
+
+    fn outline(_alloc: Global, nodes: &mut Vec<Shape>) -> Result<usize, AllocError> {
+        add_node(nodes, Shape::Whole64)
+    }
 }
 
 impl<P: Names> Tabled for IndexTo<P> {
@@ -121,6 +131,10 @@ impl<P: Names> Schema for IndexTo<P> {
     }
 
     fn strip(&mut self, _what: Strip) {}
+
+    fn outline(_alloc: Global, nodes: &mut Vec<Shape>) -> Result<usize, AllocError> {
+        add_node(nodes, Shape::Whole32)
+    }
 }
 
 impl Tabled for Real {
@@ -163,6 +177,10 @@ impl Schema for Real {
     }
 
     fn strip(&mut self, _what: Strip) {}
+
+    fn outline(_alloc: Global, nodes: &mut Vec<Shape>) -> Result<usize, AllocError> {
+        add_node(nodes, Shape::Number)
+    }
 }
 
 impl<const N: usize> Tabled for [Real; N] {
@@ -203,15 +221,20 @@ impl<const N: usize> Schema for [Real; N] {
 
     fn encode(&self, alloc: Global) -> Result<Value, Error> {
         let numbers: &[Real] = self;
-        Ok(Value::Array(encode_items(alloc, numbers)?))
+        Ok(Value::Array(encode_items::<ByTable, Real>(alloc, numbers)?))
     }
 
     fn print<W: Tokens>(&self, to: &mut Printing<W>) {
         let numbers: &[Real] = self;
-        print_items(numbers, to);
+        print_items::<ByTable, Real, W>(numbers, to);
     }
 
     fn strip(&mut self, _what: Strip) {}
+
+    fn outline(alloc: Global, nodes: &mut Vec<Shape>) -> Result<usize, AllocError> {
+        let items = Real::outline(alloc, nodes)?;
+        add_node(nodes, Shape::Numbers(N, items))
+    }
 }
 
 impl Tabled for bool {
@@ -247,6 +270,10 @@ impl Schema for bool {
     }
 
     fn strip(&mut self, _what: Strip) {}
+
+    fn outline(_alloc: Global, nodes: &mut Vec<Shape>) -> Result<usize, AllocError> {
+        add_node(nodes, Shape::Truth)
+    }
 }
 
 impl Tabled for String {
@@ -282,6 +309,10 @@ impl Schema for String {
     }
 
     fn strip(&mut self, _what: Strip) {}
+
+    fn outline(_alloc: Global, nodes: &mut Vec<Shape>) -> Result<usize, AllocError> {
+        add_node(nodes, Shape::Text)
+    }
 }
 
 impl Tabled for Value {
@@ -314,6 +345,10 @@ impl Schema for Value {
     }
 
     fn strip(&mut self, _what: Strip) {}
+
+    fn outline(_alloc: Global, nodes: &mut Vec<Shape>) -> Result<usize, AllocError> {
+        add_node(nodes, Shape::Any)
+    }
 }
 
 impl<T: Choice> Tabled for Checked<T> {
@@ -412,6 +447,10 @@ impl<T: Choice> Schema for Checked<T> {
     }
 
     fn strip(&mut self, _what: Strip) {}
+
+    fn outline(_alloc: Global, nodes: &mut Vec<Shape>) -> Result<usize, AllocError> {
+        add_node(nodes, spelling_shape(T::form()))
+    }
 }
 
 /// A whole number of 32 bits.

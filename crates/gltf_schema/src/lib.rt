@@ -5,8 +5,10 @@ mod attributes;
 pub mod laws;
 mod leaf;
 mod list;
+mod list_writing;
 mod numeral;
 mod omittable;
+mod outline;
 mod placing;
 mod printed;
 mod printing;
@@ -27,6 +29,7 @@ mod writing;
 
 pub use gltf_base::Error;
 pub use omittable::Omittable;
+pub use outline::{Member, Outline, Presence, Shape};
 pub use placing::{OwnedStep, Placing, Refusal, whole_or_refused};
 pub use printing::Printing;
 pub use reading::{ReadRows, Reading};

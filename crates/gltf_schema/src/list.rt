@@ -1,21 +1,19 @@
 //! Lists of a kind.
 
-ghost use Rattle.std.specs.Prelude.{◌≡◌, ◌∷◌, OnOk, IfOk, map, option_map, refl, is_some, IfErr, IsTrue};
+ghost use Rattle.std.specs.Prelude.{◌≡◌, ◌∷◌, OnOk, IfOk, map, refl, is_some, IfErr, IsTrue};
 ghost use Rattle.json.specs.Token.{begin_array};
 ghost use Rattle.serde_json.specs.Find.{as_array};
 ghost use Rattle.serde_json.specs.Data.{array};
-ghost use Rattle.serde_json.specs.View.{items_view};
 ghost use Rattle.gltf_schema.specs.Tree.{trees, list};
 ghost use Rattle.gltf_schema.specs.Kind.{ListOf};
 ghost use Rattle.gltf_schema.specs.Read.{read, read_items};
 ghost use Rattle.gltf_schema.specs.Fields.{list_tree};
-ghost use Rattle.gltf_schema.specs.Write.{write, write_items};
-ghost use Rattle.gltf_schema.specs.Invalid.{any_holds_invalid};
-ghost use Rattle.gltf_schema.specs.Outcome.{Reads, Writes};
+ghost use Rattle.gltf_schema.specs.Outcome.{Reads};
 ghost use Rattle.gltf_schema.specs.RowPlacing.{place_of, IsInside, ReadsOrPlaces};
-ghost use Rattle.gltf_schema.specs.Printings.{printing_state, PrintsValue};
 ghost use Rattle.gltf_schema.specs.Streamed.{ReadsAt};
 
+use crate::list_writing::{ByTable, encode_items, print_items};
+use crate::outline::{Shape, add_node};
 use crate::placing::{OwnedStep, Refusal};
 use crate::printing::Printing;
 use crate::schema::Schema;
@@ -26,7 +24,7 @@ use crate::tokens::Tokens;
 use gltf_base::Error;
 use json::Token;
 use serde_json::Value;
-use std::alloc::Global;
+use std::alloc::{AllocError, Global};
 
 impl<T: Schema> Schema for Vec<T> {
     ghost is_never_absent = { λ _. refl };
@@ -59,15 +57,20 @@ impl<T: Schema> Schema for Vec<T> {
     }
 
     fn encode(&self, alloc: Global) -> Result<Value, Error> {
-        Ok(Value::Array(encode_items(alloc, self)?))
+        Ok(Value::Array(encode_items::<ByTable, T>(alloc, self)?))
     }
 
     fn print<W: Tokens>(&self, to: &mut Printing<W>) {
-        print_items(self, to);
+        print_items::<ByTable, T, W>(self, to);
     }
 
     fn strip(&mut self, what: Strip) {
         strip_items(self, what);
+    }
+
+    fn outline(alloc: Global, nodes: &mut Vec<Shape>) -> Result<usize, AllocError> {
+        let items = T::outline(alloc, nodes)?;
+        add_node(nodes, Shape::List(items))
     }
 }
 
@@ -125,31 +128,4 @@ pub(crate) fn place_items<S: Source, T: Schema>(
         }
     }
     Ok(found)
-}
-
-/// Each item, in order.
-pub(crate) fn encode_items<T: Schema>(alloc: Global, items: &[T]) -> Result<Vec<Value>, Error>
-    ensures { Writes (λ v. items_view v.items) result
-        (write_items (write T.kind) (trees (map T.tree items.now)))
-        (any_holds_invalid (trees (map T.tree items.now))) }
-{
-    let mut written = Vec::with_capacity(alloc, items.len())?;
-    for item in items {
-        written.push(item.encode(alloc)?)?;
-    }
-    Ok(written)
-}
-
-/// Each item, in order, in brackets.
-pub(crate) fn print_items<T: Schema, W: Tokens>(items: &[T], to: &mut Printing<W>)
-    ensures { PrintsValue (printing_state W.written W.before to.old)
-        (option_map array (write_items (write T.kind) (trees (map T.tree items.now))))
-        (any_holds_invalid (trees (map T.tree items.now)))
-        (printing_state W.written W.before to.new) }
-{
-    to.begin_array();
-    for item in items {
-        item.print(to);
-    }
-    to.end_array();
 }

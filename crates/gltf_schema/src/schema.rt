@@ -1,6 +1,7 @@
 //! What is read and written by the table.
 
-ghost use Rattle.std.specs.Prelude.{◌≡◌, ◌≤◌, ◌∷◌, ℕ, Bool, true, false, IsTrue, IfOk, IfErr, OnOk, Some, Err, is_some, refl};
+ghost use Rattle.std.specs.Prelude.{◌≡◌, ◌≤◌, ◌∷◌, ℕ, Bool, true, false, Some, Err, is_some, refl};
+ghost use Rattle.std.specs.Prelude.{IsTrue, IfOk, IfErr, OnOk};
 ghost use Rattle.json.specs.Reads.{token_of};
 ghost use Rattle.serde_json.specs.Find.{as_object};
 ghost use Rattle.serde_json.specs.Data.{Members, no_members};
@@ -24,7 +25,9 @@ ghost use Rattle.gltf_schema.specs.RowReading.{ReadsMembers, Starts, required_in
 ghost use Rattle.gltf_schema.specs.RowPlacing.{place_of, IsInside, ReadsOrPlaces};
 ghost use Rattle.gltf_schema.specs.Streamed.{ReadsAt, ReadsItem};
 ghost use Rattle.gltf_schema.specs.Stripped.{stripped};
+ghost use Rattle.gltf_schema.specs.Outline.{Outlines};
 
+use crate::outline::{Shape, outline_object};
 use crate::placing::{Refusal, place_members};
 use crate::printing::Printing;
 use crate::reading::{ReadRows, Reading};
@@ -155,10 +158,15 @@ pub trait Schema: Tabled + Drop + Sized {
         }
     }
 
-    /// Strips the value in its place, at every depth. It takes no memory. For a kind without objects
-    /// inside its values it does nothing.
+    /// Strips the value in its place, at every depth. It takes no memory. For a kind without
+    /// objects inside its values it does nothing.
     fn strip(&mut self, what: Strip)
         ensures { Self.tree self.new ≡ stripped what Self.kind (Self.tree self.old) };
+
+    /// Adds what JSON the type is read from: its node, behind those of what its values hold. Returns
+    /// the node's number. Fails if out of memory, and may then have added some.
+    fn outline(alloc: Global, nodes: &mut Vec<Shape>) -> Result<usize, AllocError>
+        ensures { Outlines nodes.old.items result nodes.new.items Self.kind };
 
     // What is there is not seen as missing.
     ghost is_never_absent: { (x : Self) → is_absent (Self.tree x) ≡ false };
@@ -348,5 +356,9 @@ impl<T: Object> Schema for T {
 
     fn strip(&mut self, what: Strip) {
         strip_object(self, what);
+    }
+
+    fn outline(alloc: Global, nodes: &mut Vec<Shape>) -> Result<usize, AllocError> {
+        outline_object::<T>(alloc, nodes)
     }
 }

@@ -3,19 +3,19 @@
 
 ghost use Rattle.std.specs.Prelude.{◌≡◌, map, option_map, OnOk};
 ghost use Rattle.json.specs.Token.{begin_array};
-ghost use Rattle.serde_json.specs.Data.{array};
-ghost use Rattle.serde_json.specs.View.{view, items_view, members_view};
+ghost use Rattle.serde_json.specs.View.{view, members_view};
 ghost use Rattle.gltf_schema.specs.Tree.{Tree, trees, tree_or_absent, list as list_tree, end};
 ghost use Rattle.gltf_schema.specs.Kind.{required as is_required, optional as is_optional, always as is_always, unless as is_unless, sometimes as is_sometimes, ListOf, required};
-ghost use Rattle.gltf_schema.specs.Write.{write, write_items};
+ghost use Rattle.gltf_schema.specs.Write.{write};
 ghost use Rattle.gltf_schema.specs.Nulls.{without_nulls, rows_without_nulls};
-ghost use Rattle.gltf_schema.specs.Invalid.{holds_invalid, any_holds_invalid};
+ghost use Rattle.gltf_schema.specs.Invalid.{holds_invalid};
 ghost use Rattle.gltf_schema.specs.Outcome.{Writes};
 ghost use Rattle.gltf_schema.specs.Put.{put_member, put_rows, some_invalid};
 ghost use Rattle.gltf_schema.specs.ByName.{by_name, trees_by_name};
 ghost use Rattle.gltf_schema.specs.Rowwise.{WritesRow, WritesMembers};
 ghost use Rattle.gltf_schema.specs.Printings.{printing_state, PrintsValue, Gathers};
 
+use crate::list_writing::{WithoutNulls, encode_items, print_items};
 use crate::printing::Printing;
 use crate::schema::{Object, Schema};
 use crate::tokens::Tokens;
@@ -110,39 +110,12 @@ impl<T: StrictObject> Strict for T {
 
 impl<T: Strict> Strict for Vec<T> {
     fn encode_strictly(&self, alloc: Global) -> Result<Value, Error> {
-        Ok(Value::Array(encode_items_strictly(alloc, self)?))
+        Ok(Value::Array(encode_items::<WithoutNulls, T>(alloc, self)?))
     }
 
     fn print_strictly<W: Tokens>(&self, to: &mut Printing<W>) {
-        print_items_strictly(self, to);
+        print_items::<WithoutNulls, T, W>(self, to);
     }
-}
-
-/// Each item, in order.
-fn encode_items_strictly<T: Strict>(alloc: Global, items: &[T]) -> Result<Vec<Value>, Error>
-    ensures { Writes (λ v. items_view v.items) result
-        (write_items (write (without_nulls T.kind)) (trees (map T.tree items.now)))
-        (any_holds_invalid (trees (map T.tree items.now))) }
-{
-    let mut written = Vec::with_capacity(alloc, items.len())?;
-    for item in items {
-        written.push(item.encode_strictly(alloc)?)?;
-    }
-    Ok(written)
-}
-
-/// Each item, in order, in brackets.
-fn print_items_strictly<T: Strict, W: Tokens>(items: &[T], to: &mut Printing<W>)
-    ensures { PrintsValue (printing_state W.written W.before to.old)
-        (option_map array (write_items (write (without_nulls T.kind))
-        (trees (map T.tree items.now)))) (any_holds_invalid (trees (map T.tree items.now)))
-        (printing_state W.written W.before to.new) }
-{
-    to.begin_array();
-    for item in items {
-        item.print_strictly(to);
-    }
-    to.end_array();
 }
 
 /// Puts a value under a name, without nulls in it.

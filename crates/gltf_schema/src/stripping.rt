@@ -3,7 +3,8 @@
 ghost use Rattle.std.specs.Prelude.{◌≡◌};
 ghost use Rattle.gltf_schema.specs.Fields.{list_tree};
 ghost use Rattle.gltf_schema.specs.Kind.{ListOf, Object as object_kind, optional as is_optional};
-ghost use Rattle.gltf_schema.specs.RowStripping.{StripsMember, StripsOthers, source_stripped, sampler_stripped};
+ghost use Rattle.gltf_schema.specs.RowStripping.{StripsMember, StripsOthers};
+ghost use Rattle.gltf_schema.specs.RowStripping.{source_stripped, sampler_stripped};
 ghost use Rattle.gltf_schema.specs.Stripped.{member_left, stripped, strips_name};
 ghost use Rattle.gltf_schema.specs.Tree.{object, tree_or_absent};
 
@@ -43,7 +44,8 @@ impl Stripping {
     /// A member that may be absent.
     fn strip_some<T: Schema>(&mut self, name: &str, place: &mut Option<T>)
         ensures what { self.new.what ≡ self.old.what }
-        ensures member { tree_or_absent T.tree place.new ≡ member_left self.old.what name.now is_optional
+        ensures member { tree_or_absent T.tree place.new
+            ≡ member_left self.old.what name.now is_optional
             (stripped self.old.what T.kind (tree_or_absent T.tree place.old)) }
     {
         if self.what.strips_name(name) {
@@ -95,7 +97,8 @@ impl ReadRows for Stripping {
 
 /// Strips each item in its place.
 pub(crate) fn strip_items<T: Schema>(items: &mut [T], what: Strip)
-    ensures { list_tree T.tree items.new ≡ stripped what (ListOf T.kind) (list_tree T.tree items.old) }
+    ensures { list_tree T.tree items.new
+        ≡ stripped what (ListOf T.kind) (list_tree T.tree items.old) }
 {
     for item in items.iter_mut() {
         item.strip(what);

@@ -1,11 +1,13 @@
 //! The place at which the table refuses a document.
 
 ghost use Rattle.std.specs.Prelude.{◌≡◌, Err, IsUtf8};
+ghost use Rattle.gltf_root.specs.Mismatch.{IsMismatchIn};
 ghost use Rattle.gltf_root.specs.Place.{IsPlaceIn, IsFoundIn};
 ghost use Rattle.gltf_root.specs.Root.{root_kind};
 
 use super::Root;
 use crate::found::Found;
+use crate::mismatch::{Mismatch, mismatch_in_text};
 use crate::text::{Place, found_in_text, refused_in_text};
 use gltf_schema::Error;
 use simdutf8::compat::from_utf8;
@@ -38,6 +40,17 @@ impl Root {
     {
         match from_utf8(bytes) {
             Ok(text) => found_in_text::<Root>(alloc, text),
+            Err(_) => Err(Error::Json),
+        }
+    }
+    /// Returns the place that [`Root::refused_at`] returns, what JSON the format wants there, and
+    /// what is there. `None` and the errors are those of that call. It reads the bytes twice.
+    pub fn mismatch_in(alloc: Global, bytes: &[u8]) -> Result<Option<Mismatch>, Error>
+        ensures text { IsUtf8 bytes.now → IsMismatchIn root_kind bytes.now result }
+        ensures no_text { (IsUtf8 bytes.now → ⊥) → result ≡ Err Error.Json }
+    {
+        match from_utf8(bytes) {
+            Ok(text) => mismatch_in_text::<Root>(alloc, text),
             Err(_) => Err(Error::Json),
         }
     }

@@ -1,0 +1,6 @@
+pub mod Buffers
+pub mod Documents
+pub mod Glb
+pub mod Named
+pub mod Roots
+pub mod Spans

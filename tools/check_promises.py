@@ -27,7 +27,10 @@ from specs import TOKEN, Definitions, bare, paths
 PAGE = ROOT / "docs" / "PROMISES.md"
 RECORD = ROOT / "tools" / "promises.json"
 # Crates whose types only try or show what is promised.
-TRIALS = {"gltf_bench", "gltf_vectors_corpus", "gltf_examples", "gltf_vectors"}
+TRIALS = {
+    *("gltf_bench", "gltf_examples", "gltf_vectors", "gltf_vectors_calls", "gltf_vectors_corpus"),
+    *("gltf_vectors_elements", "gltf_vectors_shared"),
+}
 # What contracts see of a value. A line names one of these only if its clause has nothing else.
 VIEWS = {
     *("index_number", "index_tree", "item_kind", "item_place", "members_in", "path_of"),

@@ -14,8 +14,9 @@ from settle import settle
 from sources import ROOT, trait_and_type
 
 FOLDER = ROOT / "docs" / "api"
-CRATES = ["gltf_json", "gltf_load", "gltf_accessors", "gltf_buffers", "gltf_elements", "gltf_findings", "gltf_glb",
-          "gltf_hierarchy", "gltf_layout", "gltf_report_lines"]
+CRATES = ["gltf_json", "gltf_load", "gltf_accessors", "gltf_buffers", "gltf_elements", "gltf_findings",
+          "gltf_findings_glb", "gltf_findings_members", "gltf_glb", "gltf_hierarchy", "gltf_layout",
+          "gltf_lint_lines", "gltf_report_lines"]
 HEAD = "<!-- Written by tools/gen_pages.py from the sources. -->\n"
 README = ROOT / "README.md"
 PROMISES = ROOT / "docs" / "PROMISES.md"

@@ -10,6 +10,7 @@ hour; the programs take some seconds. A program whose compiler is missing is lef
 `--dist` also makes the archive and the wheel (tools/dist.sh), for which `rt run` must have built
 gltf_lint and gltf_report. It unpacks them into a clean folder and runs the commands of docs/C.md,
 "From an archive", there. It compares what they print with the page, and builds a program by CMake.
+The commands of "Build and link" run in a clean folder without `--dist` too, except for `rt lib`.
 
 The script ends with status 1 if a program could not be built or one result differs.
 """
@@ -17,6 +18,7 @@ import ctypes
 import os
 import re
 import shutil
+import struct
 import subprocess
 import sys
 import tempfile
@@ -44,7 +46,23 @@ CLEAN_ANEW = (
     '"byteLength":96,"byteStride":12,"target":34962}],"buffers":[{"byteLength":96,'
     '"uri":"corners.bin"}]}'
 )
-# The words after a program's name, its exit status and its output.
+REFUSED_GLB = "refused: not binary glTF\n"
+
+
+def as_json(file):
+    """The lines of the reports of first.gltf as JSON, for a file of this name."""
+    reports = [
+        ("index-out-of-bounds", "Index out of bounds", "bufferView"),
+        ("invalid", "Invalid value", "componentType"),
+        ("invalid", "Invalid value", "type"),
+    ]
+    return "".join(
+        f'{{"code":"{code}","file":"{file}","kind":"report","message":"{message}",'
+        f'"path":"accessors[1].{member}","pointer":"/accessors/1/{member}"}}\n'
+        for code, message, member in reports)
+
+
+# The words after a program's name, its exit status and its output. `write_files` makes the files.
 CASES = [
     (["clean.gltf"], 0, "clean\n"),
     (["first.gltf"], 1, FIRST),
@@ -55,11 +73,37 @@ CASES = [
     (["required.gltf", ""], 1, UNSUPPORTED),
     (["required.gltf", "KHR_materials_unlit"], 1, UNSUPPORTED),
     (["required.gltf", "KHR_materials_unlit\nKHR_lights_punctual"], 0, "clean\n"),
+    (["-j", "clean.gltf"], 0, ""),
+    (["-j", "first.gltf"], 1, as_json("first.gltf")),
+    (["-j", os.devnull], 2, ""),
+    (["-j", "refused.gltf"], 3, ""),
+    (["clean.glb"], 0, "clean\n"),
+    (["first.glb"], 1, FIRST),
+    (["cut.glb"], 7, REFUSED_GLB),
+    (["-j", "clean.glb"], 0, ""),
+    (["-j", "first.glb"], 1, as_json("first.glb")),
+    (["-j", "cut.glb"], 7, ""),
+    (["-w", "clean.glb"], 2, ""),
     (["-w", "clean.gltf"], 0, CLEAN_ANEW),
     (["-w", os.devnull], 2, ""),
     (["-w", "refused.gltf"], 3, ""),
     (["-w", "first.gltf"], 5, ""),
 ]
+
+
+def glb_of(json):
+    """The bytes of a .glb file with this JSON and no other chunk (glTF 2.0, section 4.4)."""
+    json += b" " * (-len(json) % 4)
+    chunk = struct.pack("<I4s", len(json), b"JSON") + json
+    return struct.pack("<4sII", b"glTF", 2, 12 + len(chunk)) + chunk
+
+
+def write_files(folder):
+    """Copies examples/ into a folder and adds .glb files: two of documents, and one cut off."""
+    shutil.copytree(EXAMPLES, folder)
+    for name in ("clean", "first"):
+        (folder / f"{name}.glb").write_bytes(glb_of((EXAMPLES / f"{name}.gltf").read_bytes()))
+    (folder / "cut.glb").write_bytes((folder / "clean.glb").read_bytes()[:-4])
 
 
 CMAKE = """\
@@ -122,11 +166,14 @@ def rust_program(rustc, folder, own, kit):
 def differences(name, program):
     """Runs a program on each case, and prints where its result is another."""
     count = 0
-    for words, status, output in CASES:
-        ran = subprocess.run([*program, *words], cwd=EXAMPLES, capture_output=True)
-        if (ran.returncode, ran.stdout) != (status, output.encode()):
-            count += 1
-            print(f"{name} {words}: status {ran.returncode}, output {ran.stdout}, {ran.stderr}")
+    with tempfile.TemporaryDirectory() as place:
+        files = Path(place) / "examples"
+        write_files(files)
+        for words, status, output in CASES:
+            ran = subprocess.run([*program, *words], cwd=files, capture_output=True)
+            if (ran.returncode, ran.stdout) != (status, output.encode()):
+                count += 1
+                print(f"{name} {words}: status {ran.returncode}, {ran.stdout}, {ran.stderr}")
     print(f"{name}: {len(CASES) - count} of {len(CASES)} as expected")
     return count
 
@@ -139,7 +186,7 @@ class Library:
             _fields_ = [("status", ctypes.c_uint8), ("needed", ctypes.c_size_t)]
 
         self.loaded = ctypes.CDLL(str(path))
-        for name in ("check", "check_by", "rewrite", "version"):
+        for name in ("check", "check_by", "check_json", "rewrite", "version"):
             getattr(self.loaded, f"gltf_c_{name}").restype = Returned
 
     def call(self, name, inputs, output, room):
@@ -156,13 +203,17 @@ class Library:
 
 def edge_faults(library):
     """What differs from docs/C.md at null pointers and at each size of buffer."""
-    clean = (EXAMPLES / "clean.gltf").read_bytes()
+    clean, first = ((EXAMPLES / f"{name}.gltf").read_bytes() for name in ("clean", "first"))
     refused, version = b"refused: not JSON\n", header_version().encode()
     cases = [
         ("check", [clean], 0, b"clean\n"),
         ("check", [None], 2, refused),
         ("check_by", [None, None, False], 2, refused),
         ("check_by", [clean, None, True], 0, b"clean\n"),
+        ("check_json", [first, b"a"], 1, as_json("a").encode()),
+        ("check_json", [first, None], 1, as_json("").encode()),
+        ("check_json", [first, b"\xff"], 6, b""),
+        ("check_json", [None, None], 2, b""),
         ("rewrite", [clean], 0, CLEAN_ANEW.encode()),
         ("rewrite", [None], 2, b""),
         ("version", [], 0, version),
@@ -215,12 +266,35 @@ def more_faults(cc, folder, own, kit):
     return len(faults)
 
 
+def commands_of(heading):
+    """The commands of a part of docs/C.md, and the text behind them."""
+    page = (ROOT / "docs" / "C.md").read_text()
+    part = re.search(rf"(?ms)^## {heading}$(.*?)^## ", page).group(1)
+    texts = re.findall(r"(?ms)^```text\n(.*?)^```$", part)
+    return re.search(r"(?ms)^```sh\n(.*?)^```$", part).group(1), "".join(texts)
+
+
+def linking_faults(has_rustc):
+    """Runs the commands of docs/C.md, "Build and link", in a clean folder with the library."""
+    commands = commands_of("Build and link")[0]
+    commands = "".join(re.findall(r"(?m)^(?!.*\brt lib\b).*\n", commands))
+    due = FIRST * 3
+    if not has_rustc:
+        commands, due = commands[:commands.index("# Rust")], FIRST * 2
+    with tempfile.TemporaryDirectory() as place:
+        for name in ("crates/gltf_c", "examples"):
+            shutil.copytree(ROOT / name, Path(place) / name)
+        ran = subprocess.run(["bash", "-c", commands], cwd=place, capture_output=True, text=True)
+    if ran.stdout != due:
+        print(f"build and link: {ran.stdout}{ran.stderr}")
+        return 1
+    print("build and link: the commands of docs/C.md print what they should")
+    return 0
+
+
 def archive_faults():
     """Runs the commands of docs/C.md, "From an archive", in a clean folder, and compares."""
-    page = (ROOT / "docs" / "C.md").read_text()
-    part = re.search(r"(?ms)^## From an archive$(.*?)^## ", page).group(1)
-    commands = re.search(r"(?ms)^```sh\n(.*?)^```$", part).group(1)
-    due = re.search(r"(?ms)^```text\n(.*?)^```$", part).group(1)
+    commands, due = commands_of("From an archive")
     with tempfile.TemporaryDirectory() as place:
         home, folder = Path(place) / "home", Path(place) / "files"
         home.mkdir()
@@ -269,6 +343,7 @@ def main():
                 print(f"{name}: left out, since this machine has no compiler for it")
         if cc:
             count += more_faults(cc, Path(folder), own, kit)
+            count += linking_faults(rustc)
     if "--dist" in sys.argv[1:]:
         count += archive_faults()
     sys.exit(1 if count else 0)

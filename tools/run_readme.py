@@ -3,11 +3,12 @@
 `python3 tools/run_readme.py` checks in a moment, without the toolchain: each Rust program is an
 example of `gltf_examples`, each document is a file of `examples/`, each output is part of what
 `rt ci` compares as the output of `gltf_examples`, and README has at most 900 words. The examples of
-a row of its table have each call of the row. Its command that takes the library along copies it into
-a new folder, leaves an equal copy as it is, and refuses a copy that was changed.
-`--run` also runs its first command by `rt try`, its commands for the linter, and its programs in a
-repository into which the library was copied. That takes some minutes. The linter is built first if
-it isn't yet, which takes an hour.
+a row of its table have each call of the row. Its command that takes the library along copies it
+into a new folder, leaves an equal copy as it is, and refuses a copy that was changed.
+`--run` also runs its commands in a clean copy of this repository: the first one by `rt try`, those
+for the linter, those that copy the library, and its programs in the repository that has the copy.
+That takes some minutes. The linter comes from crates/gltf_lint/out if it was built there, else it
+is built first, which takes an hour.
 """
 import os
 import re
@@ -19,7 +20,7 @@ from pathlib import Path
 
 ROOT = Path(__file__).resolve().parent.parent
 EXAMPLES = ROOT / "crates" / "gltf_examples"
-LINTER = ROOT / "crates" / "gltf_lint" / "out" / "gltf_lint"
+LINTER = Path("crates", "gltf_lint", "out", "gltf_lint")
 MOST_WORDS = 900
 BLOCK = re.compile(r"^```(\w+)\n(.*?)^```$", re.S | re.M)
 
@@ -115,55 +116,70 @@ class Readme:
         self.expect(done, f"the library wasn't copied: {ran}")
 
     def run(self):
-        """Runs README's first command, the linter, and its programs in a repository with a copy."""
-        self.run_first_command()
-        self.run_linter()
+        """Runs README's commands and programs in a clean copy of this repository."""
+        with tempfile.TemporaryDirectory() as place:
+            top = Path(place) / "yorwelis"
+            left_out = shutil.ignore_patterns(".git", "out", "__pycache__")
+            shutil.copytree(ROOT, top, ignore=left_out)
+            self.run_first_command(top)
+            self.run_linter(top)
+            self.run_programs(top)
+
+    def commands_with(self, word):
+        """The block of README's commands that has a word."""
+        return next(body for body in self.blocks["sh"] if word in body)
+
+    def run_first_command(self, top):
+        command = re.search(r"(?m)^\(cd .*\brt try\b.*$", self.commands_with("rt try")).group()
+        ran = shell(command, top)
+        printed = ran.stdout in self.blocks["text"]
+        self.expect(printed, f"{command} printed:\n{ran.stdout}{ran.stderr}")
+
+    def run_linter(self, top):
+        """Runs README's commands for the linter, with a home folder of their own."""
+        commands = self.commands_with("gltf_lint")
+        if (ROOT / LINTER).exists():
+            commands = "".join(re.findall(r"(?m)^(?!.*\brt run\b).*\n", commands))
+            (top / LINTER).parent.mkdir()
+            shutil.copy(ROOT / LINTER, top / LINTER)
+        page = (ROOT / "docs" / "SCHEMA.md").read_text()
+        part = page[page.index("`gltf_lint .` in the folder `examples`"):]
+        due = re.search(r"(?ms)^```text\n(.*?)^```", part)
+        ran = shell(commands, top, HOME=str(top.parent / "home"))
+        printed = ran.stdout.replace("examples/", "./")
+        right = (ran.returncode, printed) == (2, due.group(1))
+        self.expect(right, f"the linter: status {ran.returncode}, {printed}{ran.stderr}")
+
+    def run_programs(self, top):
+        """Copies the library by README's commands, and runs README's programs over the copy."""
+        ran = shell(self.commands_with("vendor.py"), top)
+        self.expect(ran.returncode == 0, f"the library wasn't copied: {ran.stdout}{ran.stderr}")
+        mine = top.parent / "mine"
         lines = dict(re.findall(r"`(my_\w+): ([\w ]+)`", self.text))
-        with tempfile.TemporaryDirectory() as folder:
-            copy = Path(folder)
-            listed = "".join(f"{name}: {uses}\n" for name, uses in lines.items())
-            (copy / "crates.txt").write_text(listed)
-            self.expect_copied(copy)
-            shutil.copytree(ROOT / "examples", copy / "examples")
-            for name, body in self.programs.items():
-                self.expect(f"my_{name}" in lines, f"README has no line for my_{name}")
-                source = copy / "crates" / f"my_{name}" / "src"
-                source.mkdir(parents=True)
-                (source / "main.rt").write_text(body)
-            for name, body in self.programs.items():
-                self.run_program(copy / "crates" / f"my_{name}", name, body)
+        with (mine / "crates.txt").open("a") as file:
+            file.write("".join(f"{name}: {uses}\n" for name, uses in lines.items()))
+        for name, body in self.programs.items():
+            self.expect(f"my_{name}" in lines, f"README has no line for my_{name}")
+            source = mine / "crates" / f"my_{name}" / "src"
+            source.mkdir(parents=True)
+            (source / "main.rt").write_text(body)
+        for name, body in self.programs.items():
+            self.run_program(mine / "crates" / f"my_{name}", name, body)
 
     def run_program(self, crate, name, body):
-        # The files that README gives to a program are those that it reads.
-        options = re.findall(r"`rt try (--data (\S+?)=\S+)`", self.text)
-        given = [words.split() for words, file in options if f'"{file}"' in body]
-        printed = self.tried(crate, options=sum(given, []))
-        self.expect(printed == self.outputs[name], f"my_{name} printed:\n{printed}")
+        # The command that gives a program the file that it reads, else the plain one.
+        commands = re.findall(r"`(rt try --data (\S+?)=\S+)`", self.text)
+        given = (command for command, file in commands if f'"{file}"' in body)
+        ran = shell(next(given, "rt try"), crate)
+        right = ran.stdout == self.outputs[name]
+        self.expect(right, f"my_{name} printed:\n{ran.stdout}{ran.stderr}")
 
-    def run_first_command(self):
-        command = re.search(r"cd (\S+) && rt try < (\S+)\)", self.text)
-        crate = ROOT / command.group(1)
-        printed = self.tried(crate, (crate / command.group(2)).read_bytes())
-        self.expect(printed in self.blocks["text"], f"{command.group()} printed:\n{printed}")
 
-    def run_linter(self):
-        """Runs README's commands for the linter, with a home folder of their own."""
-        commands = next(body for body in self.blocks["sh"] if "gltf_lint" in body)
-        if LINTER.exists():
-            commands = "".join(re.findall(r"(?m)^(?!.*\brt run\b).*\n", commands))
-        page = (ROOT / "docs" / "SCHEMA.md").read_text()
-        due = re.search(r"(?ms)^`gltf_lint \.` in the folder `examples`.*?^```text\n(.*?)^```", page)
-        with tempfile.TemporaryDirectory() as home:
-            ran = subprocess.run(["bash", "-e", "-c", commands], cwd=ROOT, capture_output=True,
-                                 env={**os.environ, "HOME": home})
-        printed = ran.stdout.decode().replace("examples/", "./")
-        right = (ran.returncode, printed) == (2, due.group(1))
-        self.expect(right, f"the linter: status {ran.returncode}, {printed}{ran.stderr.decode()}")
-
-    def tried(self, crate, given=b"", options=()):
-        """What `rt try` prints of a crate."""
-        ran = subprocess.run(["rt", "try", *options], cwd=crate, input=given, capture_output=True)
-        return ran.stdout.decode()
+def shell(commands, folder, **names):
+    """Runs commands in a folder up to the first that fails, with more names in the environment."""
+    words = ["bash", "-e", "-c", commands]
+    env = {**os.environ, **names}
+    return subprocess.run(words, cwd=folder, env=env, capture_output=True, text=True)
 
 
 def main():

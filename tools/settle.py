@@ -1,4 +1,5 @@
-"""Writes files that are made by a script, or with `--check` compares them with what is there."""
+"""Writes files that are made by a script, or with `--check` compares them with what is there. The
+content of a file is a text, or bytes."""
 import difflib
 import sys
 
@@ -8,21 +9,27 @@ from sources import ROOT
 LINES, WIDTH = 12, 100
 
 
+def bytes_of(content):
+    return content if isinstance(content, bytes) else content.encode()
+
+
 def settle(files):
-    """Writes each text to its path. With `--check` it writes nothing, and ends with status 1 and a
-    short diff if a file has another text."""
+    """Writes each content to its path. With `--check` it writes nothing, and ends with status 1 and
+    a short diff if a file has another content."""
     if "--check" not in sys.argv[1:]:
-        for path, text in files.items():
-            path.write_text(text)
+        for path, content in files.items():
+            path.write_bytes(bytes_of(content))
         return
-    stale = [path for path, text in files.items()
-             if not path.exists() or path.read_text() != text]
+    stale = [path for path, content in files.items()
+             if not path.exists() or path.read_bytes() != bytes_of(content)]
     for path in files:
         name = path.relative_to(ROOT)
         if path not in stale:
             print(f"{name} is current")
             continue
         print(f"{name} is not current: run python3 {sys.argv[0]}")
+        if isinstance(files[path], bytes):
+            continue
         there = path.read_text().split("\n") if path.exists() else []
         diff = [*difflib.unified_diff(there, files[path].split("\n"), "there", "made", "", n=0)]
         for line in diff[:LINES]:

@@ -2,6 +2,7 @@
  *
  *   check FILE          prints what is wrong in a document
  *   check FILE NAMES    the same, if it may require the extensions NAMES alone, one a line
+ *   check -j FILE       the same as JSON, an object a line
  *   check -w FILE       writes the document anew
  *
  * The exit status is that of the call. tools/run_c.py builds and runs this program. */
@@ -14,10 +15,14 @@
 /* Room for most outputs. A longer one is asked for again, with as much room as it needs. */
 #define ROOM 65536
 
+/* The exit status if the arguments are wrong, or a file can't be read. */
+#define FAILED 9
+
 typedef struct {
     uint8_t *document;
     size_t len;
     const char *names; /* NULL for the standard rules */
+    const char *file;  /* NULL for lines of text */
     bool rewrites;
 } Request;
 
@@ -25,6 +30,9 @@ static gltf_c_returned ask(const Request *request, uint8_t *output, size_t room)
 {
     if (request->rewrites)
         return gltf_c_rewrite(request->document, request->len, output, room);
+    if (request->file)
+        return gltf_c_check_json(request->document, request->len, (const uint8_t *)request->file,
+                                 strlen(request->file), output, room);
     if (request->names)
         return gltf_c_check_by(request->document, request->len, (const uint8_t *)request->names,
                                strlen(request->names), false, output, room);
@@ -50,7 +58,7 @@ static uint8_t *read_file(const char *path, size_t *len)
     }
     if (!file || !feof(file)) {
         fprintf(stderr, "%s can't be read\n", path);
-        exit(7);
+        exit(FAILED);
     }
     fclose(file);
     return bytes;
@@ -59,12 +67,15 @@ static uint8_t *read_file(const char *path, size_t *len)
 int main(int argc, char **argv)
 {
     if (argc < 2 || argc > 3) {
-        fputs("check FILE, check FILE NAMES or check -w FILE\n", stderr);
-        return 7;
+        fputs("check FILE, check FILE NAMES, check -j FILE or check -w FILE\n", stderr);
+        return FAILED;
     }
     Request request = { .rewrites = argc == 3 && strcmp(argv[1], "-w") == 0 };
-    request.names = argc == 3 && !request.rewrites ? argv[2] : NULL;
-    request.document = read_file(argv[request.rewrites ? 2 : 1], &request.len);
+    bool as_json = argc == 3 && strcmp(argv[1], "-j") == 0;
+    const char *path = argv[request.rewrites || as_json ? 2 : 1];
+    request.file = as_json ? path : NULL;
+    request.names = argc == 3 && !request.rewrites && !as_json ? argv[2] : NULL;
+    request.document = read_file(path, &request.len);
 
     uint8_t first[ROOM];
     uint8_t *output = first;

@@ -3,6 +3,7 @@
 //! ```text
 //! check FILE          prints what is wrong in a document
 //! check FILE NAMES    the same, if it may require the extensions NAMES alone, one a line
+//! check -j FILE       the same as JSON, an object a line
 //! check -w FILE       writes the document anew
 //! ```
 //!
@@ -39,6 +40,15 @@ mod gltf {
             names: *const u8,
             names_len: usize,
             empty_texture: bool,
+            output: *mut u8,
+            output_len: usize,
+        ) -> Returned;
+
+        fn gltf_c_check_json(
+            document: *const u8,
+            document_len: usize,
+            file: *const u8,
+            file_len: usize,
             output: *mut u8,
             output_len: usize,
         ) -> Returned;
@@ -85,6 +95,20 @@ mod gltf {
         })
     }
 
+    pub fn check_json(document: &[u8], file: &str) -> (u8, Vec<u8>) {
+        // SAFETY: as in `check`.
+        ask(|output, room| unsafe {
+            gltf_c_check_json(
+                document.as_ptr(),
+                document.len(),
+                file.as_ptr(),
+                file.len(),
+                output,
+                room,
+            )
+        })
+    }
+
     pub fn rewrite(document: &[u8]) -> (u8, Vec<u8>) {
         // SAFETY: as in `check`.
         ask(|output, room| unsafe {
@@ -98,11 +122,12 @@ fn main() -> io::Result<ExitCode> {
     let words: Vec<&str> = words.iter().map(String::as_str).collect();
     let (status, output) = match words[..] {
         ["-w", file] => gltf::rewrite(&fs::read(file)?),
+        ["-j", file] => gltf::check_json(&fs::read(file)?, file),
         [file, names] => gltf::check_by(&fs::read(file)?, names, false),
         [file] => gltf::check(&fs::read(file)?),
         _ => {
-            eprintln!("check FILE, check FILE NAMES or check -w FILE");
-            return Ok(ExitCode::from(7));
+            eprintln!("check FILE, check FILE NAMES, check -j FILE or check -w FILE");
+            return Ok(ExitCode::from(9));
         }
     };
     io::stdout().write_all(&output)?;

@@ -1,6 +1,9 @@
-//! Measures how long reading, validating and writing of one document take: `gltf_bench FILE` prints
-//! the best and the median of nine rounds for each call, in nanoseconds for a byte of the file.
+//! Measures how long reading, validating, writing and loading of one document take:
+//! `gltf_bench FILE` prints the best and the median of nine rounds for each call, in nanoseconds for
+//! a byte of the file.
 #![tactic(auto)]
+
+mod loading;
 
 use anyhow::{Context, Result};
 use gltf_base::Steps;
@@ -144,15 +147,20 @@ fn thousandths(nanos: u64, bytes: usize) -> u64 {
     nanos.saturating_mul(1000) / (bytes as u64).max(1)
 }
 
-/// Prints the best and the median of the rounds of a task.
+/// Runs the rounds of a task, and prints its row.
 fn report(rt: &HostRuntime, task: Task, name: &str, bytes: &[u8], root: &Root) -> Result<()> {
     let mut rounds = Vec::with_capacity(rt.alloc(), ROUNDS)?;
     for _ in 0..ROUNDS {
         rounds.push(time(rt, task, bytes, root)?)?;
     }
+    print_row(rt, name, rounds, bytes.len())
+}
+
+/// Prints the best and the median of the nanoseconds of rounds, for each of so many bytes.
+fn print_row(rt: &HostRuntime, name: &str, mut rounds: Vec<u64>, len: usize) -> Result<()> {
     rounds.sort()?;
-    let best = thousandths(rounds.first().copied().unwrap_or(0), bytes.len());
-    let median = thousandths(rounds.get(ROUNDS / 2).copied().unwrap_or(0), bytes.len());
+    let best = thousandths(rounds.first().copied().unwrap_or(0), len);
+    let median = thousandths(rounds.get(ROUNDS / 2).copied().unwrap_or(0), len);
     println!(rt;
         "{name}: best {}.{:03}, median {}.{:03}",
         best / 1000,
@@ -177,5 +185,5 @@ fn main(rt: HostRuntime) -> Result<()> {
     for (task, name) in TASKS {
         report(&rt, task, name, &bytes, &root)?;
     }
-    Ok(())
+    loading::report_all(&rt, &root, bytes.len())
 }

@@ -26,7 +26,8 @@ enum {
     GLTF_C_NOT_GLTF = 3,     /* the JSON is no glTF document */
     GLTF_C_NO_MEMORY = 4,    /* memory was refused */
     GLTF_C_INVALID_ITEM = 5, /* a choice or the name of an attribute is invalid */
-    GLTF_C_NOT_TEXT = 6      /* the names of extensions are no UTF-8 */
+    GLTF_C_NOT_TEXT = 6,     /* the names of extensions, or of the file, are no UTF-8 */
+    GLTF_C_NOT_GLB = 7       /* the bytes begin with "glTF" and are no .glb file */
 };
 
 /* What a call returns beside its output. The first bytes of the output are in the buffer, as many
@@ -36,9 +37,10 @@ typedef struct gltf_c_returned {
     size_t needed; /* how many bytes the whole output has */
 } gltf_c_returned;
 
-/* Checks a document. The output is what `gltf_report` prints: `clean` (status 0), a line for each
- * report (1), or why the document was refused (2, 3, 4). Each line, the last one too, ends with a
- * newline. */
+/* Checks a document: JSON, or the bytes of a .glb file. The output is what `gltf_report` prints:
+ * `clean` (status 0), a line for each report (1), or why the document was refused (2, 3, 4). For
+ * broken .glb files it is `refused: not binary glTF` (7). Each line ends with a newline, the last
+ * one too. */
 gltf_c_returned gltf_c_check(const uint8_t *document, size_t document_len,
                              uint8_t *output, size_t output_len);
 
@@ -49,11 +51,20 @@ gltf_c_returned gltf_c_check_by(const uint8_t *document, size_t document_len,
                                 bool empty_texture,
                                 uint8_t *output, size_t output_len);
 
+/* Checks a document as gltf_c_check does. The output is a line for each
+ * report (status 1): a JSON object, with the members `code`, `file`, `kind`, `message`, `path`
+ * and `pointer`. `file` is the name that the lines give to the file, in UTF-8. Without output the
+ * status is 0 (no report), 2, 3, 4, 6 or 7. */
+gltf_c_returned gltf_c_check_json(const uint8_t *document, size_t document_len,
+                                  const uint8_t *file, size_t file_len,
+                                  uint8_t *output, size_t output_len);
+
 /* Puts out the version of the library (status 0), without a newline at its end. */
 gltf_c_returned gltf_c_version(uint8_t *output, size_t output_len);
 
-/* Writes a document anew, in one line without a newline at its end (status 0). Without output the
- * status is 2, 3, 4 or 5. Members that the format's table doesn't have are left out: docs/C.md. */
+/* Writes a document anew, in one line without a newline at its end (status 0). It takes JSON alone,
+ * no .glb file. Without output the status is 2, 3, 4 or 5. Members that the format's table doesn't
+ * have are left out: docs/C.md. */
 gltf_c_returned gltf_c_rewrite(const uint8_t *document, size_t document_len,
                                uint8_t *output, size_t output_len);
 

@@ -1,18 +1,24 @@
 -- What the calls return.
-use Rattle.std.specs.Prelude.{◌≡◌, ◌⊎◌, true, ℕ, Bool, List, Result, Ok, Err, ⊤, if◌then◌else◌, codes}
+use Rattle.std.specs.Prelude.{◌≡◌, ◌⊎◌, true, ℕ, Bool, List, [], ◌∷◌, Result, Ok, Err, ⊤, if◌then◌else◌, codes, String, string_bytes}
 use Rattle.std.specs.Str.Lines.{lines}
-use Rattle.std.specs.Global.{Vec}
+use Rattle.std.specs.Global.{Global, Vec}
 use Rattle.gltf_schema.specs.Invalid.{holds_invalid}
 use Rattle.gltf_schema.specs.Tree.{Tree}
 use Rattle.gltf_base.specs.declared.error.Error.{Error}
 use Rattle.gltf_base.specs.declared.error.Error.TheVariants as errors
-use Rattle.gltf_root.specs.Answer.{Answer, no_json, no_document, document}
+use Rattle.gltf_root.specs.Answer.{Answer, no_json, no_document, document, answer}
 use Rattle.gltf_root.specs.Styled.{IsReadBackIn, IsTextIn, style_of}
 use Rattle.gltf_root.specs.declared.root.style.Nulls.TheVariants.{LeftOut}
 use Rattle.gltf_root.specs.declared.root.style.Spacing.TheVariants.{Compact}
 use Rattle.gltf_root.specs.declared.root.style.Style.{Style}
 use Rattle.gltf_validation_rules.specs.Context.{Rules}
-use Rattle.gltf_report_lines.specs.Output.{Output, output, refusal}
+use Rattle.gltf_validation_rules.specs.Reports.{document_reports}
+use Rattle.gltf_sinks.specs.Report.{Report}
+use Rattle.gltf_glb.specs.declared.error.Error.{Error as GlbError}
+use Rattle.gltf_report_lines.specs.Output.{Output, line, output, refusal}
+use Rattle.gltf_lint_lines.specs.Bytes.{json_of}
+use Rattle.gltf_lint_lines.specs.Lines.{report_lines}
+use Rattle.gltf_lint_lines.specs.declared.format.Format.TheVariants.{Json as AsJson}
 use Rattle.gltf_c.specs.Filled.{IsFilled}
 use Rattle.gltf_c.specs.declared.returned.Returned.{Returned}
 
@@ -25,10 +31,51 @@ given_rules empty_texture names = record { empty_texture = empty_texture; enable
 abbrev pub IsGiven : Output → List ℕ → List ℕ → Returned → Type 0
 IsGiven due old new returned = (returned.status ≡ due.status) × IsFilled due.text old new returned.needed
 
+-- bytes that begin as a container, but are none
+abbrev pub no_container : Output
+no_container = record { text = line (codes "refused: not binary glTF"); status = 7 }
+
+-- what a run writes for the JSON of a file
+abbrev pub file_output : Rules → Result (List ℕ) GlbError → Output
+file_output rules (Ok json) = output rules json
+file_output rules (Err e) = no_container
+
 -- a call returned what a run writes for a document, or that memory was refused
 abbrev pub IsChecked : Rules → List ℕ → List ℕ → List ℕ → Returned → Type 0
 IsChecked rules bytes old new returned =
-    IsGiven (output rules bytes) old new returned ⊎ IsGiven refusal old new returned
+    IsGiven (file_output rules (json_of bytes)) old new returned ⊎ IsGiven refusal old new returned
+
+-- no output, with a status
+abbrev pub nothing : ℕ → Output
+nothing status = record { text = []; status = status }
+
+-- the lines of `gltf_lint --json` for reports; without a report there is no line
+abbrev pub reports_listed : List ℕ → List Report → Output
+reports_listed file [] = nothing 0
+reports_listed file (r ∷ rs) = record { text = report_lines AsJson file (r ∷ rs); status = 1 }
+
+abbrev pub answer_listed : Rules → List ℕ → Answer → Output
+answer_listed rules file no_json = nothing 2
+answer_listed rules file no_document = nothing 3
+answer_listed rules file (document t) = reports_listed file (document_reports rules t)
+
+-- the same for the JSON of a file
+abbrev pub file_listed : Rules → List ℕ → Result (List ℕ) GlbError → Output
+file_listed rules file (Ok json) = answer_listed rules file (answer json)
+file_listed rules file (Err e) = nothing 7
+
+-- a call listed the reports of a document, or memory was refused
+abbrev pub IsListed : Rules → List ℕ → List ℕ → List ℕ → List ℕ → Returned → Type 0
+IsListed rules file bytes old new returned =
+    IsGiven (file_listed rules file (json_of bytes)) old new returned ⊎ IsGiven (nothing 4) old new returned
+
+-- the lines of the reports of a document, or why there are none
+abbrev pub IsListing : Rules → List ℕ → Answer → Result (String Global) Error → Type 0
+IsListing rules file due (Ok found) = (t : Tree) × (due ≡ document t) × (string_bytes found ≡ report_lines AsJson file (document_reports rules t))
+IsListing rules file due (Err errors.Json) = due ≡ no_json
+IsListing rules file due (Err errors.Schema) = due ≡ no_document
+IsListing rules file due (Err (errors.Memory e)) = ⊤
+IsListing rules file due (Err _) = ⊥
 
 -- one line, without nulls where the format allows none
 abbrev pub rewrite_style : Style

@@ -9,7 +9,7 @@
 ghost use Rattle.std.specs.Prelude.{◌≡◌, ◌≢◌, ◌≤◌, ◌⊎◌, [], IsUtf8};
 ghost use Rattle.gltf_root.specs.Answer.{answer, no_json, no_document};
 ghost use Rattle.gltf_validation_rules.specs.Context.{standard_rules};
-ghost use Rattle.gltf_c.specs.Calls.{IsChecked, IsGiven, given_rules, IsRewritten, IsUnwritable, rewrite_status, version_output};
+ghost use Rattle.gltf_c.specs.Calls.{IsChecked, IsGiven, IsListed, given_rules, IsRewritten, IsUnwritable, rewrite_status, version_output};
 ghost use Rattle.gltf_c.specs.Filled.{IsFilled};
 
 use gltf_report_lines::Outcome;
@@ -25,11 +25,15 @@ mod work;
 
 pub use returned::Returned;
 use returned::{fill, refuse, tell};
-use work::{check, lines_in, rewritten};
+use work::{check, lines_in, list, rewritten};
 
 const VERSION: &str = "1.4.1+1";
 
+const NO_REPORT: u8 = 0;
+
 const WRITTEN: u8 = 0;
+
+const REPORTS: u8 = 1;
 
 const NOT_JSON: u8 = 2;
 
@@ -41,7 +45,10 @@ const INVALID_ITEM: u8 = 5;
 
 const NOT_TEXT: u8 = 6;
 
-/// Checks a document, and puts out what `gltf_report` prints for it.
+const NOT_GLB: u8 = 7;
+
+/// Checks a document, and puts out what `gltf_report` prints for it. If the bytes begin with
+/// `glTF`, they are those of a `.glb` file, and the document is its JSON chunk.
 ///
 /// | Status | Output |
 /// |---|---|
@@ -50,6 +57,7 @@ const NOT_TEXT: u8 = 6;
 /// | 2 | `refused: not JSON` |
 /// | 3 | `refused: not a glTF document` |
 /// | 4 | `refused: input or output`, if out of memory |
+/// | 7 | `refused: not binary glTF`, if the bytes begin with `glTF` and are no `.glb` file |
 #[unsafe(no_mangle)]
 pub extern "C" fn gltf_c_check(alloc: Global, document: &[u8], output: &mut [u8]) -> Returned
     ensures { IsChecked standard_rules document.now output.old output.new result }
@@ -89,9 +97,41 @@ pub extern "C" fn gltf_c_check_by(
     }
 }
 
+/// Checks a document as [`gltf_c_check`] does, and puts out a line for each report: a JSON object,
+/// with the members `code`, `file`, `kind`, `message`, `path` and `pointer`. `file` is the name that the lines give to the file. The status 6 comes if and
+/// only if that name is no UTF-8. Output comes with status 1 alone.
+///
+/// | Status | Meaning |
+/// |---|---|
+/// | 0 | no report |
+/// | 1 | a line for each report, in order |
+/// | 2 | the bytes are no JSON |
+/// | 3 | the JSON is no glTF document |
+/// | 4 | out of memory |
+/// | 6 | the name of the file is no UTF-8 |
+/// | 7 | the bytes begin with `glTF` and are no `.glb` file |
+#[unsafe(no_mangle)]
+pub extern "C" fn gltf_c_check_json(
+    alloc: Global,
+    document: &[u8],
+    file: &[u8],
+    output: &mut [u8],
+) -> Returned
+    ensures listed { IsUtf8 file.now
+        → IsListed standard_rules file.now document.now output.old output.new result }
+    ensures no_name { ¬ (IsUtf8 file.now) → (result.status ≡ 6)
+        × IsFilled [] output.old output.new result.needed }
+{
+    match from_utf8(file) {
+        Ok(file) => list(alloc, &Rules::new(), file, document, output),
+        Err(_) => refuse(NOT_TEXT),
+    }
+}
+
 /// Writes a document anew: in one line, without blanks between its tokens, and with each default of
 /// the format left out or put in as `Root::to_vec` does. An absent member is left out where
-/// `Root::to_vec` writes a null that the format doesn't allow. Output comes with the status 0 alone.
+/// `Root::to_vec` writes a null that the format doesn't allow. It takes JSON alone, and no bytes of
+/// a `.glb` file. Output comes with status 0 alone.
 /// The bytes decide the status, except that it is 4 if out of memory.
 ///
 /// | Status | Meaning |

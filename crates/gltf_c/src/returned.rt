@@ -2,6 +2,7 @@
 
 ghost use Rattle.std.specs.Prelude.{◌≡◌};
 ghost use Rattle.gltf_report_lines.specs.Outcome.{outcome_output};
+ghost use Rattle.gltf_report_lines.specs.Output.{Output};
 ghost use Rattle.gltf_c.specs.Calls.{IsGiven};
 ghost use Rattle.gltf_c.specs.Filled.{IsFilled};
 
@@ -27,14 +28,21 @@ pub(crate) fn fill(output: &mut [u8], bytes: &[u8]) -> usize
     bytes.len()
 }
 
+/// Writes a text to a buffer.
+pub(crate) fn give(status: u8, text: &str, output: &mut [u8]) -> Returned
+    ensures { IsGiven (record { text = text.now; status = status }) output.old output.new result }
+{
+    Returned {
+        status,
+        needed: fill(output, text.as_bytes()),
+    }
+}
+
 /// Writes the outcome for a document to a buffer.
 pub(crate) fn tell(outcome: &Outcome, output: &mut [u8]) -> Returned
     ensures { IsGiven (outcome_output outcome.now) output.old output.new result }
 {
-    Returned {
-        status: outcome.status(),
-        needed: fill(output, outcome.text().as_bytes()),
-    }
+    give(outcome.status(), outcome.text(), output)
 }
 
 /// Says why there is no output.

@@ -1,7 +1,7 @@
 //! That the calls succeed with ample memory, and what buffers with little room hold then.
 
 use crate::returned::Returned;
-use crate::{gltf_c_check, gltf_c_check_by, gltf_c_rewrite, gltf_c_version};
+use crate::{gltf_c_check, gltf_c_check_by, gltf_c_check_json, gltf_c_rewrite, gltf_c_version};
 use std::alloc::Global;
 
 const CLEAN: &[u8] = b"{\"asset\": {\"version\": \"2.0\"}, \"nodes\": []}\n";
@@ -19,7 +19,19 @@ const INVALID: &[u8] =
 
 const FAULTS: &str = "accessors[0].type: Invalid value\naccessors[0].bufferView: Missing data\n";
 
-const ROOM: usize = 100;
+const LINES: &str = "\
+    {\"code\":\"invalid\",\"file\":\"a.gltf\",\"kind\":\"report\",\"message\":\"Invalid value\",\
+    \"path\":\"accessors[0].type\",\"pointer\":\"/accessors/0/type\"}\n\
+    {\"code\":\"missing\",\"file\":\"a.gltf\",\"kind\":\"report\",\"message\":\"Missing data\",\
+    \"path\":\"accessors[0].bufferView\",\"pointer\":\"/accessors/0/bufferView\"}\n";
+
+/// A `.glb` file of 48 bytes: the header, and a JSON chunk with 28 bytes of data.
+const GLB: &[u8] = b"glTF\x02\0\0\0\x30\0\0\0\x1c\0\0\0JSON{\"asset\":{\"version\":\"2.0\"}} ";
+
+/// The same without its last 4 bytes.
+const CUT: &[u8] = b"glTF\x02\0\0\0\x30\0\0\0\x1c\0\0\0JSON{\"asset\":{\"version\":\"2.0";
+
+const ROOM: usize = 300;
 
 /// Whether a call returned a status and the length of a text, and wrote the text to the front of a
 /// buffer of points, as far as there is room.
@@ -45,6 +57,22 @@ fn checks_by(alloc: Global, names: &[u8], status: u8, text: &str) -> bool {
     let mut buffer = [b'.'; ROOM];
     let returned = gltf_c_check_by(alloc, LIGHTS, names, false, &mut buffer);
     is_put(returned, status, &buffer, text)
+}
+
+fn lists_as(
+    alloc: Global,
+    document: &[u8],
+    file: &[u8],
+    room: usize,
+    status: u8,
+    text: &str,
+) -> bool {
+    let mut buffer = [b'.'; ROOM];
+    let Some(output) = buffer.get_mut(..room) else {
+        return false;
+    };
+    let returned = gltf_c_check_json(alloc, document, file, output);
+    is_put(returned, status, output, text)
 }
 
 fn rewrites_as(alloc: Global, document: &[u8], room: usize, status: u8, text: &str) -> bool {
@@ -88,6 +116,32 @@ fn names_decide(rt: HostRuntime) {
         )
     );
     assert!(rt; checks_by(alloc, b"\xff", 6, ""));
+}
+
+#[test]
+fn reports_are_listed_as_json(rt: HostRuntime) {
+    let alloc = rt.alloc();
+    assert!(rt; lists_as(alloc, CLEAN, b"a.gltf", ROOM, 0, ""));
+    assert!(rt; lists_as(alloc, LIGHTS, b"a.gltf", ROOM, 0, ""));
+    assert!(rt; lists_as(alloc, b"", b"a.gltf", ROOM, 2, ""));
+    assert!(rt; lists_as(alloc, b"{}", b"a.gltf", ROOM, 3, ""));
+    assert!(rt; lists_as(alloc, INVALID, b"\xff", ROOM, 6, ""));
+    for room in [0, 1, LINES.len() - 1, LINES.len(), ROOM] {
+        assert!(rt;
+            lists_as(alloc, INVALID, b"a.gltf", room, 1, LINES),
+            "{room}"
+        );
+    }
+}
+
+#[test]
+fn containers_are_checked(rt: HostRuntime) {
+    let alloc = rt.alloc();
+    assert!(rt; checks_as(alloc, GLB, ROOM, 0, "clean\n"));
+    assert!(rt; checks_as(alloc, CUT, ROOM, 7, "refused: not binary glTF\n"));
+    assert!(rt; lists_as(alloc, GLB, b"", ROOM, 0, ""));
+    assert!(rt; lists_as(alloc, CUT, b"", ROOM, 7, ""));
+    assert!(rt; rewrites_as(alloc, GLB, ROOM, 2, ""));
 }
 
 #[test]

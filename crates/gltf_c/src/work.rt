@@ -4,9 +4,11 @@ ghost use Rattle.std.specs.Prelude.{◌≡◌, map, IfOk};
 ghost use Rattle.std.specs.Str.Lines.{lines};
 ghost use Rattle.gltf_root.specs.Answer.{answer};
 ghost use Rattle.gltf_validation_rules.specs.Context.{rules_of};
-ghost use Rattle.gltf_c.specs.Calls.{IsChecked, IsRewriting};
+ghost use Rattle.gltf_c.specs.Calls.{IsChecked, IsListed, IsListing, IsRewriting};
 
-use crate::returned::{Returned, tell};
+use crate::returned::{Returned, give, refuse, tell};
+use crate::{NO_MEMORY, NO_REPORT, NOT_DOCUMENT, NOT_GLB, NOT_JSON, REPORTS};
+use gltf_lint_lines::{Format, all_lines, json_of};
 use gltf_report_lines::Outcome;
 use gltf_root::root::{Nulls, Root, Spacing, Style};
 use gltf_schema::Error;
@@ -22,7 +24,40 @@ pub(crate) fn check(
 ) -> Returned
     ensures { IsChecked (rules_of rules.now) document.now output.old output.new result }
 {
-    tell(&Outcome::of(alloc, rules, document), output)
+    match json_of(document) {
+        Ok(json) => tell(&Outcome::of(alloc, rules, json), output),
+        Err(_) => give(NOT_GLB, "refused: not binary glTF\n", output),
+    }
+}
+
+/// Checks a document by the rules, and writes the lines of its reports as JSON to a buffer.
+pub(crate) fn list(
+    alloc: Global,
+    rules: &Rules<'_>,
+    file: &str,
+    document: &[u8],
+    output: &mut [u8],
+) -> Returned
+    ensures { IsListed (rules_of rules.now) file.now document.now output.old output.new result }
+{
+    let Ok(json) = json_of(document) else {
+        return refuse(NOT_GLB);
+    };
+    match listing(alloc, rules, file, json) {
+        Ok(lines) if lines.is_empty() => refuse(NO_REPORT),
+        Ok(lines) => give(REPORTS, &lines, output),
+        Err(Error::Json) => refuse(NOT_JSON),
+        Err(Error::Schema) => refuse(NOT_DOCUMENT),
+        Err(_) => refuse(NO_MEMORY),
+    }
+}
+
+/// The lines of the reports of a document.
+fn listing(alloc: Global, rules: &Rules<'_>, file: &str, json: &[u8]) -> Result<String, Error>
+    ensures { IsListing (rules_of rules.now) file.now (answer json.now) result }
+{
+    let root = Root::from_slice(alloc, json)?;
+    Ok(all_lines(alloc, rules, Format::Json, file, &root)?)
 }
 
 /// The lines of a text.

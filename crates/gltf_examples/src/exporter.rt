@@ -1,21 +1,47 @@
-//! Makes a document with one triangle from nothing, and prints it.
+//! Writes a binary file with one triangle, made from nothing: its indices and its positions are in
+//! the BIN chunk.
 #![tactic(auto)]
 
-use anyhow::Result;
+use anyhow::{Result, ensure};
 use gltf_json::accessor::{ComponentType, Type};
 use gltf_json::buffer::{Target, View};
 use gltf_json::mesh::{Primitive, Semantic};
 use gltf_json::validation::{Checked, USize64};
 use gltf_json::{Accessor, Buffer, Index, Mesh, Node, Root, Scene};
+use gltf_load::Glb;
 use serde_json::json;
 use std::alloc::Global;
 use std::collections::BTreeMap;
+use std::fs;
 
-/// Three indices of 16 bits, two bytes of padding, and three corners of three floats.
-const DATA: &str = "data:application/octet-stream;base64,\
-    AAABAAIAAAAAAAAAAAAAAAAAAAAAAIA/AAAAAAAAAAAAAAAAAACAPwAAAAA=";
+const FILE: &str = "exported.glb";
 
-/// A part of the buffer that holds the data.
+/// The corners, in the order in which they are drawn.
+const INDICES: [u16; 3] = [0, 1, 2];
+
+/// Where the corners are.
+const POSITIONS: [[f32; 3]; 3] = [[0.0, 0.0, 0.0], [1.0, 0.0, 0.0], [0.0, 1.0, 0.0]];
+
+/// Where the positions begin in the buffer: behind the indices, at a multiple of 4.
+const POSITIONS_OFFSET: u64 = 8;
+
+/// The bytes of the buffer.
+fn data(alloc: Global) -> Result<Vec<u8>> {
+    let mut bytes = Vec::new(alloc);
+    for index in INDICES {
+        bytes.extend_from_slice(&index.to_le_bytes())?;
+    }
+    bytes.extend_from_slice(&[0, 0])?;
+    for position in POSITIONS {
+        for coordinate in position {
+            ensure!(coordinate.is_finite(), "a coordinate is NaN or infinite");
+            bytes.extend_from_slice(&coordinate.to_le_bytes())?;
+        }
+    }
+    Ok(bytes)
+}
+
+/// A part of the buffer.
 fn view(buffer: Index<Buffer>, offset: u64, length: u64, target: Target) -> View {
     let mut view = View::new(buffer, length);
     view.byte_offset = Some(USize64(offset));
@@ -30,13 +56,12 @@ fn three(view: Index<View>, component: ComponentType, type_: Type) -> Accessor {
     accessor
 }
 
-/// Pushes the triangle's data and its mesh.
-fn push_mesh(alloc: Global, root: &mut Root) -> Result<Index<Mesh>> {
-    let mut buffer = Buffer::new(44);
-    buffer.uri = Some(String::from_str(alloc, DATA)?);
-    let buffer = root.push(buffer)?;
+/// Pushes a mesh that is the triangle, whose buffer has so many bytes.
+fn push_mesh(alloc: Global, root: &mut Root, length: u64) -> Result<Index<Mesh>> {
+    let buffer = root.push(Buffer::new(length))?;
     let order = root.push(view(buffer, 0, 6, Target::ElementArrayBuffer))?;
-    let corners = root.push(view(buffer, 8, 36, Target::ArrayBuffer))?;
+    let corners = view(buffer, POSITIONS_OFFSET, 36, Target::ArrayBuffer);
+    let corners = root.push(corners)?;
     let indices = root.push(three(order, ComponentType::U16, Type::Scalar))?;
     let mut positions = three(corners, ComponentType::F32, Type::Vec3);
     positions.min = Some(json!(in alloc; [0, 0, 0])?);
@@ -50,11 +75,16 @@ fn push_mesh(alloc: Global, root: &mut Root) -> Result<Index<Mesh>> {
 
 pub fn main(rt: HostRuntime) -> Result<()> {
     let alloc = rt.alloc();
+    let data = data(alloc)?;
     let mut root = Root::new(alloc)?;
     let mut node = Node::new();
-    node.mesh = Some(push_mesh(alloc, &mut root)?);
+    node.name = Some(String::from_str(alloc, "triangle")?);
+    node.mesh = Some(push_mesh(alloc, &mut root, data.len() as u64)?);
     let node = root.push(node)?;
     root.scene = Some(root.push(Scene::new(vec![in alloc; node]?))?);
-    println!(rt; "{}", root.to_string_pretty(alloc)?)?;
+    let json = root.to_vec(alloc)?;
+    let file = Glb::to_vec(alloc, &json, Some(data.as_slice()))?;
+    fs::write(&rt, FILE, &file)?;
+    println!(rt; "{FILE}: {} bytes", file.len())?;
     Ok(())
 }

@@ -3,8 +3,8 @@
 #![tactic(auto)]
 
 use anyhow::{Context, Result, ensure};
-use gltf_glb::Glb;
 use gltf_json::Root;
+use gltf_load::Glb;
 use std::fs;
 
 pub fn main(rt: HostRuntime) -> Result<()> {

@@ -1,0 +1,6 @@
+pub mod Unbroken
+pub mod Fitting
+pub mod Repeating
+pub mod Standing
+pub mod Rooted
+pub mod Lawful

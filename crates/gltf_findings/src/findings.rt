@@ -1,27 +1,31 @@
 //! All findings of a document.
 
-ghost use Rattle.std.specs.Prelude.{◌≡◌, ◌++◌, Option, IfOk, OnOk};
-ghost use Rattle.gltf_findings.specs.Found.{found};
-ghost use Rattle.gltf_findings.specs.Findings.{findings_of, root_rules, stored_findings, shown_findings, staged_findings, placed_findings, counts_of, lights_of};
+ghost use Rattle.std.specs.Prelude.{◌≡◌, ◌++◌, codes, length, Option, IfOk, OnOk};
+ghost use Rattle.gltf_findings.specs.ExtensionNames.{is_listed};
+ghost use Rattle.gltf_findings_codes.specs.Found.{found, findings_from};
+ghost use Rattle.gltf_findings_scenes.specs.Nodes.{node_findings};
+ghost use Rattle.gltf_findings_scenes.specs.Placed.{placed_findings as placed_node_findings};
+ghost use Rattle.gltf_findings.specs.Findings.{findings_of, root_rules, stored_findings, shown_findings, staged_findings, placed_findings, marked_findings, document_findings, counts_of, lights_of, variant_count};
 
-use crate::accessors::AccessorRules;
-use crate::animations::AnimationRules;
-use crate::cameras::CameraRules;
-use crate::code::Code;
-use crate::collect::{add_all, add_found, broken};
-use crate::finding::{Finding, Object, Place};
 use crate::hierarchy::hierarchy_rules;
-use crate::lights::LightRules;
-use crate::materials::MaterialRules;
-use crate::meshes::MeshRules;
-use crate::name::Name;
-use crate::nodes::{NodeRules, SceneRules};
-use crate::rules::is_some_unresolved;
-use crate::skins::SkinRules;
-use crate::textures::{ImageRules, SamplerRules, TextureRules};
-use crate::views::{BufferRules, ViewRules};
+use crate::names::{NameRules, is_listed, use_rules};
+use crate::uses::add_uses;
+use crate::version::asset_rules;
+use gltf_findings_codes::{
+    Code, Finding, Name, Object, Place, add_all, add_found, broken, is_some_unresolved,
+};
+use gltf_findings_meshes::MeshRules;
+use gltf_findings_objects::{
+    AccessorRules, BufferRules, CameraRules, ImageRules, LightRules, MaterialRules, SamplerRules,
+    TextureRules, ViewRules,
+};
+use gltf_findings_scenes::{
+    AnimationRules, NodeRules, PlacedRules, SceneRules, SkinRules, child_marks, joint_marks,
+};
 use gltf_root::root::Root;
 use gltf_scene::extensions::scene::khr_lights_punctual::Light;
+use gltf_scene::mesh::Mesh;
+use gltf_scene::scene::Node;
 use std::alloc::{AllocError, Global};
 
 /// The findings of a document, in the order of `docs/FINDINGS.md`.
@@ -63,13 +67,28 @@ fn found_by(
     ensures { IfOk result (λ all. all.items ≡ findings_of root.now ++ found rules.now) }
 {
     let mut all = Vec::new(alloc);
-    add_found(&mut all, &root_rules(root))?;
+    add_document(&mut all, root)?;
     add_stored(&mut all, root)?;
     add_shown(&mut all, root)?;
     add_staged(&mut all, root)?;
     add_placed(&mut all, root)?;
+    add_uses(&mut all, root)?;
     add_found(&mut all, rules)?;
     Ok(all)
+}
+
+/// Adds the findings of the document itself: its metadata and its extensions.
+#[tactic(auto, using(std::proofs::lemmas::List::append_assoc))]
+fn add_document(to: &mut Vec<Finding>, root: &Root) -> Result<(), AllocError>
+    ensures { OnOk result (to.new.items ≡ to.old.items ++ document_findings root.now) }
+{
+    add_found(to, &root_rules(root))?;
+    add_found(to, &asset_rules(&root.asset))?;
+    add_found(
+        to,
+        &use_rules(&root.extensions_used, &root.extensions_required),
+    )?;
+    add_all(to, &NameRules, &root.extensions_used)
 }
 
 /// The rules for a document by itself.
@@ -107,20 +126,33 @@ fn add_stored(to: &mut Vec<Finding>, root: &Root) -> Result<(), AllocError>
 fn add_shown(to: &mut Vec<Finding>, root: &Root) -> Result<(), AllocError>
     ensures { OnOk result (to.new.items ≡ to.old.items ++ shown_findings root.now) }
 {
-    let meshes = MeshRules {
-        views: &root.buffer_views,
-        accessors: &root.accessors,
-        materials: root.materials.len(),
-    };
     let textures = TextureRules {
         samplers: root.samplers.len(),
-        images: root.images.len(),
+        images: &root.images,
     };
     add_all(to, &ImageRules(&root.buffer_views), &root.images)?;
     add_all(to, &MaterialRules(root.textures.len()), &root.materials)?;
-    add_all(to, &meshes, &root.meshes)?;
+    add_all(to, &mesh_rules_of(root), &root.meshes)?;
     add_all(to, &SamplerRules, &root.samplers)?;
     add_all(to, &textures, &root.textures)
+}
+
+/// The rules for meshes.
+fn mesh_rules_of(root: &Root) -> MeshRules<'_>
+    ensures views { result.views.now ≡ root.now.buffer_views.items }
+    ensures accessors { result.accessors.now ≡ root.now.accessors.items }
+    ensures materials { result.materials.now ≡ root.now.materials.items }
+    ensures quantized { result.is_quantized
+        ≡ is_listed root.now.extensions_used.items (codes "KHR_mesh_quantization") }
+    ensures variants { result.variants ≡ variant_count root.now }
+{
+    MeshRules {
+        views: &root.buffer_views,
+        accessors: &root.accessors,
+        materials: &root.materials,
+        is_quantized: is_listed(&root.extensions_used, "KHR_mesh_quantization"),
+        variants: variant_count(root),
+    }
 }
 
 /// Adds the findings of animations, cameras and lights.
@@ -132,6 +164,7 @@ fn add_staged(to: &mut Vec<Finding>, root: &Root) -> Result<(), AllocError>
         views: &root.buffer_views,
         accessors: &root.accessors,
         nodes: &root.nodes,
+        meshes: &root.meshes,
     };
     add_all(to, &animations, &root.animations)?;
     add_all(to, &CameraRules, &root.cameras)?;
@@ -139,19 +172,88 @@ fn add_staged(to: &mut Vec<Finding>, root: &Root) -> Result<(), AllocError>
 }
 
 /// Adds the findings of nodes, scenes and skins.
-#[tactic(auto, using(std::proofs::lemmas::List::append_assoc))]
 fn add_placed(to: &mut Vec<Finding>, root: &Root) -> Result<(), AllocError>
     ensures { OnOk result (to.new.items ≡ to.old.items ++ placed_findings root.now) }
 {
-    let nodes = node_rules_of(root);
-    let skins = SkinRules {
+    let alloc = *to.allocator();
+    let children = child_marks(alloc, &root.nodes)?;
+    let joints = joint_marks(alloc, root.nodes.len(), &root.skins)?;
+    add_marked(to, root, &children, &joints)
+}
+
+/// Adds these findings by which nodes are children and which are joints.
+#[tactic(auto, using(std::proofs::lemmas::List::append_assoc))]
+fn add_marked(
+    to: &mut Vec<Finding>,
+    root: &Root,
+    children: &[bool],
+    joints: &[bool],
+) -> Result<(), AllocError>
+    ensures { OnOk result (to.new.items
+        ≡ to.old.items ++ marked_findings root.now children.now joints.now) }
+{
+    add_nodes(to, root, children, joints)?;
+    add_all(to, &scene_rules_of(root, children), &root.scenes)?;
+    add_all(to, &skin_rules_of(root), &root.skins)
+}
+
+/// Adds the findings of nodes, by which of them are children and which are joints.
+fn add_nodes(
+    to: &mut Vec<Finding>,
+    root: &Root,
+    children: &[bool],
+    joints: &[bool],
+) -> Result<(), AllocError>
+    ensures { OnOk result (to.new.items ≡ to.old.items
+        ++ findings_from (node_findings (counts_of root.now)) 0 root.now.nodes.items
+        ++ findings_from (placed_node_findings root.now.meshes.items children.now joints.now) 0
+        root.now.nodes.items) }
+{
+    add_all(to, &node_rules_of(root), &root.nodes)?;
+    add_placed_nodes(to, &root.nodes, &root.meshes, children, joints)
+}
+
+/// Adds the findings of nodes by their meshes, and by which of them are children and which joints.
+fn add_placed_nodes(
+    to: &mut Vec<Finding>,
+    nodes: &[Node],
+    meshes: &[Mesh],
+    children: &[bool],
+    joints: &[bool],
+) -> Result<(), AllocError>
+    ensures { OnOk result (to.new.items ≡ to.old.items
+        ++ findings_from (placed_node_findings meshes.now children.now joints.now) 0 nodes.now) }
+{
+    let placed = PlacedRules {
+        meshes,
+        children,
+        joints,
+    };
+    add_all(to, &placed, nodes)
+}
+
+/// The rules for scenes by which nodes are children.
+fn scene_rules_of<'a>(root: &Root, children: &'a [bool]) -> SceneRules<'a>
+    ensures nodes { result.nodes ≡ length root.now.nodes.items }
+    ensures children { result.children.now ≡ children.now }
+{
+    SceneRules {
+        nodes: root.nodes.len(),
+        children,
+    }
+}
+
+/// The rules for skins.
+fn skin_rules_of(root: &Root) -> SkinRules<'_>
+    ensures nodes { result.nodes ≡ length root.now.nodes.items }
+    ensures views { result.views.now ≡ root.now.buffer_views.items }
+    ensures accessors { result.accessors.now ≡ root.now.accessors.items }
+{
+    SkinRules {
         nodes: root.nodes.len(),
         views: &root.buffer_views,
         accessors: &root.accessors,
-    };
-    add_all(to, &nodes, &root.nodes)?;
-    add_all(to, &SceneRules(root.nodes.len()), &root.scenes)?;
-    add_all(to, &skins, &root.skins)
+    }
 }
 
 /// How many items there are that nodes may name.
@@ -164,6 +266,19 @@ fn node_rules_of(root: &Root) -> NodeRules
         skins: root.skins.len(),
         lights: lights_of(root).len(),
         nodes: root.nodes.len(),
+    }
+}
+
+/// How many variants a document has.
+fn variant_count(root: &Root) -> usize
+    ensures { result ≡ variant_count root.now }
+{
+    match &root.extensions {
+        Some(extensions) => match &extensions.khr_materials_variants {
+            Some(variants) => variants.variants.len(),
+            None => 0,
+        },
+        None => 0,
     }
 }
 

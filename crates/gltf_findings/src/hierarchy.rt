@@ -1,11 +1,9 @@
 //! Nodes that are no disjoint strict trees (glTF 2.0, section 3.5.2).
 
 ghost use Rattle.std.specs.Prelude.{◌≡◌, Option, IfOk, map};
-ghost use Rattle.gltf_findings.specs.Hierarchy.{fault_finding, AreFaultsOf, AreHierarchyRules};
+ghost use Rattle.gltf_findings.specs.Hierarchy.{fault_finding, AreFaultsOf, AreNoneOfForest, AreHierarchyRules};
 
-use crate::code::Code;
-use crate::finding::{Finding, Object, Place};
-use crate::name::Name;
+use gltf_findings_codes::{Code, Finding, Name, Object, Place, broken};
 use gltf_load::{Document, Forest, HierarchyFault};
 use gltf_root::root::Root;
 use std::alloc::{AllocError, Global};
@@ -22,7 +20,8 @@ pub fn hierarchy_rules(alloc: Global, root: &Root) -> Result<Vec<Option<Finding>
 
 /// The faults of the hierarchy.
 fn faults_of(alloc: Global, root: &Root) -> Result<Vec<HierarchyFault>, AllocError>
-    ensures { IfOk result (λ faults. AreFaultsOf root.now.nodes.items faults.items) }
+    ensures all { IfOk result (λ faults. AreFaultsOf root.now.nodes.items faults.items) }
+    ensures none { IfOk result (λ faults. AreNoneOfForest root.now.nodes.items faults.items) }
 {
     let document = Document::of(root);
     let faults = Forest::faults(alloc, &document)?;
@@ -43,15 +42,17 @@ fn findings_of_faults(
     Ok(rules)
 }
 
-/// The finding of a fault. A child that doesn't exist is found by its index.
+/// The finding of a fault. A child that doesn't exist is found by its index, and one that a node
+/// lists twice as a duplicate.
 fn finding_of_fault(fault: &HierarchyFault) -> Option<Finding>
     ensures { result ≡ fault_finding fault.now }
 {
     match fault {
-        HierarchyFault::TwoParents { second, .. } => Some(Finding {
-            code: Code::NodeParentOverride,
-            place: Place::Member(Object::Item(Name::Nodes, *second as usize), Name::Children),
-        }),
+        HierarchyFault::TwoParents { first, second, .. } => {
+            let node = Object::Item(Name::Nodes, *second as usize);
+            let place = Place::Member(node, Name::Children);
+            broken(*first != *second, Code::NodeParentOverride, place)
+        }
         HierarchyFault::Cycle { node } => Some(Finding {
             code: Code::NodeLoop,
             place: Place::Object(Object::Item(Name::Nodes, *node as usize)),

@@ -5,28 +5,12 @@
 //! `Findings::of` returns what is wrong with any document.
 #![tactic(auto)]
 
-mod accessors;
-mod animations;
-mod cameras;
-mod code;
-mod collect;
-mod finding;
 mod findings;
-mod formats;
 mod hierarchy;
-mod lights;
-mod materials;
-mod meshes;
-mod name;
-mod nodes;
-mod range;
-mod rules;
-mod shading;
-mod skins;
-mod textures;
-mod views;
+pub mod laws;
+mod names;
+mod uses;
+mod version;
 
-pub use code::{Code, Severity};
-pub use finding::{Finding, Object, Place};
 pub use findings::Findings;
-pub use name::Name;
+pub use gltf_findings_codes::{Attribute, Code, Finding, Name, Object, Place, Severity};

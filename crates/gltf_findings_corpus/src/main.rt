@@ -1,10 +1,11 @@
 //! Compares the findings of documents with those that are expected. Each line of
 //! `data/findings.jsonl` is a case: its name, a document as a text, and its findings, a line for
-//! each, with a code and a JSON pointer. Only what differs is printed.
+//! each, with a code and a JSON pointer. Information and hints are left out, unless a case has a
+//! member `all`. Only what differs is printed.
 #![tactic(auto)]
 
 use anyhow::{Context, Result};
-use gltf_findings::Findings;
+use gltf_findings::{Findings, Severity};
 use gltf_root::root::Root;
 use serde_json::Value;
 use std::alloc::Global;
@@ -16,21 +17,29 @@ fn text_of<'a>(case: &'a Value, name: &str) -> Result<&'a str> {
     case.get(name).and_then(Value::as_str).context("no text")
 }
 
-/// The findings of a document, a line for each.
-fn lines_of(alloc: Global, document: &str) -> Result<String> {
+/// Whether a finding is an error or a warning.
+fn is_grave(severity: Severity) -> bool {
+    matches!(severity, Severity::Error | Severity::Warning)
+}
+
+/// The findings of a document, a line for each: all of them, or errors and warnings.
+fn lines_of(alloc: Global, document: &str, all: bool) -> Result<String> {
     let root = Root::from_str(alloc, document)?;
     let findings = Findings::of(alloc, &root)?;
     let mut lines = String::new(alloc);
     for finding in findings.as_slice() {
-        let pointer = finding.place.pointer(alloc)?;
-        writeln!(lines, "{} {pointer}", finding.code.name())?;
+        if all || is_grave(finding.code.severity()) {
+            let pointer = finding.place.pointer(alloc)?;
+            writeln!(lines, "{} {pointer}", finding.code.name())?;
+        }
     }
     Ok(lines)
 }
 
 /// Whether a document has the findings that are expected. Prints the case if it doesn't.
 fn is_case_expected(rt: &HostRuntime, case: &Value) -> Result<bool> {
-    let found = lines_of(rt.alloc(), text_of(case, "text")?)?;
+    let all = case.get("all").is_some();
+    let found = lines_of(rt.alloc(), text_of(case, "text")?, all)?;
     let expected = text_of(case, "finds")?;
     let well = found.as_str() == expected;
     if !well {

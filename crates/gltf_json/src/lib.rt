@@ -51,7 +51,9 @@ pub mod laws {
     pub use gltf_validation_clean::changes::{
         calls_that_succeed_are_changes, changes_leave_no_reports,
     };
-    pub use gltf_validation_clean::laws::written_roots_are_held_again;
+    pub use gltf_validation_clean::laws::{
+        stripped_documents_have_the_same_reports, written_roots_are_held_again,
+    };
     pub use gltf_validation_rules::constant_is_listed;
     pub use gltf_validation_rules::laws::clean::clean_documents_are_written;
     pub use gltf_validation_rules::laws::further::{

@@ -1,8 +1,8 @@
 //! Loads what a document describes without bounds checks: its nodes as a forest (glTF 2.0, section
 //! 3.5.2), the scenes that list root nodes (section 3.5.1), the joints of skins (section 3.7.3.2),
 //! where the elements of accessors lie (section 3.6), the bytes of its buffers (section 3.6.1), and
-//! the elements themselves, in the formats that their usage allows (section 3.7.2.1). It requires no
-//! valid document.
+//! the elements themselves, in the formats that their usage allows (section 3.7.2.1). It requires
+//! no valid document.
 //!
 //! `Document::of` binds the lists of a `Root`. `Layout::of`, `LayoutFaults::of`, `Forest::of`,
 //! `Forest::faults` and `Buffers::of` take such a document. With a layout and buffers, `Reader`
@@ -14,6 +14,8 @@ mod accessors;
 mod attribute;
 mod fault;
 mod reader;
+#[cfg(test)]
+mod tests;
 mod transform;
 
 pub use accessors::Accessors;

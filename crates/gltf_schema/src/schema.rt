@@ -163,8 +163,8 @@ pub trait Schema: Tabled + Drop + Sized {
     fn strip(&mut self, what: Strip)
         ensures { Self.tree self.new ≡ stripped what Self.kind (Self.tree self.old) };
 
-    /// Adds what JSON the type is read from: its node, behind those of what its values hold. Returns
-    /// the node's number. Fails if out of memory, and may then have added some.
+    /// Adds what JSON the type is read from: its node, behind those of what its values hold.
+    /// Returns the node's number. Fails if out of memory, and may then have added some.
     fn outline(alloc: Global, nodes: &mut Vec<Shape>) -> Result<usize, AllocError>
         ensures { Outlines nodes.old.items result nodes.new.items Self.kind };
 

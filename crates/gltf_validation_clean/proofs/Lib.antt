@@ -6,6 +6,10 @@ pub mod Reporting
 pub mod Setting
 pub mod Asking
 pub mod TakingBack
+pub mod Indexing
+pub mod ShorterDocuments
+pub mod Stripping
+pub mod StrippedDocuments
 pub mod Replacing
 pub mod HeldAgain
 pub mod Changing

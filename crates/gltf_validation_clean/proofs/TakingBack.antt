@@ -1,10 +1,11 @@
 -- The last item of a list, taken out of a document and put back.
-use Rattle.std.proofs.Common.{◌≡◌, List, [], ◌∷◌, ◌++◌, true, map, Option, Some, None, Result, Ok, Err, sym, ◌∙◌, ap, subst}
+use Rattle.std.proofs.Common.{◌≡◌, List, [], ◌∷◌, ◌++◌, true, map, Option, Some, None, Result, Ok, Err, refl, sym, ◌∙◌, ap, subst}
 use Rattle.gltf_base.specs.Lists.{ListName}
 use Rattle.gltf_base.specs.declared.validation.Error.{Error}
-use Rattle.gltf_schema.specs.Tree.{Tree, trees}
+use Rattle.gltf_schema.specs.Fields.{list_tree}
+use Rattle.gltf_schema.specs.Tree.{Tree, Trees, list, trees, with_tree}
 use Rattle.gltf_root.specs.Lists.{is_there, list_in}
-use Rattle.gltf_root.specs.Pushed.{with_list}
+use Rattle.gltf_root.specs.Pushed.{pushed, with_last, with_list}
 use Rattle.gltf_root.specs.Root.{root_tree}
 use Rattle.gltf_root.specs.Undone.{without_last, without_last_item}
 use Rattle.gltf_root.specs.declared.root.Root.{Root}
@@ -27,6 +28,28 @@ pub put_back_last : {X : Type 0} (tree : X → Tree) (named : ListName) (xs ys z
 put_back_last tree named xs ys zs r mid new there stands out back same =
     back ∙ ap (with_list named (trees (map tree zs))) out ∙ (list_put r named (trees (map tree ys)) (trees (map tree zs))).1
     ∙ ap (λ l. with_list named (trees (map tree l)) (root_tree r)) same ∙ ap (λ ts. with_list named ts (root_tree r)) (sym stands) ∙ put_itself r named there
+
+-- the trees of a list with an item at its end
+trees_push : {X : Type 0} (tree : X → Tree) (xs : List X) (x : X) → with_last (tree x) (trees (map tree xs)) ≡ trees (map tree (xs ++ x ∷ []))
+trees_push tree [] x = refl
+trees_push tree (y ∷ xs) x = ap (with_tree (tree y)) (trees_push tree xs x)
+
+-- a document whose list lacks the last item, with that item pushed again
+pub pushed_back : {X : Type 0} (tree : X → Tree) (named : ListName) (xs ys : List X) (x : X) (r : Root) (mid : Tree)
+    → is_there named (root_tree r) ≡ true → list_in named (root_tree r) ≡ trees (map tree xs) → list_in named mid ≡ trees (map tree ys)
+    → mid ≡ with_list named (trees (map tree ys)) (root_tree r) → xs ≡ ys ++ x ∷ [] → pushed named (tree x) mid ≡ root_tree r
+pushed_back tree named xs ys x r mid there stands left out less =
+    put_back_last tree named xs ys (ys ++ x ∷ []) r mid (pushed named (tree x) mid) there stands out
+    (ap (λ ts. with_list named ts mid) (ap (with_last (tree x)) left ∙ trees_push tree ys x)) (sym less)
+
+map_same : {X : Type 0} (f g : X → Tree) (xs : List X) → ((x : X) → f x ≡ g x) → map f xs ≡ map g xs
+map_same f g [] each = refl
+map_same f g (x ∷ xs) each = ap (λ t. t ∷ map f xs) (each x) ∙ ap (λ ts. g x ∷ ts) (map_same f g xs each)
+
+-- a list of items, and the trees that a document lists
+pub list_same : {X : Type 0} (f g : X → Tree) (xs ys : List X) (ts : Trees) → ((x : X) → f x ≡ g x) → xs ≡ ys → ts ≡ trees (map g ys) → list_tree f xs ≡ list ts
+list_same f g xs ys ts each same stands =
+    ap (λ l. list (trees l)) (map_same f g xs each ∙ ap (map g) same) ∙ ap list (sym stands)
 
 -- what is taken back leaves no report
 pub still_clean : {X : Type 0} (rules : Rules) (named : ListName) (items : List X) (old : Tree) (result : Result (Option X) Error) (new : Tree)

@@ -1,6 +1,7 @@
 pub mod NoItems
 pub mod Clean
 pub mod Held
+pub mod Indexing
 pub mod FirstReport
 pub mod Reported
 pub mod Replaced

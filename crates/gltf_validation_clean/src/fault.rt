@@ -8,13 +8,14 @@ ghost use Rattle.gltf_root.specs.Root.{root_tree};
 ghost use Rattle.gltf_validation_rules.specs.Context.{rules_of, under};
 ghost use Rattle.gltf_validation_rules.specs.Reports.{reports_by_rules};
 ghost use Rattle.gltf_validation.specs.ByType.{reports_by};
+ghost use Rattle.gltf_validation_clean.specs.Indexing.{list_reports};
 
 use crate::item::Item;
 use gltf_base::Steps;
 use gltf_base::validation::Error;
-use gltf_root::root::Root;
+use gltf_root::root::{Root, TopLevel};
 use gltf_sinks::{Sink, Stop};
-use gltf_validation::validation::Validate;
+use gltf_validation::validation::{SchemaObject, Validate};
 use gltf_validation_rules::Rules;
 
 /// A sink that refuses the first report with its fault.
@@ -40,7 +41,7 @@ impl Sink for FirstFault {
 
 /// Returns the fault of the first report of a value in `root`, or `None` if it has none.
 pub(crate) fn first_fault<V: Validate>(value: &V, rules: &Rules<'_>, root: &Root) -> Option<Error>
-    requires { V.depth ≤ 10 }
+    requires { V.depth ≤ 11 }
     ensures { result ≡ first_fault_of (reports_by V.kind (V.tree value.now) (V.own value.now)
         (under (rules_of rules.now) (root_tree root.now)) []) }
 {
@@ -50,6 +51,17 @@ pub(crate) fn first_fault<V: Validate>(value: &V, rules: &Rules<'_>, root: &Root
         // No value is deeper than a path is long.
         Err(Stop::StepsFull) => unreachable!(),
     }
+}
+
+/// Returns the fault of the first report of the items of a list, or `None` if they have none.
+pub(crate) fn fault_in_list<T: SchemaObject + TopLevel>(
+    rules: &Rules<'_>,
+    root: &Root,
+) -> Option<Error>
+    ensures { result ≡ first_fault_of (list_reports (rules_of rules.now) (root_tree root.now)
+        T.list) }
+{
+    first_fault(T::list_in(root), rules, root)
 }
 
 /// Returns the fault of the first report of the last item of a list, or `None` if it has none.

@@ -1,4 +1,4 @@
-//! Laws of documents without reports that are written and read back.
+//! Laws of documents that are written and read back, or stripped.
 
 ghost use Rattle.std.specs.Prelude.{◌≡◌, ℕ, List, Result, true, IsOkAnd};
 ghost use Rattle.gltf_validation_clean.specs.Held.{IsHeld, rules_held, tree_held};
@@ -9,6 +9,11 @@ ghost use Rattle.gltf_root.specs.Root.{root_kind, root_tree};
 ghost use Rattle.gltf_root.specs.Written.{IsCompactOf, IsPrettyOf};
 ghost use Rattle.gltf_root.specs.declared.root.Root.{Root as Document};
 ghost use Rattle.gltf_schema.specs.Plain.{is_plain};
+ghost use Rattle.gltf_schema.specs.Stripped.{stripped};
+ghost use Rattle.gltf_schema.specs.Tree.{Tree};
+ghost use Rattle.gltf_schema.specs.declared.stripping.Strip.{Strip};
+ghost use Rattle.gltf_validation_rules.specs.Context.{Rules};
+ghost use Rattle.gltf_validation_rules.specs.Reports.{document_reports};
 
 /// A plain root of a `Clean` that is written, read and handed to `Clean::of` with its rules is held
 /// again. It is the same document, if it isn't nested deeper than 127 levels.
@@ -30,4 +35,12 @@ pub fn written_roots_are_held_again()
         → IsShallow (tree_held c) → IsPrettyOf (tree_held c) bytes
         → answer bytes ≡ document (root_tree root) → IsHeld (rules_held c) root result
         → IsOkAnd result (λ again. tree_held again ≡ tree_held c) }
+{}
+
+/// A document that is stripped of its `extras`, or of the unknown members that its objects keep, has
+/// the same reports by all rules. After `Root::strip_extras` and `Root::drop_unknown` a document
+/// without reports has none.
+pub fn stripped_documents_have_the_same_reports()
+    ensures { (rules : Rules) (what : Strip) (root : Tree)
+        → document_reports rules (stripped what root_kind root) ≡ document_reports rules root }
 {}

@@ -13,12 +13,14 @@ mod replace;
 mod report;
 mod reported;
 mod set;
+mod top_level;
 mod undo;
 mod validate_root;
 
 pub use clean::Clean;
-pub use item::{Item, TopLevelItem};
+pub use item::Item;
 pub use push::CleanError;
 pub use refused::Refused;
 pub use report::Report;
+pub use top_level::TopLevelItem;
 pub use validate_root::ValidateRoot;

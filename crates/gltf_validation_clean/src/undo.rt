@@ -3,12 +3,12 @@
 ghost use Rattle.std.specs.Prelude.{◌≡◌};
 ghost use Rattle.gltf_root.specs.Root.{root_tree};
 ghost use Rattle.gltf_validation_rules.specs.Context.{rules_of};
+ghost use Rattle.gltf_validation_clean.specs.Clean.{IsClean};
 ghost use Rattle.gltf_validation_clean.specs.Held.{rules_held, root_held, tree_held};
 ghost use Rattle.gltf_validation_clean.specs.TakenBack.{IsTakenBack};
 
 use crate::clean::Clean;
-use crate::fault::first_fault;
-use crate::item::TopLevelItem;
+use crate::top_level::TopLevelItem;
 use gltf_base::validation::Error;
 use gltf_root::root::{Root, TopLevel};
 use gltf_validation_rules::Rules;
@@ -18,8 +18,8 @@ impl<'a> Clean<'a> {
     /// no report without it: if no index of another item names it. `None` if the list is empty.
     ///
     /// Fails with the first fault that the document would have without the item, and leaves the
-    /// document as it was. It takes no memory. It validates the whole document, and takes as long
-    /// as [`Clean::of`].
+    /// document as it was. It takes no memory. It looks only at what has indexes into that list: at
+    /// the nodes for a mesh or a skin, for example.
     pub fn undo_push<T: TopLevelItem>(&mut self) -> Result<Option<T>, Error>
         ensures rules { rules_held self.new ≡ rules_held self.old }
         ensures taken_back { IsTakenBack (rules_held self.old) T.list
@@ -29,15 +29,16 @@ impl<'a> Clean<'a> {
     }
 }
 
-/// Removes the last item of a list of a root, if the root has no report then.
+/// Removes the last item of a list of a root without reports, if the root has no report then.
 fn undo_clean<T: TopLevelItem>(rules: &Rules<'_>, root: &mut Root) -> Result<Option<T>, Error>
+    requires { IsClean (rules_of rules.now) (root_tree root.old) }
     ensures { IsTakenBack (rules_of rules.now) T.list (T.held root.old).items
         (root_tree root.old) result (root_tree root.new) }
 {
     let Some(item) = T::list_in_mut(root).pop() else {
         return Ok(None);
     };
-    match first_fault(root, rules, root) {
+    match T::fault_into(rules, root) {
         None => Ok(Some(item)),
         Some(error) => match T::list_in_mut(root).push(item) {
             Ok(()) => Err(error),

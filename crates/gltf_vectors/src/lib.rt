@@ -16,6 +16,8 @@ mod errors;
 #[cfg(test)]
 mod lines;
 #[cfg(test)]
+mod loading;
+#[cfg(test)]
 mod reading;
 #[cfg(test)]
 mod shown;

@@ -3,11 +3,11 @@
 //! `tools/gen_cases.py` writes the cases. Only what differs is printed, and last how many
 //! cases there are.
 
-use crate::both::{difference, writing_difference};
 use crate::kept::keep_in_document;
-use crate::objects::{is_text, list_of, object_at, verdict, with_member};
 use anyhow::{Context, Result};
 use gltf_json::{Root, Value};
+use gltf_vectors_shared::both::{difference, writing_difference};
+use gltf_vectors_shared::expected::{is_text, list_of, object_at, verdict, with_member};
 use serde_json::json;
 use std::alloc::Global;
 use std::fs;

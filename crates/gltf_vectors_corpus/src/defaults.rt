@@ -1,10 +1,10 @@
 //! Compares what absent numbers mean with what `data/objects.json` expects. Each constant is under
 //! the names of the object and of the member that may be absent (`derived.rt`).
 
-use crate::objects::{are_same, object_at};
 use anyhow::Result;
 use gltf_json::Value;
 use gltf_json::extensions::material::AttenuationDistance;
+use gltf_vectors_shared::expected::{are_same, object_at};
 use serde_json::{Map, Number};
 use std::alloc::{AllocError, Global};
 

@@ -1,25 +1,21 @@
 //! Prints for each document of `data/documents.jsonl`, below its title: the exit status and the
 //! output of a run over it, and what it is written as. `stdout` has what must be printed
 //! (docs/DECISIONS.md says from where). Then it prints where an object of the format differs from
-//! what the data expects of it (`objects.rt`), where reports in other ways (`reports.rt`) and
-//! documents that are built by calls (`built.rt`) do, and last where the ways of reading and
-//! writing differ (`cases.rt`).
+//! what the data expects of it (`objects.rt`), and where the ways of reading and writing differ
+//! (`cases.rt`).
 #![tactic(auto)]
 
-mod both;
-mod built;
 mod cases;
 mod defaults;
 mod kept;
 mod objects;
-mod reports;
 
 use anyhow::Result;
 use gltf_json::root::Watched;
 use gltf_json::validation::Rules;
 use gltf_json::{Error, Root};
 use gltf_report_lines::run;
-use reports::reports_difference;
+use gltf_vectors_shared::ways::reports_difference;
 use std::alloc::Global;
 use std::fs;
 
@@ -94,7 +90,5 @@ fn print_documents(rt: &HostRuntime) -> Result<()> {
 fn main(rt: HostRuntime) -> Result<()> {
     print_documents(&rt)?;
     objects::print_objects(&rt)?;
-    reports::print_reports(&rt)?;
-    built::print_built(&rt)?;
     cases::print_cases(&rt)
 }

@@ -4,10 +4,13 @@ Each call takes the bytes of a document, and returns a status and the bytes of i
 
     status, lines = gltf_c.check(Path("model.gltf").read_bytes())
 
+Checks also take the bytes of .glb files. `reports` returns a dict for each report.
+
 The statuses are those of gltf_c.h. The library is the file that GLTF_C names, else the one in this
 package.
 """
 import ctypes
+import json
 import os
 from pathlib import Path
 
@@ -18,6 +21,7 @@ NOT_GLTF = 3
 NO_MEMORY = 4
 INVALID_ITEM = 5
 NOT_TEXT = 6
+NOT_GLB = 7
 
 # Room for most outputs. A longer one is asked for again, with as much room as it needs.
 _ROOM = 65536
@@ -35,6 +39,7 @@ def _loaded():
     for name, arguments in {
         "gltf_c_check": slice_of + slice_of,
         "gltf_c_check_by": slice_of + slice_of + [ctypes.c_bool] + slice_of,
+        "gltf_c_check_json": slice_of + slice_of + slice_of,
         "gltf_c_rewrite": slice_of + slice_of,
         "gltf_c_version": slice_of,
     }.items():
@@ -67,6 +72,19 @@ def check_by(document, names, empty_texture=False):
     lines = "\n".join(names).encode()
     given = (document, len(document), lines, len(lines), empty_texture)
     return _ask(_library.gltf_c_check_by, *given)
+
+
+def check_json(document, file):
+    """The lines that `gltf_lint --json` prints for the reports of a document. `file` is the name
+    that they give to the file, as a text or a path."""
+    name = os.fsdecode(file).encode("utf-8", "replace")
+    return _ask(_library.gltf_c_check_json, document, len(document), name, len(name))
+
+
+def reports(document, file):
+    """The status, and the reports of a document as dicts: the objects of `check_json`."""
+    status, lines = check_json(document, file)
+    return status, [json.loads(line) for line in lines.decode().split("\n") if line]
 
 
 def rewrite(document):

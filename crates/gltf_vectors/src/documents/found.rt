@@ -37,3 +37,57 @@ fn refusals_say_what_is_there(rt: HostRuntime) -> Result<(), Fail> {
         "nodes[0].name: true or false",
     )
 }
+
+/// Why a text is refused: where, what JSON is wanted there, and what is there.
+fn mismatch(alloc: Global, text: &str) -> Result<String, Fail> {
+    match Root::mismatch_in(alloc, text.as_bytes())? {
+        Some(mismatch) => Ok(format!(in alloc; "{mismatch}")?),
+        None => Ok(String::from_str(alloc, "a document")?),
+    }
+}
+
+#[test]
+fn mismatches_say_what_is_wanted(rt: HostRuntime) -> Result<(), Fail> {
+    let alloc = rt.alloc();
+    shows(mismatch(alloc, NEW), "a document")?;
+    shows(
+        mismatch(alloc, r#"{"asset":[]}"#),
+        "asset: wanted an object, found a list",
+    )?;
+    shows(
+        mismatch(alloc, r#"{"asset":{}}"#),
+        "asset.version: wanted a text, found nothing",
+    )?;
+    shows(
+        mismatch(alloc, r#"{"asset":{"version":"2.0"},"scene":-1}"#),
+        "scene: wanted a whole number below 2^32, found a number",
+    )?;
+    shows(
+        mismatch(
+            alloc,
+            r#"{"asset":{"version":"2.0"},"buffers":[{"byteLength":"8"}]}"#,
+        ),
+        "buffers[0].byteLength: wanted a whole number below 2^64, found a text",
+    )?;
+    shows(
+        mismatch(
+            alloc,
+            r#"{"asset":{"version":"2.0"},"nodes":[{},{"matrix":[1,0]}]}"#,
+        ),
+        "nodes[1].matrix: wanted 16 numbers, found a list",
+    )?;
+    shows(
+        mismatch(
+            alloc,
+            r#"{"asset":{"version":"2.0"},"nodes":[{"scale":[1,"1",1]}]}"#,
+        ),
+        "nodes[0].scale[1]: wanted a number, found a text",
+    )?;
+    shows(
+        mismatch(
+            alloc,
+            r#"{"asset":{"version":"2.0"},"meshes":[{"primitives":{}}]}"#,
+        ),
+        "meshes[0].primitives: wanted a list, found an object",
+    )
+}

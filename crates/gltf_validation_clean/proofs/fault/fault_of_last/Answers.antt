@@ -1,5 +1,5 @@
 -- The table has the reports of the item that its type has.
-use Rattle.std.proofs.Common.{[], ◌∙◌, ap, Some}
+use Rattle.std.proofs.Common.{[], ◌∙◌, ap, Some, arith}
 use Rattle.gltf_root.specs.Pushed.{item_kind}
 use Rattle.gltf_root.specs.Root.{root_tree}
 use Rattle.gltf_validation_rules.specs.Context.{rules_of, under}
@@ -7,7 +7,7 @@ use Rattle.gltf_validation_clean.proofs.Pushing.{is_last, reported_by_table}
 use Rattle.gltf_validation_clean.proofs.fault.fault_of_last.Goals as goal
 
 pub first_fault-requires : goal.first_fault-requires
-first_fault-requires g c = g.met.T.Object.height_bounds_kind.1
+first_fault-requires g c = omega (arith, g.met.T.Object.height_bounds_kind.1)
 
 pub returns-in-Some : goal.returns-in-Some
 returns-in-Some g c = λ before item base whole.

@@ -1,5 +1,5 @@
 use Rattle.std.proofs.Common.{◌++◌, ◌∙◌, ap}
-use Rattle.gltf_findings.specs.Found.{found}
+use Rattle.gltf_findings_codes.specs.Found.{found}
 use Rattle.gltf_findings.specs.Findings.{findings_of}
 use Rattle.gltf_findings.proofs.findings.Findings.of.Goals as goal
 

@@ -1,0 +1,39 @@
+//! Cases of documents.
+
+use crate::text_of;
+use anyhow::Result;
+use gltf_findings_codes::{Finding, add_all};
+use gltf_findings_uris::{BufferUriRules, Container, ImageUriRules};
+use gltf_root::root::Root;
+use serde_json::Value;
+use std::alloc::Global;
+use std::fmt::Write;
+
+/// The file that a case says.
+fn container_of(case: &Value) -> Container {
+    match case.get("container") {
+        Some(Value::String(name)) if name.as_str() == "glb" => Container::Glb { bin_len: None },
+        Some(name) => match name.as_u64() {
+            Some(length) => Container::Glb {
+                bin_len: Some(length),
+            },
+            None => Container::Json,
+        },
+        None => Container::Json,
+    }
+}
+
+/// The findings of a case, a line for each.
+pub fn lines_of(alloc: Global, case: &Value) -> Result<String> {
+    let root = Root::from_str(alloc, text_of(case, "text")?)?;
+    let container = container_of(case);
+    let mut found: Vec<Finding> = Vec::new(alloc);
+    add_all(&mut found, &BufferUriRules(container), &root.buffers)?;
+    add_all(&mut found, &ImageUriRules(container), &root.images)?;
+    let mut lines = String::new(alloc);
+    for finding in found.as_slice() {
+        let pointer = finding.place.pointer(alloc)?;
+        writeln!(lines, "{} {pointer}", finding.code.name())?;
+    }
+    Ok(lines)
+}

@@ -1,0 +1,4 @@
+pub mod Chunks
+pub mod Findings
+pub mod Found
+pub mod Rules

@@ -1,0 +1,14 @@
+pub mod Attributes
+pub mod Codes
+pub mod Empty
+pub mod Format
+pub mod Lists
+pub mod Members
+pub mod Misfits
+pub mod Noted
+pub mod Notices
+pub mod Required
+pub mod Rows
+pub mod Steps
+pub mod Uses
+pub mod Walk

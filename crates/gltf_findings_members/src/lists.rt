@@ -1,0 +1,79 @@
+//! Lists: indexes that are listed twice, empty lists, and lists of a fixed length.
+
+ghost use Rattle.std.specs.Prelude.{◌≡◌, [], option_map, IfOk, OnOk};
+ghost use Rattle.serde_json.specs.View.{view, items_view};
+ghost use Rattle.gltf_findings_members.specs.Lists.{repeats_from, repeat_code, with_index, empty_code, length_code, repeat_notices};
+ghost use Rattle.gltf_findings_members.specs.Noted.{steps_in, Adds};
+
+use crate::code::NoticeCode;
+use crate::notice::Noticing;
+use gltf_base::Step;
+use gltf_schema::Shape;
+use serde_json::Value;
+use std::alloc::AllocError;
+use std::collections::BTreeSet;
+
+/// Notes the indexes that a list has twice, if its items are indexes. It takes `n log n` steps.
+pub(crate) fn note_repeats(
+    shape: Option<&Shape>,
+    items: &[Value],
+    to: &mut Noticing<'_>,
+) -> Result<(), AllocError>
+    ensures { Adds to.old result to.new (repeat_notices (option_map (λ s. s.now) shape.entry)
+        (steps_in to.old) (items_view items.now)) }
+{
+    match shape {
+        Some(Shape::Whole32) => note_repeats_from(items, to),
+        _ => Ok(()),
+    }
+}
+
+/// Notes the indexes that a list has twice.
+fn note_repeats_from(items: &[Value], to: &mut Noticing<'_>) -> Result<(), AllocError>
+    ensures { Adds to.old result to.new
+        (repeats_from (steps_in to.old) [] 0 (items_view items.now)) }
+{
+    let mut before: BTreeSet<u64> = BTreeSet::new(to.alloc());
+    for number in 0..items.len() {
+        let code = repeat_code(&mut before, &items[number])?;
+        to.note_below(Step::Index(number), code)?;
+    }
+    Ok(())
+}
+
+/// The code of an index that was listed before, and adds it to those before.
+fn repeat_code(before: &mut BTreeSet<u64>, value: &Value) -> Result<Option<NoticeCode>, AllocError>
+    ensures code { IfOk result (λ code. code ≡ repeat_code before.old.keys (view value.now)) }
+    ensures after { OnOk result (before.new.keys ≡ with_index before.old.keys (view value.now)) }
+{
+    let Some(number) = value.as_u64() else {
+        return Ok(None);
+    };
+    if before.insert(number)? {
+        Ok(None)
+    } else {
+        Ok(Some(NoticeCode::DuplicateElements))
+    }
+}
+
+/// The code of a list that must not be empty and is.
+pub(crate) fn empty_code(items: &[Value]) -> Option<NoticeCode>
+    ensures { result ≡ empty_code (items_view items.now) }
+{
+    if items.is_empty() {
+        Some(NoticeCode::EmptyEntity)
+    } else {
+        None
+    }
+}
+
+/// The code of a list that must have so many items and doesn't.
+pub(crate) fn length_code(count: usize, items: &[Value]) -> Option<NoticeCode>
+    ensures { result ≡ length_code count (items_view items.now) }
+{
+    if items.len() == count {
+        None
+    } else {
+        Some(NoticeCode::ArrayLengthNotInList)
+    }
+}

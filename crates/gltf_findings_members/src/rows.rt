@@ -1,0 +1,106 @@
+//! The members that an object of the format has.
+
+ghost use Rattle.std.specs.Prelude.{◌≡◌, option_map};
+ghost use Rattle.serde_json.specs.View.{view, members_view};
+ghost use Rattle.gltf_findings_members.specs.Rows.{row_named, reads_null_as_absent, is_missing, missing_notices, own_notices, empty_target_code, is_target, unknown_code};
+ghost use Rattle.gltf_findings_members.specs.Noted.{steps_in, Adds};
+
+use crate::attribute::is_attribute;
+use crate::code::NoticeCode;
+use crate::members::empty_object_code;
+use crate::notice::Noticing;
+use gltf_base::Step;
+use gltf_schema::{Member, Presence};
+use serde_json::{Map, Value};
+use std::alloc::AllocError;
+
+/// The row of this name.
+pub(crate) fn row_named<'a>(rows: &'a [Member], name: &str) -> Option<&'a Member>
+    ensures { option_map (λ m. m.now) result ≡ row_named name.now rows.now }
+{
+    for row in rows {
+        if row.name == name {
+            return Some(row);
+        }
+    }
+    None
+}
+
+/// Whether a value is null, and the row reads that as if the member were missing.
+pub(crate) fn reads_null_as_absent(row: &Member, value: &Value) -> bool
+    ensures { result ≡ reads_null_as_absent row.now (view value.now) }
+{
+    row.presence == Presence::OrNull && value.is_null()
+}
+
+/// Notes what is wrong with an object by itself: members that have to be there and are missing,
+/// and a morph target without attributes.
+pub(crate) fn note_own<'a>(
+    value: &Value,
+    members: &Map<String, Value>,
+    rows: &'a [Member],
+    to: &mut Noticing<'a>,
+) -> Result<(), AllocError>
+    ensures { Adds to.old result to.new (own_notices (steps_in to.old) rows.now
+        (members_view members.now.entries) (view value.now)) }
+{
+    to.note_some(empty_target_code(rows, members))?;
+    note_missing(value, rows, to)
+}
+
+/// The code of a morph target without attributes.
+fn empty_target_code(rows: &[Member], members: &Map<String, Value>) -> Option<NoticeCode>
+    ensures { result ≡ empty_target_code rows.now (members_view members.now.entries) }
+{
+    if is_target(rows) {
+        empty_object_code(members)
+    } else {
+        None
+    }
+}
+
+/// Notes the rows whose members have to be there and are missing, in the order of rows.
+fn note_missing<'a>(
+    value: &Value,
+    rows: &'a [Member],
+    to: &mut Noticing<'a>,
+) -> Result<(), AllocError>
+    ensures { Adds to.old result to.new
+        (missing_notices (steps_in to.old) (view value.now) rows.now) }
+{
+    for row in rows {
+        to.note_below(Step::Field(row.name), is_missing(value, row))?;
+    }
+    Ok(())
+}
+
+/// The code of a row whose member has to be there and is missing.
+fn is_missing(value: &Value, row: &Member) -> Option<NoticeCode>
+    ensures { result ≡ is_missing (view value.now) row.now }
+{
+    if row.presence == Presence::Required && row.name != "node" && value.get(row.name).is_none() {
+        Some(NoticeCode::UndefinedProperty)
+    } else {
+        None
+    }
+}
+
+/// Whether the object displaces attributes: it has a row `POSITION`.
+fn is_target(rows: &[Member]) -> bool
+    ensures { result ≡ is_target rows.now }
+{
+    row_named(rows, "POSITION").is_some()
+}
+
+/// The code of a member that no row names.
+pub(crate) fn unknown_code(rows: &[Member], name: &str) -> Option<NoticeCode>
+    ensures { result ≡ unknown_code rows.now name.now }
+{
+    if !is_target(rows) {
+        Some(NoticeCode::UnexpectedProperty)
+    } else if is_attribute(name) {
+        None
+    } else {
+        Some(NoticeCode::MeshPrimitiveInvalidAttribute)
+    }
+}

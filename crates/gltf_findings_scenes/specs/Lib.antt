@@ -1,0 +1,4 @@
+pub mod Animations
+pub mod Nodes
+pub mod Placed
+pub mod Skins

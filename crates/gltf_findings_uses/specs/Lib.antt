@@ -1,0 +1,5 @@
+pub mod Marking
+pub mod Sharing
+pub mod Surfaces
+pub mod Unused
+pub mod Usage

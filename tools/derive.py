@@ -3,8 +3,8 @@
 Writes what follows from the struct, the rows, the kind and the members of each object of the table,
 in files of their own: derive_crate.py says what of its own crate, derive_walk.py and
 derive_values.py what of the crates above, derive_reported.py what a law depends on,
-derive_defaults.py which constants the corpus compares, and derive_choices.py what follows from a
-choice of gltf_base. `Drop` has to stand beside the struct: it is between two marks. What can't be
+derive_defaults.py which constants the corpus compares, derive_choices.py what follows from a choice of
+gltf_base, and derive_codes.py the list of the codes of findings. `Drop` has to stand beside the struct: it is between two marks. What can't be
 derived is in derive_exceptions.py, and the names of crates are in derive_names.py. With `--check`
 it writes nothing, prints what differs, and ends with status 1 if a file has another text. With
 `--report` it only prints how many lines of each object are derived."""
@@ -12,6 +12,7 @@ import re
 import sys
 
 from derive_choices import write_choices
+from derive_codes import write_codes
 from derive_crate import Modules
 from derive_defaults import write_defaults
 from derive_exceptions import BY_HAND
@@ -32,7 +33,10 @@ def derive(table):
     write_reported(table, files)
     write_defaults(table, files)
     write_choices(table.sources, files)
-    for path in sorted(CRATES.glob("*/*/**/*")):
+    write_codes(files)
+    made = CRATES.glob("*/*/**/*")
+    # What rt keeps of a crate is no text of it.
+    for path in sorted(path for path in made if path.relative_to(CRATES).parts[1] != "out"):
         if path.suffix in (".rt", ".antt") and path not in files.after:
             if re.match(r"\S+ Written by tools/derive\.py from", path.read_text()):
                 files.miss(path, 1, "nothing derives this file any more: delete it")

@@ -1,8 +1,8 @@
 """What an object's own crate has of it: `Drop` beside the struct, and in files of their own
-`Object`, the answers of `read_rows` and of `write_members`, the values of factors, and in `specs/`
+`new` without a given member, `Object`, the answers of `read_rows` and of `write_members`, the values of factors, and in `specs/`
 that its kind is sound and how high it is. An object with rows that are written as null, in itself
 or below it, also has `StrictObject`, and the objects beside those rows a lemma."""
-from derive_exceptions import FACTS, Fact
+from derive_exceptions import BY_HAND, FACTS, NEW, Fact
 from derive_factors import Factor, object_values
 from derive_layout import block, call, ghosts, header, indented, struct
 from derive_names import RUST_NAMES, SCHEMA, antt_uses, rust_uses, tactic_names
@@ -124,6 +124,8 @@ class CrateTexts:
             files.marked(source, f"impl Drop for {made.name}", files.end_of(
                 source, f"pub struct {made.name} {{"), self.drop())
             files.count(made, self.drop())
+        if not made.count_required() and (made.base, "new") not in BY_HAND:
+            modules.add(made, made.crate, made.module, self.new())
         modules.add(made, made.crate, made.module, self.object())
         if values := object_values(made):
             modules.add(made, made.crate, made.module, values)
@@ -173,11 +175,29 @@ class CrateTexts:
         names = ", ".join(tactic_names(module, f"{self.made.base}_{word}") for word in words)
         return f"#[tactic(auto, unfolding({names}))]"
 
+    def first_values(self):
+        """The struct with each field before its member is read."""
+        fields = [f"{row.field}: {self.first_value(row)}" for row in self.made.rows]
+        fields += ["others: Map::new(alloc)"] * (not self.is_plain)
+        return struct(self.made.name, fields)
+
+    def new(self):
+        """`new` of an object in which no member has to be there."""
+        made = self.made
+        body = self.first_values()
+        alloc = "alloc: Global" if any("(alloc)" in line for line in body) else ""
+        defaults = f"{{ {made.base}_members result ≡ defaults {made.base}_rows }}"
+        clauses = [f"ensures {defaults}"] if self.is_plain else [
+            f"ensures known {defaults}",
+            "ensures unknown { members_view result.others.entries ≡ no_members }"]
+        what = NEW.get(made.base, "an object with every member at its default")
+        return block(f"impl {made.name}", [
+            f"/// Returns {what}.", self.unfolding("rows", "members"),
+            f"pub fn new({alloc}) -> {made.name}", *indented(clauses), "{", *indented(body), "}"])
+
     def start(self):
         made = self.made
-        fields = [f"{row.field}: {self.first_value(row)}" for row in made.rows]
-        fields += ["others: Map::new(alloc)"] * (not self.is_plain)
-        body = struct(made.name, fields)
+        body = self.first_values()
         alloc = "alloc" if any("(alloc)" in line for line in body) else "_alloc"
         return [self.unfolding("rows", "members"),
                 f"fn start({alloc}: Global) -> {made.name} {{", *indented(body), "}"]

@@ -45,6 +45,16 @@ FACTS = {
 BY_HAND = {
     ("unlit", "Object"):
         "it has no rows",
+    ("buffer", "new"):
+        "a buffer is made of its length",
+    ("texture", "new"):
+        "a texture is made of its image",
+    ("animation", "new"):
+        "an animation is made of its channels and samplers",
+    ("scene", "new"):
+        "a scene is made of its nodes",
+    ("skin", "new"):
+        "a skin is made of its joints",
     ("material", "Visitable"):
         "what is wrong in a material is found at once, before a walk enters it",
     ("animation_channel", "Visitable"):
@@ -55,6 +65,29 @@ BY_HAND = {
         "a channel is validated by its animation alone",
     ("AttenuationDistance", "value"):
         "a distance that is absent has no end, and is no number",
+}
+
+# What `new` returns, by the base of the object, where it says more than that each member has its
+# default.
+NEW = {
+    "ior": "the default index of refraction",
+    "transmission": "an object by which no light is transmitted",
+    "pbr_specular_glossiness": "parameters with every member at its default",
+    "volume": "an object for a thin-walled surface",
+    "emissive_strength": "the default strength",
+    "texture_transform": "the identity transform",
+    "image": "an image without data, every member at its default",
+    "material": "a material with every member at its default",
+    "pbr_metallic_roughness": "parameters with every member at its default",
+    "sampler": "a sampler with every member at its default: it repeats the texture",
+    "spot": "a cone with every member at its default",
+    "node": "a node with every member at its default",
+    "morph_target": "a morph target without displacements",
+    "material_extension": "an empty extension object",
+    "info_extension": "an empty extension object",
+    "node_extension": "an empty extension object",
+    "primitive_extension": "an empty extension object",
+    "root_extension": "an empty extension object",
 }
 
 # The arms of `event` that are no members, by the object and the row in whose place they stand.

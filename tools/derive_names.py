@@ -25,6 +25,7 @@ MODULES = {
     f"Rattle.{SCHEMA}.specs.Tree": "absent items_in tree_or_absent",
     f"Rattle.{SCHEMA}.specs.Kind":
         "Number Numbers ListOf IndexInto Attributes",
+    f"Rattle.{SCHEMA}.specs.Defaults": "defaults",
     f"Rattle.{SCHEMA}.specs.Sound": "is_sound",
     f"Rattle.{SCHEMA}.specs.Height": "IsHigh IsFlat",
     f"Rattle.{SCHEMA}.specs.Nulls": "without_nulls",

@@ -147,7 +147,7 @@ class Readme:
         due = re.search(r"(?ms)^```text\n(.*?)^```", part)
         ran = shell(commands, top, HOME=str(top.parent / "home"))
         printed = ran.stdout.replace("examples/", "./")
-        right = (ran.returncode, printed) == (2, due.group(1))
+        right = (ran.returncode, printed) == (1, due.group(1))
         self.expect(right, f"the linter: status {ran.returncode}, {printed}{ran.stderr}")
 
     def run_programs(self, top):

@@ -51,8 +51,8 @@ gltf_c_returned gltf_c_check_by(const uint8_t *document, size_t document_len,
                                 bool empty_texture,
                                 uint8_t *output, size_t output_len);
 
-/* Checks a document as gltf_c_check does. The output is a line for each
- * report (status 1): a JSON object, with the members `code`, `file`, `kind`, `message`, `path`
+/* Checks a document as gltf_c_check does. The output is the lines that `gltf_lint --reports --json`
+ * prints (status 1): a JSON object a line, with the members `code`, `file`, `kind`, `message`, `path`
  * and `pointer`. `file` is the name that the lines give to the file, in UTF-8. Without output the
  * status is 0 (no report), 2, 3, 4, 6 or 7. */
 gltf_c_returned gltf_c_check_json(const uint8_t *document, size_t document_len,

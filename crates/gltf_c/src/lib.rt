@@ -97,10 +97,10 @@ pub extern "C" fn gltf_c_check_by(
     }
 }
 
-/// Checks a document as [`gltf_c_check`] does, and puts out a line for each report: a JSON object,
-/// with the members `code`, `file`, `kind`, `message`, `path` and `pointer`. `file` is the name
-/// that the lines give to the file. The status 6 comes if and only if that name is no UTF-8. Output
-/// comes with status 1 alone.
+/// Checks a document as [`gltf_c_check`] does, and puts out the lines that `gltf_lint --reports
+/// --json` prints: a JSON object a line, with the members `code`, `file`, `kind`, `message`, `path`
+/// and `pointer`. `file` is the name that the lines give to the file. The status 6 comes if and
+/// only if that name is no UTF-8. Output comes with status 1 alone.
 ///
 /// | Status | Meaning |
 /// |---|---|

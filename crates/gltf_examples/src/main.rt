@@ -7,6 +7,7 @@ mod builder;
 mod checker;
 mod exporter;
 mod files;
+mod findings;
 mod glb;
 mod linter;
 mod loader;
@@ -30,5 +31,7 @@ fn main(rt: HostRuntime) -> Result<()> {
     println!(rt; "# linter")?;
     linter::main(rt)?;
     println!(rt; "# files")?;
-    files::main(rt)
+    files::main(rt)?;
+    println!(rt; "# findings")?;
+    findings::main(rt)
 }

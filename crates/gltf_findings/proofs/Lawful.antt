@@ -22,6 +22,7 @@ use Rattle.gltf_findings.specs.Findings.{AreFindings, findings_of, document_find
 use Rattle.gltf_findings.specs.Uses.{use_findings}
 use Rattle.gltf_findings.specs.Absent.{is_of_layout, is_of_hierarchy, LiesInView}
 use Rattle.gltf_findings.specs.Hierarchy.{fault_finding}
+use Rattle.gltf_findings.specs.Skeletons.{skeleton_findings}
 use Rattle.gltf_findings.proofs.Rooted.{AreQuiet, no_faults}
 use Rattle.gltf_findings.proofs.Fitting.{lies}
 
@@ -49,10 +50,16 @@ node_parts counts n x h =
     let b = without_append is_of_hierarchy (rules ++ children) repeats a.0 in
     ((without_append is_of_hierarchy rules children b.0).1, b.1)
 
+-- what is found of the document and of its hierarchy is among all
+all_parts : (codes : Code → Bool) (r : Root) (all : List Finding) (is : AreFindings r all) → are_without codes all ≡ true → (are_without codes (findings_of r) ≡ true) × (are_without codes (found is.hierarchy) ≡ true)
+all_parts codes r all is h =
+    let skins = findings_from (skeleton_findings is.apart is.astray) 0 r.skins.items in
+    let whole : are_without codes (findings_of r ++ found is.hierarchy ++ skins) ≡ true = subst (λ xs. are_without codes xs ≡ true) is.each h in
+    without_append codes (findings_of r) (found is.hierarchy) (without_append codes (findings_of r ++ found is.hierarchy) skins whole).0
+
 pub lies_in_view : (r : Root) (all : List Finding) (n : ℕ) (a : Accessor) → AreFindings r all → are_without is_of_layout all ≡ true → slice_get r.accessors.items n ≡ Some a → LiesInView r a
 lies_in_view r all n a is h at =
-    let whole : are_without is_of_layout (findings_of r ++ found is.hierarchy) ≡ true = subst (λ xs. are_without is_of_layout xs ≡ true) is.each h in
-    let listed = (without_append is_of_layout (findings_of r) (found is.hierarchy) whole).0 in
+    let listed = (all_parts is_of_layout r all is h).0 in
     let stored = (stored_and_placed is_of_layout r listed).0 in
     let of_accessors = findings_from (accessor_findings r.buffer_views.items) 0 r.accessors.items in
     let of_buffers = findings_from (λ k x. found (buffer_rules k x)) 0 r.buffers.items in
@@ -81,8 +88,7 @@ quiet r h =
 
 pub are_trees : (r : Root) (all : List Finding) → AreFindings r all → length r.nodes.items < 2 ^ 32 → are_without is_of_hierarchy all ≡ true → IsForest (children_named r.nodes.items)
 are_trees r all is few h =
-    let whole : are_without is_of_hierarchy (findings_of r ++ found is.hierarchy) ≡ true = subst (λ xs. are_without is_of_hierarchy xs ≡ true) is.each h in
-    let parts = without_append is_of_hierarchy (findings_of r) (found is.hierarchy) whole in
+    let parts = all_parts is_of_hierarchy r all is h in
     let len = length-map r.nodes.items (λ n. numbers_in n.children) in
     let small : length (children_named r.nodes.items) < 2 ^ 32 = subst (λ n. n < 2 ^ 32) (sym len) few in
     let listed : are_without is_of_hierarchy (found (map fault_finding is.are_of.faults)) ≡ true = subst (λ xs. are_without is_of_hierarchy (found xs) ≡ true) is.are_of.each parts.1 in

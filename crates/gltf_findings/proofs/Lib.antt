@@ -4,3 +4,5 @@ pub mod Repeating
 pub mod Standing
 pub mod Rooted
 pub mod Lawful
+pub mod Skinned
+pub mod Named

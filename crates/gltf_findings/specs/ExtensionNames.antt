@@ -1,8 +1,9 @@
 -- The names of extensions (glTF 2.0, section 3.12).
-use Rattle.std.specs.Prelude.{ℕ, ◌==◌, List, [], ◌∷◌, length, Bool, true, false, not, ◌&&◌, ◌||◌, if◌then◌else◌, nat_le, bytes_eq, codes, Option, String, string_bytes}
+use Rattle.std.specs.Prelude.{ℕ, ◌+◌, ◌==◌, List, [], ◌∷◌, ◌++◌, length, Bool, true, false, not, ◌&&◌, ◌||◌, if◌then◌else◌, nat_le, bytes_eq, codes, Option, String, string_bytes}
 use Rattle.std.specs.declared.alloc.Global.{Global}
-use Rattle.gltf_findings_codes.specs.declared.code.Code.TheVariants.{InvalidExtensionNameFormat, NonRequiredExtension, UnsupportedExtension}
-use Rattle.gltf_findings_codes.specs.declared.name.Name.TheVariants.{ExtensionsUsed}
+use Rattle.gltf_findings_codes.specs.declared.code.Code.TheVariants.{DuplicateElements, InvalidExtensionNameFormat, NonRequiredExtension, UnsupportedExtension, UnusedExtensionRequired}
+use Rattle.gltf_findings_codes.specs.declared.name.Name.TheVariants.{ExtensionsUsed, ExtensionsRequired}
+use Rattle.gltf_findings_codes.specs.declared.name.Name.{Name}
 use Rattle.gltf_findings_codes.specs.declared.finding.Object.TheVariants.{Document}
 use Rattle.gltf_findings_codes.specs.declared.finding.Place.TheVariants.{Member, Entry}
 use Rattle.gltf_findings_codes.specs.declared.finding.Finding.{Finding}
@@ -53,3 +54,14 @@ name_rules k name =
 -- KHR_mesh_quantization: "MUST be included in extensionsRequired"
 abbrev pub use_rules : List (String Global) → List (String Global) → List (Option Finding)
 use_rules used required = broken (is_listed used (codes "KHR_mesh_quantization") && not (is_listed required (codes "KHR_mesh_quantization"))) NonRequiredExtension (Member Document ExtensionsUsed) ∷ []
+
+-- an extension that is required and not used
+abbrev pub required_findings : List (String Global) → ℕ → String Global → List Finding
+required_findings used k name = found (broken (not (is_listed used (string_bytes name))) UnusedExtensionRequired (Entry Document ExtensionsRequired k) ∷ [])
+
+-- sections 5.17.1 and 5.17.2: "Each element in the array MUST be unique"; the names from a place on, behind others
+abbrev pub name_repeats : Name → List (String Global) → ℕ → List (String Global) → List Finding
+name_repeats list before k [] = []
+name_repeats list before k (x ∷ xs) =
+    found (broken (is_listed before (string_bytes x)) DuplicateElements (Entry Document list k) ∷ [])
+    ++ name_repeats list (x ∷ before) (k + 1) xs

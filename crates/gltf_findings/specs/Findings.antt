@@ -1,12 +1,13 @@
 -- All findings of a document.
-use Rattle.std.specs.Prelude.{◌≡◌, ℕ, List, [], ◌∷◌, ◌++◌, Bool, false, replicate, codes, string_bytes, not, ◌&&◌, ◌==◌, length, Option, Some, None}
+use Rattle.std.specs.Prelude.{◌≡◌, ℕ, List, [], ◌∷◌, ◌++◌, Bool, false, replicate, codes, String, string_bytes, not, ◌&&◌, ◌==◌, length, Option, Some, None}
+use Rattle.std.specs.declared.alloc.Global.{Global}
 use Rattle.gltf_scene.specs.declared.extensions.scene.khr_lights_punctual.Light.{Light}
 use Rattle.gltf_root.specs.declared.extensions.root.KhrLightsPunctual.{KhrLightsPunctual}
 use Rattle.gltf_root.specs.declared.extensions.root.KhrMaterialsVariants.{KhrMaterialsVariants as OfVariants}
 use Rattle.gltf_root.specs.declared.extensions.root.Root.{Root as Extension}
 use Rattle.gltf_root.specs.declared.root.Root.{Root}
 use Rattle.gltf_findings_codes.specs.declared.code.Code.TheVariants.{UnresolvedReference, UnsatisfiedDependency}
-use Rattle.gltf_findings_codes.specs.declared.name.Name.TheVariants.{Scene, ExtensionsRequired}
+use Rattle.gltf_findings_codes.specs.declared.name.Name.TheVariants.{Scene, ExtensionsUsed, ExtensionsRequired}
 use Rattle.gltf_findings_codes.specs.declared.finding.Object.TheVariants.{Document}
 use Rattle.gltf_findings_codes.specs.declared.finding.Place.TheVariants.{Member}
 use Rattle.gltf_findings_codes.specs.declared.finding.Finding.{Finding}
@@ -14,10 +15,12 @@ use Rattle.gltf_findings.specs.declared.findings.Findings.{Findings}
 use Rattle.gltf_findings_scenes.specs.declared.nodes.NodeRules.{NodeRules as Counts}
 use Rattle.gltf_findings_codes.specs.Found.{broken, found, findings_from}
 use Rattle.gltf_findings_codes.specs.Rules.{is_some_unresolved}
-use Rattle.gltf_findings.specs.ExtensionNames.{is_listed, name_rules, use_rules}
+use Rattle.gltf_findings.specs.ExtensionNames.{is_listed, name_rules, use_rules, required_findings, name_repeats}
 use Rattle.gltf_findings.specs.Uses.{use_findings}
 use Rattle.gltf_findings.specs.Versions.{asset_rules}
 use Rattle.gltf_findings.specs.Hierarchy.{AreHierarchyRules}
+use Rattle.gltf_document.specs.Named.{children_named}
+use Rattle.gltf_findings.specs.Skeletons.{AreSkeletonMarks, skeleton_findings}
 use Rattle.gltf_findings_objects.specs.Accessors.{accessor_findings}
 use Rattle.gltf_findings_objects.specs.Views.{buffer_rules, view_findings}
 use Rattle.gltf_findings_objects.specs.Textures.{image_rules, sampler_rules, texture_rules}
@@ -109,20 +112,31 @@ unmarked r = replicate (length r.nodes.items) false
 abbrev pub placed_findings : Root → List Finding
 placed_findings r = marked_findings r (child_marks r.nodes.items (unmarked r)) (joint_marks r.skins.items (unmarked r))
 
+-- the names of the extensions that are used and of those that are required
+abbrev pub name_findings : List (String Global) → List (String Global) → List Finding
+name_findings used required =
+    findings_from (λ k name. name_rules k (string_bytes name)) 0 used
+    ++ findings_from (required_findings used) 0 required
+    ++ name_repeats ExtensionsUsed [] 0 used
+    ++ name_repeats ExtensionsRequired [] 0 required
+
 -- the document itself, its metadata and its extensions
 abbrev pub document_findings : Root → List Finding
 document_findings r =
     found (root_rules r)
     ++ found (asset_rules r.asset)
     ++ found (use_rules r.extensions_used.items r.extensions_required.items)
-    ++ findings_from (λ k name. name_rules k (string_bytes name)) 0 r.extensions_used.items
+    ++ name_findings r.extensions_used.items r.extensions_required.items
 
--- what is wrong with a document, but for the hierarchy of its nodes
+-- what is wrong with a document, but for what the hierarchy of its nodes decides
 abbrev pub findings_of : Root → List Finding
 findings_of r = document_findings r ++ stored_findings r ++ shown_findings r ++ staged_findings r ++ placed_findings r ++ use_findings r
 
--- what is wrong with a document: the faults of the hierarchy come last
+-- what is wrong with a document: the faults of the hierarchy and the skins that do not fit it come last
 pub record AreFindings (r : Root) (all : List Finding) : Type 0 where
   pub hierarchy : List (Option Finding)
   pub are_of : AreHierarchyRules r.nodes.items hierarchy
-  pub each : all ≡ findings_of r ++ found hierarchy
+  pub apart : List Bool
+  pub astray : List Bool
+  pub skeletons : AreSkeletonMarks (children_named r.nodes.items) r.skins.items apart astray
+  pub each : all ≡ findings_of r ++ found hierarchy ++ findings_from (skeleton_findings apart astray) 0 r.skins.items

@@ -4,3 +4,5 @@ pub mod Findings
 pub mod Hierarchy
 pub mod Uses
 pub mod Versions
+pub mod Skeletons
+pub mod Rooting

@@ -3,12 +3,15 @@
 ghost use Rattle.std.specs.Prelude.{◌≡◌, ◌++◌, codes, length, Option, IfOk, OnOk};
 ghost use Rattle.gltf_findings.specs.ExtensionNames.{is_listed};
 ghost use Rattle.gltf_findings_codes.specs.Found.{found, findings_from};
+ghost use Rattle.gltf_findings.specs.Skeletons.{skeleton_findings};
 ghost use Rattle.gltf_findings_scenes.specs.Nodes.{node_findings};
 ghost use Rattle.gltf_findings_scenes.specs.Placed.{placed_findings as placed_node_findings};
-ghost use Rattle.gltf_findings.specs.Findings.{findings_of, root_rules, stored_findings, shown_findings, staged_findings, placed_findings, marked_findings, document_findings, counts_of, lights_of, variant_count};
+ghost use Rattle.gltf_findings.specs.Findings.{findings_of, root_rules, stored_findings, shown_findings, staged_findings, placed_findings, marked_findings, document_findings, name_findings, counts_of, lights_of, variant_count};
 
+use crate::extensions::{add_name_repeats, add_required};
 use crate::hierarchy::hierarchy_rules;
 use crate::names::{NameRules, is_listed, use_rules};
+use crate::skeletons::{SkeletonMarks, SkeletonRules, skeleton_marks};
 use crate::uses::add_uses;
 use crate::version::asset_rules;
 use gltf_findings_codes::{
@@ -45,7 +48,8 @@ impl Findings {
         ensures { IfOk result (λ findings. AreFindings root.now (found_in findings)) }
     {
         let hierarchy = hierarchy_rules(alloc, root)?;
-        let found = found_by(alloc, root, &hierarchy)?;
+        let skeletons = skeleton_marks(alloc, root)?;
+        let found = found_by(alloc, root, &hierarchy, &skeletons)?;
         Ok(Findings { found })
     }
 
@@ -57,14 +61,17 @@ impl Findings {
     }
 }
 
-/// The findings of a document, and behind them those of some rules.
+/// The findings of a document, and behind them those of some rules and of skins by their marks.
 #[tactic(auto, using(std::proofs::lemmas::List::append_assoc))]
 fn found_by(
     alloc: Global,
     root: &Root,
     rules: &[Option<Finding>],
+    skeletons: &SkeletonMarks,
 ) -> Result<Vec<Finding>, AllocError>
-    ensures { IfOk result (λ all. all.items ≡ findings_of root.now ++ found rules.now) }
+    ensures { IfOk result (λ all. all.items ≡ findings_of root.now ++ found rules.now
+        ++ findings_from (skeleton_findings skeletons.now.apart.items skeletons.now.astray.items) 0
+        root.now.skins.items) }
 {
     let mut all = Vec::new(alloc);
     add_document(&mut all, root)?;
@@ -74,6 +81,7 @@ fn found_by(
     add_placed(&mut all, root)?;
     add_uses(&mut all, root)?;
     add_found(&mut all, rules)?;
+    add_all(&mut all, &SkeletonRules(skeletons), &root.skins)?;
     Ok(all)
 }
 
@@ -88,7 +96,19 @@ fn add_document(to: &mut Vec<Finding>, root: &Root) -> Result<(), AllocError>
         to,
         &use_rules(&root.extensions_used, &root.extensions_required),
     )?;
-    add_all(to, &NameRules, &root.extensions_used)
+    add_names(to, &root.extensions_used, &root.extensions_required)
+}
+
+/// Adds the findings of the names of extensions that are used, and of those that are required.
+#[tactic(auto, using(std::proofs::lemmas::List::append_assoc))]
+fn add_names(to: &mut Vec<Finding>, used: &[String], required: &[String]) -> Result<(), AllocError>
+    ensures { OnOk result (to.new.items
+        ≡ to.old.items ++ name_findings used.now required.now) }
+{
+    add_all(to, &NameRules, used)?;
+    add_required(to, used, required)?;
+    add_name_repeats(to, Name::ExtensionsUsed, used)?;
+    add_name_repeats(to, Name::ExtensionsRequired, required)
 }
 
 /// The rules for a document by itself.

@@ -5,10 +5,12 @@
 //! `Findings::of` returns what is wrong with any document.
 #![tactic(auto)]
 
+mod extensions;
 mod findings;
 mod hierarchy;
 pub mod laws;
 mod names;
+mod skeletons;
 mod uses;
 mod version;
 

@@ -3,7 +3,7 @@ use Rattle.std.specs.Prelude.{ℕ, List, codes}
 use Rattle.gltf_findings_codes.specs.declared.code.Severity.{Severity}
 use Rattle.gltf_findings_codes.specs.declared.code.Severity.TheVariants.{Error, Warning, Information, Hint}
 use Rattle.gltf_findings_codes.specs.declared.code.Code.{Code}
-use Rattle.gltf_findings_codes.specs.declared.code.Code.TheVariants.{ValueNotInList, CameraXmagYmagNegative, CameraYfovGequalPi, KhrMaterialsVolumeDoubleSided, KhrMaterialsVolumeNoTransmission, MaterialAlphaCutoffInvalidMode, AnimationChannelTargetNodeSkin, UnknownAssetMinorVersion, InvalidExtensionNameFormat, MeshPrimitiveNoPosition, MeshPrimitiveIncompatibleMode, MeshPrimitiveGeneratedTangentSpace, MeshPrimitiveTangentWithoutNormal, MeshPrimitiveTangentPoints, MeshPrimitivesUnequalJointsCount, NodeSkinnedMeshWithoutSkin, NodeSkinnedMeshNonRoot, NodeSkinnedMeshLocalTransforms, KhrMaterialsEmissiveStrengthZeroFactor, GlbExtraData, GlbUnknownChunkType, BufferGlbChunkTooBig, NonRelativeUri, UnusedMeshTangent, NodeEmpty, NodeMatrixDefault, UnusedObject, UnusedMeshWeights, UnsupportedExtension, GlbEmptyBinChunk, UriGlb, DataUriGlb, BufferViewTargetMissing}
+use Rattle.gltf_findings_codes.specs.declared.code.Code.TheVariants.{ValueNotInList, CameraXmagYmagNegative, CameraYfovGequalPi, KhrMaterialsVolumeDoubleSided, KhrMaterialsVolumeNoTransmission, MaterialAlphaCutoffInvalidMode, AnimationChannelTargetNodeSkin, UnknownAssetMinorVersion, InvalidExtensionNameFormat, MeshPrimitiveNoPosition, MeshPrimitiveIncompatibleMode, MeshPrimitiveGeneratedTangentSpace, MeshPrimitiveTangentWithoutNormal, MeshPrimitiveTangentPoints, MeshPrimitivesUnequalJointsCount, NodeSkinnedMeshWithoutSkin, NodeSkinnedMeshNonRoot, NodeSkinnedMeshLocalTransforms, KhrMaterialsEmissiveStrengthZeroFactor, GlbExtraData, GlbUnknownChunkType, BufferGlbChunkTooBig, NonRelativeUri, UnusedMeshTangent, NodeEmpty, NodeMatrixDefault, UnusedObject, UnusedMeshWeights, UnsupportedExtension, GlbEmptyBinChunk, UriGlb, DataUriGlb, ExtraProperty, BufferViewTargetMissing, UnexpectedProperty, NonObjectExtras}
 
 abbrev pub severity_name : Severity → List ℕ
 severity_name Error = codes "error"
@@ -35,6 +35,7 @@ code_severity GlbExtraData = Warning
 code_severity GlbUnknownChunkType = Warning
 code_severity BufferGlbChunkTooBig = Warning
 code_severity NonRelativeUri = Warning
+code_severity UnexpectedProperty = Warning
 code_severity UnusedMeshTangent = Information
 code_severity NodeEmpty = Information
 code_severity NodeMatrixDefault = Information
@@ -44,5 +45,7 @@ code_severity UnsupportedExtension = Information
 code_severity GlbEmptyBinChunk = Information
 code_severity UriGlb = Information
 code_severity DataUriGlb = Information
+code_severity ExtraProperty = Information
+code_severity NonObjectExtras = Information
 code_severity BufferViewTargetMissing = Hint
 code_severity _ = Error

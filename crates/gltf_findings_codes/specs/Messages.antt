@@ -1,7 +1,7 @@
 -- What is wrong, in words.
 use Rattle.std.specs.Prelude.{ℕ, List, codes}
 use Rattle.gltf_findings_codes.specs.declared.code.Code.{Code}
-use Rattle.gltf_findings_codes.specs.declared.code.Code.TheVariants.{EmptyEntity, OneOfMismatch, UndefinedProperty, UnsatisfiedDependency, ValueMultipleOf, ValueNotInList, ValueNotInRange, AccessorMatrixAlignment, AccessorNormalizedInvalid, AccessorOffsetAlignment, AccessorSparseCountOutOfRange, BufferViewInvalidByteStride, BufferViewTooBigByteStride, CameraXmagYmagNegative, CameraXmagYmagZero, CameraYfovGequalPi, CameraZfarLequalZnear, KhrLightsPunctualLightSpotAngles, KhrMaterialsVolumeDoubleSided, KhrMaterialsVolumeNoTransmission, MaterialAlphaCutoffInvalidMode, MeshInvalidWeightsCount, MeshPrimitivesUnequalTargetsCount, NodeMatrixTrs, AccessorSmallBytestride, AccessorTooLong, AccessorTotalOffsetAlignment, AnimationChannelTargetNodeMatrix, AnimationChannelTargetNodeSkin, AnimationSamplerAccessorWithBytestride, AnimationSamplerInputAccessorInvalidFormat, AnimationSamplerInputAccessorWithoutBounds, AnimationSamplerInputAccessorTooFewElements, AnimationSamplerOutputAccessorInvalidFormat, BufferViewTooLong, ImageBufferViewWithBytestride, InvalidIbmAccessorCount, MeshPrimitiveIndicesAccessorInvalidFormat, MeshPrimitiveIndicesAccessorWithBytestride, NodeLoop, NodeParentOverride, SkinIbmAccessorWithBytestride, SkinIbmInvalidFormat, UnresolvedReference, PatternMismatch, UnknownAssetMajorVersion, UnknownAssetMinorVersion, AssetMinVersionGreaterThanVersion, InvalidExtensionNameFormat, DuplicateElements, ArrayLengthNotInList, SceneNonRootNode, MeshPrimitiveAttributesAccessorInvalidFormat, MeshPrimitiveAttributesAccessorUnsignedInt, MeshPrimitiveUnequalAccessorCount, MeshPrimitiveMorphTargetNoBaseAccessor, MeshPrimitiveMorphTargetInvalidAttributeCount, MeshPrimitiveIndexedSemanticContinuity, MeshPrimitiveJointsWeightsMismatch, MeshPrimitiveNoPosition, MeshPrimitivePositionAccessorWithoutBounds, MeshPrimitiveInvalidAttribute, MeshPrimitiveIncompatibleMode, MeshPrimitiveTooFewTexcoords, MeshPrimitiveGeneratedTangentSpace, MeshPrimitiveTangentWithoutNormal, MeshPrimitiveTangentPoints, UnusedMeshTangent, MeshPrimitiveAccessorUnaligned, MeshPrimitivesUnequalJointsCount, NodeWeightsInvalid, NodeSkinWithNonSkinnedMesh, NodeSkinnedMeshWithoutSkin, NodeSkinnedMeshNonRoot, NodeSkinnedMeshLocalTransforms, NodeEmpty, NodeMatrixDefault, NodeMatrixNonTrs, RotationNonUnit, AnimationDuplicateTargets, AnimationSamplerOutputAccessorInvalidCount, AnimationChannelTargetNodeWeightsNoMorphs, UnusedObject, UnusedMeshWeights, AccessorUsageOverride, BufferViewTargetOverride, BufferViewTargetMissing, MeshPrimitiveAccessorWithoutBytestride, TextureInvalidImageMimeType, UnsupportedExtension, NonRequiredExtension, KhrMaterialsEmissiveStrengthZeroFactor, GlbUnexpectedEndOfHeader, GlbInvalidMagic, GlbInvalidVersion, GlbLengthTooSmall, GlbLengthMismatch, GlbExtraData, GlbUnexpectedEndOfChunkHeader, GlbUnexpectedEndOfChunkData, GlbChunkLengthUnaligned, GlbChunkTooBig, GlbUnknownChunkType, GlbDuplicateChunk, GlbUnexpectedFirstChunk, GlbEmptyChunk, GlbUnexpectedBinChunk, GlbEmptyBinChunk, BufferMissingGlbData, BufferGlbChunkTooBig, InvalidUri, NonRelativeUri, UriGlb, DataUriGlb, BufferDataUriMimeTypeInvalid}
+use Rattle.gltf_findings_codes.specs.declared.code.Code.TheVariants.{EmptyEntity, OneOfMismatch, UndefinedProperty, UnsatisfiedDependency, ValueMultipleOf, ValueNotInList, ValueNotInRange, AccessorMatrixAlignment, AccessorNormalizedInvalid, AccessorOffsetAlignment, AccessorSparseCountOutOfRange, BufferViewInvalidByteStride, BufferViewTooBigByteStride, CameraXmagYmagNegative, CameraXmagYmagZero, CameraYfovGequalPi, CameraZfarLequalZnear, KhrLightsPunctualLightSpotAngles, KhrMaterialsVolumeDoubleSided, KhrMaterialsVolumeNoTransmission, MaterialAlphaCutoffInvalidMode, MeshInvalidWeightsCount, MeshPrimitivesUnequalTargetsCount, NodeMatrixTrs, AccessorSmallBytestride, AccessorTooLong, AccessorTotalOffsetAlignment, AnimationChannelTargetNodeMatrix, AnimationChannelTargetNodeSkin, AnimationSamplerAccessorWithBytestride, AnimationSamplerInputAccessorInvalidFormat, AnimationSamplerInputAccessorWithoutBounds, AnimationSamplerInputAccessorTooFewElements, AnimationSamplerOutputAccessorInvalidFormat, BufferViewTooLong, ImageBufferViewWithBytestride, InvalidIbmAccessorCount, MeshPrimitiveIndicesAccessorInvalidFormat, MeshPrimitiveIndicesAccessorWithBytestride, NodeLoop, NodeParentOverride, SkinIbmAccessorWithBytestride, SkinIbmInvalidFormat, UnresolvedReference, PatternMismatch, UnknownAssetMajorVersion, UnknownAssetMinorVersion, AssetMinVersionGreaterThanVersion, InvalidExtensionNameFormat, DuplicateElements, ArrayLengthNotInList, SceneNonRootNode, MeshPrimitiveAttributesAccessorInvalidFormat, MeshPrimitiveAttributesAccessorUnsignedInt, MeshPrimitiveUnequalAccessorCount, MeshPrimitiveMorphTargetNoBaseAccessor, MeshPrimitiveMorphTargetInvalidAttributeCount, MeshPrimitiveIndexedSemanticContinuity, MeshPrimitiveJointsWeightsMismatch, MeshPrimitiveNoPosition, MeshPrimitivePositionAccessorWithoutBounds, MeshPrimitiveInvalidAttribute, MeshPrimitiveIncompatibleMode, MeshPrimitiveTooFewTexcoords, MeshPrimitiveGeneratedTangentSpace, MeshPrimitiveTangentWithoutNormal, MeshPrimitiveTangentPoints, UnusedMeshTangent, MeshPrimitiveAccessorUnaligned, MeshPrimitivesUnequalJointsCount, NodeWeightsInvalid, NodeSkinWithNonSkinnedMesh, NodeSkinnedMeshWithoutSkin, NodeSkinnedMeshNonRoot, NodeSkinnedMeshLocalTransforms, NodeEmpty, NodeMatrixDefault, NodeMatrixNonTrs, RotationNonUnit, AnimationDuplicateTargets, AnimationSamplerOutputAccessorInvalidCount, AnimationChannelTargetNodeWeightsNoMorphs, UnusedObject, UnusedMeshWeights, AccessorUsageOverride, BufferViewTargetOverride, BufferViewTargetMissing, MeshPrimitiveAccessorWithoutBytestride, TextureInvalidImageMimeType, UnsupportedExtension, NonRequiredExtension, KhrMaterialsEmissiveStrengthZeroFactor, GlbUnexpectedEndOfHeader, GlbInvalidMagic, GlbInvalidVersion, GlbLengthTooSmall, GlbLengthMismatch, GlbExtraData, GlbUnexpectedEndOfChunkHeader, GlbUnexpectedEndOfChunkData, GlbChunkLengthUnaligned, GlbChunkTooBig, GlbUnknownChunkType, GlbDuplicateChunk, GlbUnexpectedFirstChunk, GlbEmptyChunk, GlbUnexpectedBinChunk, GlbEmptyBinChunk, BufferMissingGlbData, BufferGlbChunkTooBig, InvalidUri, NonRelativeUri, UriGlb, DataUriGlb, BufferDataUriMimeTypeInvalid, SkinNoCommonRoot, SkinSkeletonInvalid, UnusedExtensionRequired, ExtraProperty, ArrayTypeMismatch, InvalidIndex, TypeMismatch, UnexpectedProperty, NonObjectExtras, UndeclaredExtension, UnexpectedExtensionObject}
 
 abbrev pub code_message : Code → List ℕ
 code_message EmptyEntity = codes "a list or an object that must not be empty is empty"
@@ -54,7 +54,7 @@ code_message UnknownAssetMinorVersion = codes "the minor version is later than 0
 code_message AssetMinVersionGreaterThanVersion = codes "the minimum version is greater than the version"
 code_message InvalidExtensionNameFormat = codes "the name of an extension has no prefix of capital letters"
 code_message DuplicateElements = codes "an element is listed twice"
-code_message ArrayLengthNotInList = codes "there are not as many bounds as components"
+code_message ArrayLengthNotInList = codes "there are not as many numbers as are required"
 code_message SceneNonRootNode = codes "a scene lists a node that has a parent"
 code_message MeshPrimitiveAttributesAccessorInvalidFormat = codes "an attribute has a format that its semantic excludes"
 code_message MeshPrimitiveAttributesAccessorUnsignedInt = codes "an attribute has components of 32-bit integers"
@@ -119,3 +119,14 @@ code_message NonRelativeUri = codes "the URI is not relative"
 code_message UriGlb = codes "the document of a .glb file refers to another file"
 code_message DataUriGlb = codes "the document of a .glb file has a data URI"
 code_message BufferDataUriMimeTypeInvalid = codes "the data URI has a media type that is not one of buffers"
+code_message SkinNoCommonRoot = codes "the joints have no common root"
+code_message SkinSkeletonInvalid = codes "the skeleton is not a common root of the joints"
+code_message UnusedExtensionRequired = codes "an extension is required and not used"
+code_message ExtraProperty = codes "a member is defined that has no effect"
+code_message ArrayTypeMismatch = codes "an item is of another kind than is wanted"
+code_message InvalidIndex = codes "an index is no whole number below 2^32"
+code_message TypeMismatch = codes "a value is of another kind than is wanted"
+code_message UnexpectedProperty = codes "the format has no member of this name"
+code_message NonObjectExtras = codes "extras are no object"
+code_message UndeclaredExtension = codes "extensionsUsed does not list the extension"
+code_message UnexpectedExtensionObject = codes "the extension has no meaning in this object"

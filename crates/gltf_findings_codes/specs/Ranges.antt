@@ -7,7 +7,7 @@ use Rattle.gltf_schema.specs.Floats.{real_float}
 use Rattle.gltf_findings_codes.specs.declared.code.Code.TheVariants.{ValueNotInRange}
 use Rattle.gltf_findings_codes.specs.declared.name.Name.{Name}
 use Rattle.gltf_findings_codes.specs.declared.finding.Object.{Object}
-use Rattle.gltf_findings_codes.specs.declared.finding.Place.TheVariants.{Entry}
+use Rattle.gltf_findings_codes.specs.declared.finding.Place.TheVariants.{Member, Entry}
 use Rattle.gltf_findings_codes.specs.declared.finding.Finding.{Finding}
 use Rattle.gltf_findings_codes.specs.declared.range.Range.{Range}
 use Rattle.gltf_findings_codes.specs.declared.range.Range.TheVariants.{Factor, Cosine, NotNegative, Positive, RefractionIndex, InnerAngle, OuterAngle}
@@ -33,6 +33,10 @@ is_out range x = not (is_within range (real_float x))
 abbrev pub is_some_out : Range → Option Real → Bool
 is_some_out range None = false
 is_some_out range (Some x) = is_out range x
+
+-- the rule for a number that an object may have
+abbrev pub range_rule : Range → Object → Name → Option Real → Option Finding
+range_rule range object name number = broken (is_some_out range number) ValueNotInRange (Member object name)
 
 -- the finding at a number of a list
 abbrev pub number_findings : Object → Name → Range → ℕ → Real → List Finding

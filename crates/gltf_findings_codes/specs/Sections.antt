@@ -1,7 +1,7 @@
 -- The sections that have the rules; 5 stands for that of the object.
 use Rattle.std.specs.Prelude.{ℕ, List, codes}
 use Rattle.gltf_findings_codes.specs.declared.code.Code.{Code}
-use Rattle.gltf_findings_codes.specs.declared.code.Code.TheVariants.{EmptyEntity, OneOfMismatch, UndefinedProperty, UnsatisfiedDependency, ValueMultipleOf, ValueNotInList, ValueNotInRange, AccessorMatrixAlignment, AccessorNormalizedInvalid, AccessorOffsetAlignment, AccessorSparseCountOutOfRange, BufferViewInvalidByteStride, BufferViewTooBigByteStride, CameraXmagYmagNegative, CameraXmagYmagZero, CameraYfovGequalPi, CameraZfarLequalZnear, KhrLightsPunctualLightSpotAngles, KhrMaterialsVolumeDoubleSided, KhrMaterialsVolumeNoTransmission, MaterialAlphaCutoffInvalidMode, MeshInvalidWeightsCount, MeshPrimitivesUnequalTargetsCount, NodeMatrixTrs, AccessorSmallBytestride, AccessorTooLong, AccessorTotalOffsetAlignment, AnimationChannelTargetNodeMatrix, AnimationChannelTargetNodeSkin, AnimationSamplerAccessorWithBytestride, AnimationSamplerInputAccessorInvalidFormat, AnimationSamplerInputAccessorWithoutBounds, AnimationSamplerInputAccessorTooFewElements, AnimationSamplerOutputAccessorInvalidFormat, BufferViewTooLong, ImageBufferViewWithBytestride, InvalidIbmAccessorCount, MeshPrimitiveIndicesAccessorInvalidFormat, MeshPrimitiveIndicesAccessorWithBytestride, NodeLoop, NodeParentOverride, SkinIbmAccessorWithBytestride, SkinIbmInvalidFormat, UnresolvedReference, PatternMismatch, UnknownAssetMajorVersion, UnknownAssetMinorVersion, AssetMinVersionGreaterThanVersion, InvalidExtensionNameFormat, DuplicateElements, ArrayLengthNotInList, SceneNonRootNode, MeshPrimitiveAttributesAccessorInvalidFormat, MeshPrimitiveAttributesAccessorUnsignedInt, MeshPrimitiveUnequalAccessorCount, MeshPrimitiveMorphTargetNoBaseAccessor, MeshPrimitiveMorphTargetInvalidAttributeCount, MeshPrimitiveIndexedSemanticContinuity, MeshPrimitiveJointsWeightsMismatch, MeshPrimitiveNoPosition, MeshPrimitivePositionAccessorWithoutBounds, MeshPrimitiveInvalidAttribute, MeshPrimitiveIncompatibleMode, MeshPrimitiveTooFewTexcoords, MeshPrimitiveGeneratedTangentSpace, MeshPrimitiveTangentWithoutNormal, MeshPrimitiveTangentPoints, UnusedMeshTangent, MeshPrimitiveAccessorUnaligned, MeshPrimitivesUnequalJointsCount, NodeWeightsInvalid, NodeSkinWithNonSkinnedMesh, NodeSkinnedMeshWithoutSkin, NodeSkinnedMeshNonRoot, NodeSkinnedMeshLocalTransforms, NodeEmpty, NodeMatrixDefault, NodeMatrixNonTrs, RotationNonUnit, AnimationDuplicateTargets, AnimationSamplerOutputAccessorInvalidCount, AnimationChannelTargetNodeWeightsNoMorphs, UnusedObject, UnusedMeshWeights, AccessorUsageOverride, BufferViewTargetOverride, BufferViewTargetMissing, MeshPrimitiveAccessorWithoutBytestride, TextureInvalidImageMimeType, UnsupportedExtension, NonRequiredExtension, KhrMaterialsEmissiveStrengthZeroFactor, GlbUnexpectedEndOfHeader, GlbInvalidMagic, GlbInvalidVersion, GlbLengthTooSmall, GlbLengthMismatch, GlbExtraData, GlbUnexpectedEndOfChunkHeader, GlbUnexpectedEndOfChunkData, GlbChunkLengthUnaligned, GlbChunkTooBig, GlbUnknownChunkType, GlbDuplicateChunk, GlbUnexpectedFirstChunk, GlbEmptyChunk, GlbUnexpectedBinChunk, GlbEmptyBinChunk, BufferMissingGlbData, BufferGlbChunkTooBig, InvalidUri, NonRelativeUri, UriGlb, DataUriGlb, BufferDataUriMimeTypeInvalid}
+use Rattle.gltf_findings_codes.specs.declared.code.Code.TheVariants.{EmptyEntity, OneOfMismatch, UndefinedProperty, UnsatisfiedDependency, ValueMultipleOf, ValueNotInList, ValueNotInRange, AccessorMatrixAlignment, AccessorNormalizedInvalid, AccessorOffsetAlignment, AccessorSparseCountOutOfRange, BufferViewInvalidByteStride, BufferViewTooBigByteStride, CameraXmagYmagNegative, CameraXmagYmagZero, CameraYfovGequalPi, CameraZfarLequalZnear, KhrLightsPunctualLightSpotAngles, KhrMaterialsVolumeDoubleSided, KhrMaterialsVolumeNoTransmission, MaterialAlphaCutoffInvalidMode, MeshInvalidWeightsCount, MeshPrimitivesUnequalTargetsCount, NodeMatrixTrs, AccessorSmallBytestride, AccessorTooLong, AccessorTotalOffsetAlignment, AnimationChannelTargetNodeMatrix, AnimationChannelTargetNodeSkin, AnimationSamplerAccessorWithBytestride, AnimationSamplerInputAccessorInvalidFormat, AnimationSamplerInputAccessorWithoutBounds, AnimationSamplerInputAccessorTooFewElements, AnimationSamplerOutputAccessorInvalidFormat, BufferViewTooLong, ImageBufferViewWithBytestride, InvalidIbmAccessorCount, MeshPrimitiveIndicesAccessorInvalidFormat, MeshPrimitiveIndicesAccessorWithBytestride, NodeLoop, NodeParentOverride, SkinIbmAccessorWithBytestride, SkinIbmInvalidFormat, UnresolvedReference, PatternMismatch, UnknownAssetMajorVersion, UnknownAssetMinorVersion, AssetMinVersionGreaterThanVersion, InvalidExtensionNameFormat, DuplicateElements, ArrayLengthNotInList, SceneNonRootNode, MeshPrimitiveAttributesAccessorInvalidFormat, MeshPrimitiveAttributesAccessorUnsignedInt, MeshPrimitiveUnequalAccessorCount, MeshPrimitiveMorphTargetNoBaseAccessor, MeshPrimitiveMorphTargetInvalidAttributeCount, MeshPrimitiveIndexedSemanticContinuity, MeshPrimitiveJointsWeightsMismatch, MeshPrimitiveNoPosition, MeshPrimitivePositionAccessorWithoutBounds, MeshPrimitiveInvalidAttribute, MeshPrimitiveIncompatibleMode, MeshPrimitiveTooFewTexcoords, MeshPrimitiveGeneratedTangentSpace, MeshPrimitiveTangentWithoutNormal, MeshPrimitiveTangentPoints, UnusedMeshTangent, MeshPrimitiveAccessorUnaligned, MeshPrimitivesUnequalJointsCount, NodeWeightsInvalid, NodeSkinWithNonSkinnedMesh, NodeSkinnedMeshWithoutSkin, NodeSkinnedMeshNonRoot, NodeSkinnedMeshLocalTransforms, NodeEmpty, NodeMatrixDefault, NodeMatrixNonTrs, RotationNonUnit, AnimationDuplicateTargets, AnimationSamplerOutputAccessorInvalidCount, AnimationChannelTargetNodeWeightsNoMorphs, UnusedObject, UnusedMeshWeights, AccessorUsageOverride, BufferViewTargetOverride, BufferViewTargetMissing, MeshPrimitiveAccessorWithoutBytestride, TextureInvalidImageMimeType, UnsupportedExtension, NonRequiredExtension, KhrMaterialsEmissiveStrengthZeroFactor, GlbUnexpectedEndOfHeader, GlbInvalidMagic, GlbInvalidVersion, GlbLengthTooSmall, GlbLengthMismatch, GlbExtraData, GlbUnexpectedEndOfChunkHeader, GlbUnexpectedEndOfChunkData, GlbChunkLengthUnaligned, GlbChunkTooBig, GlbUnknownChunkType, GlbDuplicateChunk, GlbUnexpectedFirstChunk, GlbEmptyChunk, GlbUnexpectedBinChunk, GlbEmptyBinChunk, BufferMissingGlbData, BufferGlbChunkTooBig, InvalidUri, NonRelativeUri, UriGlb, DataUriGlb, BufferDataUriMimeTypeInvalid, SkinNoCommonRoot, SkinSkeletonInvalid, UnusedExtensionRequired, ExtraProperty, ArrayTypeMismatch, InvalidIndex, TypeMismatch, UnexpectedProperty, NonObjectExtras, UndeclaredExtension, UnexpectedExtensionObject}
 
 abbrev pub code_section : Code → List ℕ
 code_section EmptyEntity = codes "5"
@@ -54,7 +54,7 @@ code_section UnknownAssetMinorVersion = codes "5.9.3"
 code_section AssetMinVersionGreaterThanVersion = codes "5.9.4"
 code_section InvalidExtensionNameFormat = codes "3.12"
 code_section DuplicateElements = codes "5"
-code_section ArrayLengthNotInList = codes "5.1"
+code_section ArrayLengthNotInList = codes "5"
 code_section SceneNonRootNode = codes "3.5.1"
 code_section MeshPrimitiveAttributesAccessorInvalidFormat = codes "3.7.2.1"
 code_section MeshPrimitiveAttributesAccessorUnsignedInt = codes "3.7.2.1"
@@ -119,3 +119,14 @@ code_section NonRelativeUri = codes "2.8"
 code_section UriGlb = codes "2.8"
 code_section DataUriGlb = codes "2.8"
 code_section BufferDataUriMimeTypeInvalid = codes "3.6.1.1"
+code_section SkinNoCommonRoot = codes "3.7.3.2"
+code_section SkinSkeletonInvalid = codes "5.28"
+code_section UnusedExtensionRequired = codes "3.12"
+code_section ExtraProperty = codes "KHR_lights_punctual"
+code_section ArrayTypeMismatch = codes "5"
+code_section InvalidIndex = codes "5"
+code_section TypeMismatch = codes "5"
+code_section UnexpectedProperty = codes "5"
+code_section NonObjectExtras = codes "5.16"
+code_section UndeclaredExtension = codes "3.12"
+code_section UnexpectedExtensionObject = codes "3.12"

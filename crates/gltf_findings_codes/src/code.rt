@@ -138,7 +138,7 @@ pub enum Code {
     InvalidExtensionNameFormat,
     /// An element is listed twice.
     DuplicateElements,
-    /// There are not as many bounds as components.
+    /// A list has not as many numbers as it must have.
     ArrayLengthNotInList,
     /// A scene lists a node that has a parent.
     SceneNonRootNode,
@@ -268,6 +268,28 @@ pub enum Code {
     DataUriGlb,
     /// The data URI has a media type that is not one of buffers.
     BufferDataUriMimeTypeInvalid,
+    /// The joints have no common root.
+    SkinNoCommonRoot,
+    /// The skeleton is not a common root of the joints.
+    SkinSkeletonInvalid,
+    /// An extension is required and not used.
+    UnusedExtensionRequired,
+    /// A member is defined that has no effect.
+    ExtraProperty,
+    /// An item of a list is of another kind of JSON than is wanted.
+    ArrayTypeMismatch,
+    /// An index is no whole number below 2^32.
+    InvalidIndex,
+    /// A value is of another kind of JSON than is wanted.
+    TypeMismatch,
+    /// The format has no member of this name.
+    UnexpectedProperty,
+    /// Extras are no object.
+    NonObjectExtras,
+    /// `extensionsUsed` does not list the extension.
+    UndeclaredExtension,
+    /// The extension has no meaning in this object.
+    UnexpectedExtensionObject,
 }
 
 impl Code {
@@ -310,7 +332,8 @@ impl Code {
             | Code::GlbExtraData
             | Code::GlbUnknownChunkType
             | Code::BufferGlbChunkTooBig
-            | Code::NonRelativeUri => Severity::Warning,
+            | Code::NonRelativeUri
+            | Code::UnexpectedProperty => Severity::Warning,
             Code::UnusedMeshTangent
             | Code::NodeEmpty
             | Code::NodeMatrixDefault
@@ -319,7 +342,9 @@ impl Code {
             | Code::UnsupportedExtension
             | Code::GlbEmptyBinChunk
             | Code::UriGlb
-            | Code::DataUriGlb => Severity::Information,
+            | Code::DataUriGlb
+            | Code::ExtraProperty
+            | Code::NonObjectExtras => Severity::Information,
             Code::BufferViewTargetMissing => Severity::Hint,
             _ => Severity::Error,
         }

@@ -2,7 +2,7 @@
 
 ghost use Rattle.std.specs.Prelude.{◌≡◌, ◌++◌, Option, OnOk};
 ghost use Rattle.gltf_findings_codes.specs.Found.{findings_from};
-ghost use Rattle.gltf_findings_codes.specs.Ranges.{is_within, is_out, is_some_out, number_findings, numbers_findings};
+ghost use Rattle.gltf_findings_codes.specs.Ranges.{is_within, is_out, is_some_out, range_rule, number_findings, numbers_findings};
 
 use crate::code::Code;
 use crate::collect::{Rules, add_all, add_found, broken};
@@ -62,6 +62,17 @@ impl Range {
             Some(number) => self.excludes(number),
             None => false,
         }
+    }
+
+    /// Returns the rule for a number that an object may have.
+    pub fn rule(&self, object: Object, name: Name, number: &Option<Real>) -> Option<Finding>
+        ensures { result ≡ range_rule self.now object name number.now }
+    {
+        broken(
+            self.excludes_some(number),
+            Code::ValueNotInRange,
+            Place::Member(object, name),
+        )
     }
 }
 

@@ -9,8 +9,8 @@ use Rattle.serde_json.specs.Find.{as_null, as_object}
 use Rattle.gltf_schema.specs.declared.outline.Member.{Member}
 use Rattle.gltf_schema.specs.declared.outline.Shape.{Shape}
 use Rattle.gltf_schema.specs.declared.outline.Shape.TheVariants.{Object}
-use Rattle.gltf_findings_members.specs.declared.code.NoticeCode.{NoticeCode}
-use Rattle.gltf_findings_members.specs.declared.code.NoticeCode.TheVariants.{NonObjectExtras, UndeclaredExtension, UnexpectedExtensionObject}
+use Rattle.gltf_findings_codes.specs.declared.code.Code.{Code}
+use Rattle.gltf_findings_codes.specs.declared.code.Code.TheVariants.{NonObjectExtras, UndeclaredExtension, UnexpectedExtensionObject}
 use Rattle.gltf_findings_members.specs.Misfits.{mismatch_unless}
 use Rattle.gltf_findings_members.specs.Rows.{row_named}
 use Rattle.gltf_findings_members.specs.declared.table.Table.{Table}
@@ -53,13 +53,13 @@ is_known (rows ∷ more) n = is_some (row_named n rows) || is_known more n
 
 -- an extension object of a name that the object's rows don't have: other objects may have it, and one that the table
 -- doesn't know is an object
-abbrev pub unknown_extension_code : Format → List ℕ → Data → Option NoticeCode
+abbrev pub unknown_extension_code : Format → List ℕ → Data → Option Code
 unknown_extension_code f n d = if is_known f.known n then Some UnexpectedExtensionObject else mismatch_unless (is_some (as_object d))
 
 -- section 3.12: "All glTF extensions used in a model MUST be listed in the top-level extensionsUsed array"
-abbrev pub undeclared_code : Format → List ℕ → Option NoticeCode
+abbrev pub undeclared_code : Format → List ℕ → Option Code
 undeclared_code f n = if f.uses n then None else Some UndeclaredExtension
 
 -- section 5.16: extras "SHOULD be a JSON object"; null is read as if the member were missing
-abbrev pub extras_code : Data → Option NoticeCode
+abbrev pub extras_code : Data → Option Code
 extras_code d = if is_some (as_null d) || is_some (as_object d) then None else Some NonObjectExtras

@@ -1,5 +1,4 @@
 pub mod Attributes
-pub mod Codes
 pub mod Empty
 pub mod Format
 pub mod Lists

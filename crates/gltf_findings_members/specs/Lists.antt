@@ -11,26 +11,26 @@ use Rattle.gltf_base.specs.Steps.{Step, item}
 use Rattle.gltf_schema.specs.Read.{whole_number}
 use Rattle.gltf_schema.specs.declared.outline.Shape.{Shape}
 use Rattle.gltf_schema.specs.declared.outline.Shape.TheVariants.{Whole32}
-use Rattle.gltf_findings_members.specs.declared.code.NoticeCode.{NoticeCode}
-use Rattle.gltf_findings_members.specs.declared.code.NoticeCode.TheVariants.{DuplicateElements, EmptyEntity, ArrayLengthNotInList}
+use Rattle.gltf_findings_codes.specs.declared.code.Code.{Code}
+use Rattle.gltf_findings_codes.specs.declared.code.Code.TheVariants.{DuplicateElements, EmptyEntity, ArrayLengthNotInList}
 use Rattle.gltf_findings_members.specs.Noted.{Noted, maybe_note}
 
-abbrev pub empty_code : Items → Option NoticeCode
+abbrev pub empty_code : Items → Option Code
 empty_code ds = if items_len ds == 0 then Some EmptyEntity else None
 
-abbrev pub length_code : ℕ → Items → Option NoticeCode
+abbrev pub length_code : ℕ → Items → Option Code
 length_code n ds = if items_len ds == n then None else Some ArrayLengthNotInList
 
 -- a number is one of these
 abbrev pub is_among : List ℕ → ℕ → Bool
 is_among before n = list_any (is_at (nat_cmp n)) before
 
-abbrev pub repeated : List ℕ → Option ℕ → Option NoticeCode
+abbrev pub repeated : List ℕ → Option ℕ → Option Code
 repeated before None = None
 repeated before (Some n) = if is_among before n then Some DuplicateElements else None
 
 -- a number that is one of those before
-abbrev pub repeat_code : List ℕ → Data → Option NoticeCode
+abbrev pub repeat_code : List ℕ → Data → Option Code
 repeat_code before d = repeated before (whole_number d)
 
 abbrev pub with_number : List ℕ → Option ℕ → List ℕ

@@ -4,15 +4,15 @@ use Rattle.serde_json.specs.Data as json
 use Rattle.serde_json.specs.Data.{Data, Members}
 use Rattle.gltf_base.specs.Steps.{Step, field}
 use Rattle.gltf_schema.specs.declared.outline.Member.{Member}
-use Rattle.gltf_findings_members.specs.declared.code.NoticeCode.{NoticeCode}
-use Rattle.gltf_findings_members.specs.declared.code.NoticeCode.TheVariants.{MeshPrimitiveInvalidAttribute}
+use Rattle.gltf_findings_codes.specs.declared.code.Code.{Code}
+use Rattle.gltf_findings_codes.specs.declared.code.Code.TheVariants.{MeshPrimitiveInvalidAttribute}
 use Rattle.gltf_findings_members.specs.Attributes.{is_attribute}
 use Rattle.gltf_findings_members.specs.Empty.{empty_object_code}
 use Rattle.gltf_findings_members.specs.Misfits.{index_misfit}
 use Rattle.gltf_findings_members.specs.Noted.{Noted, maybe_note}
 use Rattle.gltf_findings_members.specs.Rows.{row_named}
 
-abbrev pub attribute_code : List ℕ → Option NoticeCode
+abbrev pub attribute_code : List ℕ → Option Code
 attribute_code n = if is_attribute n then None else Some MeshPrimitiveInvalidAttribute
 
 -- the attributes of a primitive, each an index

@@ -2,20 +2,20 @@
 use Rattle.std.specs.Prelude.{◌≡◌, ◌++◌, ℕ, List, [], ◌∷◌, Option, Some, None, Result, Ok, Err, ⊤, map, codes, string_bytes}
 use Rattle.gltf_base.specs.Pointers.{pointer_text}
 use Rattle.gltf_base.specs.Steps.{Step, step_of}
-use Rattle.gltf_findings_members.specs.declared.code.NoticeCode.{NoticeCode}
+use Rattle.gltf_findings_codes.specs.declared.code.Code.{Code}
 use Rattle.gltf_findings_members.specs.declared.notice.Notice.{Notice}
 use Rattle.gltf_findings_members.specs.declared.notice.Noticing.{Noticing}
-use Rattle.gltf_findings_members.specs.Codes.{code_name}
+use Rattle.gltf_findings_codes.specs.CodeNames.{code_name}
 
 -- the JSON pointer (RFC 6901) to a place, and what is wrong there
 abbrev pub Noted : Type 0
-Noted = List ℕ × NoticeCode
+Noted = List ℕ × Code
 
 -- a notice at the end of steps
-abbrev pub note : List Step → NoticeCode → Noted
+abbrev pub note : List Step → Code → Noted
 note at code = (pointer_text at, code)
 
-abbrev pub maybe_note : List Step → Option NoticeCode → List Noted
+abbrev pub maybe_note : List Step → Option Code → List Noted
 maybe_note at None = []
 maybe_note at (Some code) = note at code ∷ []
 

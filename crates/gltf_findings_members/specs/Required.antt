@@ -4,12 +4,12 @@ use Rattle.serde_json.specs.Data as json
 use Rattle.serde_json.specs.Data.{Data, Items}
 use Rattle.serde_json.specs.Find.{get, as_object}
 use Rattle.gltf_base.specs.Steps.{Step, field, item}
-use Rattle.gltf_findings_members.specs.declared.code.NoticeCode.{NoticeCode}
-use Rattle.gltf_findings_members.specs.declared.code.NoticeCode.TheVariants.{UndefinedProperty}
+use Rattle.gltf_findings_codes.specs.declared.code.Code.{Code}
+use Rattle.gltf_findings_codes.specs.declared.code.Code.TheVariants.{UndefinedProperty}
 use Rattle.gltf_findings_members.specs.Noted.{Noted, maybe_note}
 use Rattle.gltf_findings_members.specs.Uses.{items_at}
 
-abbrev pub lacking_code : List ℕ → Data → Option NoticeCode
+abbrev pub lacking_code : List ℕ → Data → Option Code
 lacking_code n d = if is_some (as_object d) && is_none (get n d) then Some UndefinedProperty else None
 
 -- the items, from the one of number i on, that are objects without the member

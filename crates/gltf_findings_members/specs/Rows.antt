@@ -7,8 +7,8 @@ use Rattle.gltf_base.specs.Steps.{Step, field}
 use Rattle.gltf_schema.specs.declared.outline.Presence.{Presence}
 use Rattle.gltf_schema.specs.declared.outline.Presence.TheVariants.{Required, OrNull, Optional}
 use Rattle.gltf_schema.specs.declared.outline.Member.{Member}
-use Rattle.gltf_findings_members.specs.declared.code.NoticeCode.{NoticeCode}
-use Rattle.gltf_findings_members.specs.declared.code.NoticeCode.TheVariants.{UndefinedProperty, UnexpectedProperty, MeshPrimitiveInvalidAttribute}
+use Rattle.gltf_findings_codes.specs.declared.code.Code.{Code}
+use Rattle.gltf_findings_codes.specs.declared.code.Code.TheVariants.{UndefinedProperty, UnexpectedProperty, MeshPrimitiveInvalidAttribute}
 use Rattle.gltf_findings_members.specs.Attributes.{is_attribute}
 use Rattle.gltf_findings_members.specs.Noted.{Noted, maybe_note}
 
@@ -32,7 +32,7 @@ reads_null_as_absent m d = or_null m.presence && is_some (as_null d)
 abbrev pub is_left_open : List ℕ → Bool
 is_left_open n = bytes_eq n (codes "node")
 
-abbrev pub is_missing : Data → Member → Option NoticeCode
+abbrev pub is_missing : Data → Member → Option Code
 is_missing d m = if is_required m.presence && not (is_left_open m.name.now) && is_none (get m.name.now d) then Some UndefinedProperty else None
 
 -- the members of an object that have to be there and are missing, in the order of rows
@@ -45,11 +45,11 @@ abbrev pub is_target : List Member → Bool
 is_target ms = is_some (row_named (codes "POSITION") ms)
 
 -- a member that no row names; a morph target may have attributes that the table doesn't name
-abbrev pub unknown_code : List Member → List ℕ → Option NoticeCode
+abbrev pub unknown_code : List Member → List ℕ → Option Code
 unknown_code ms n = if is_target ms then (if is_attribute n then None else Some MeshPrimitiveInvalidAttribute) else Some UnexpectedProperty
 
 -- a morph target has an attribute
-abbrev pub empty_target_code : List Member → Members → Option NoticeCode
+abbrev pub empty_target_code : List Member → Members → Option Code
 empty_target_code rows ms = if is_target rows then empty_object_code ms else None
 
 -- what is wrong with an object by itself

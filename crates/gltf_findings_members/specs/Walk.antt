@@ -6,7 +6,7 @@ use Rattle.gltf_base.specs.Steps.{Step, field, item}
 use Rattle.gltf_schema.specs.declared.outline.Member.{Member}
 use Rattle.gltf_schema.specs.declared.outline.Shape.{Shape}
 use Rattle.gltf_schema.specs.declared.outline.Shape.TheVariants.{Numbers, Indexes, List as ListOf, Object}
-use Rattle.gltf_findings_members.specs.declared.code.NoticeCode.TheVariants.{TypeMismatch}
+use Rattle.gltf_findings_codes.specs.declared.code.Code.TheVariants.{TypeMismatch}
 use Rattle.gltf_findings_members.specs.Noted.{Noted, note, maybe_note}
 use Rattle.gltf_findings_members.specs.Misfits.{misfit_in}
 use Rattle.gltf_findings_members.specs.Lists.{empty_code, length_code, repeat_notices}

@@ -4,10 +4,12 @@
 //!
 //! `Notices::of` returns all of them, by the outline of a type: no second table of the format
 //! exists.
+//!
+//! `NoticeCode` and `NoticeSeverity` are `Code` and `Severity` of `gltf_findings_codes`, which
+//! findings have too.
 #![tactic(auto)]
 
 mod attribute;
-mod code;
 mod lists;
 mod members;
 mod misfit;
@@ -19,6 +21,6 @@ mod table;
 mod uses;
 mod walk;
 
-pub use code::{NoticeCode, NoticeSeverity};
+pub use gltf_findings_codes::{Code as NoticeCode, Severity as NoticeSeverity};
 pub use notice::Notice;
 pub use notices::Notices;

@@ -5,9 +5,9 @@ ghost use Rattle.serde_json.specs.View.{view, items_view};
 ghost use Rattle.gltf_findings_members.specs.Lists.{repeats_from, repeat_code, with_index, empty_code, length_code, repeat_notices};
 ghost use Rattle.gltf_findings_members.specs.Noted.{steps_in, Adds};
 
-use crate::code::NoticeCode;
 use crate::notice::Noticing;
 use gltf_base::Step;
+use gltf_findings_codes::Code;
 use gltf_schema::Shape;
 use serde_json::Value;
 use std::alloc::AllocError;
@@ -42,7 +42,7 @@ fn note_repeats_from(items: &[Value], to: &mut Noticing<'_>) -> Result<(), Alloc
 }
 
 /// The code of an index that was listed before, and adds it to those before.
-fn repeat_code(before: &mut BTreeSet<u64>, value: &Value) -> Result<Option<NoticeCode>, AllocError>
+fn repeat_code(before: &mut BTreeSet<u64>, value: &Value) -> Result<Option<Code>, AllocError>
     ensures code { IfOk result (λ code. code ≡ repeat_code before.old.keys (view value.now)) }
     ensures after { OnOk result (before.new.keys ≡ with_index before.old.keys (view value.now)) }
 {
@@ -52,28 +52,28 @@ fn repeat_code(before: &mut BTreeSet<u64>, value: &Value) -> Result<Option<Notic
     if before.insert(number)? {
         Ok(None)
     } else {
-        Ok(Some(NoticeCode::DuplicateElements))
+        Ok(Some(Code::DuplicateElements))
     }
 }
 
 /// The code of a list that must not be empty and is.
-pub(crate) fn empty_code(items: &[Value]) -> Option<NoticeCode>
+pub(crate) fn empty_code(items: &[Value]) -> Option<Code>
     ensures { result ≡ empty_code (items_view items.now) }
 {
     if items.is_empty() {
-        Some(NoticeCode::EmptyEntity)
+        Some(Code::EmptyEntity)
     } else {
         None
     }
 }
 
 /// The code of a list that must have so many items and doesn't.
-pub(crate) fn length_code(count: usize, items: &[Value]) -> Option<NoticeCode>
+pub(crate) fn length_code(count: usize, items: &[Value]) -> Option<Code>
     ensures { result ≡ length_code count (items_view items.now) }
 {
     if items.len() == count {
         None
     } else {
-        Some(NoticeCode::ArrayLengthNotInList)
+        Some(Code::ArrayLengthNotInList)
     }
 }

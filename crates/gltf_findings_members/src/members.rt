@@ -7,11 +7,11 @@ ghost use Rattle.gltf_findings_members.specs.Noted.{steps_in, Adds};
 ghost use Rattle.gltf_findings_members.specs.Empty.{empty_object_code};
 
 use crate::attribute::is_attribute;
-use crate::code::NoticeCode;
 use crate::misfit::index_misfit;
 use crate::notice::Noticing;
 use crate::rows::row_named;
 use gltf_base::Step;
+use gltf_findings_codes::Code;
 use gltf_schema::Member;
 use serde_json::{Map, Value};
 use std::alloc::AllocError;
@@ -46,24 +46,24 @@ fn note_each_attribute<'a>(
 }
 
 /// The code of an object that must not be empty and is.
-pub(crate) fn empty_object_code(members: &Map<String, Value>) -> Option<NoticeCode>
+pub(crate) fn empty_object_code(members: &Map<String, Value>) -> Option<Code>
     ensures { result ≡ empty_object_code (members_view members.now.entries) }
 {
     if members.is_empty() {
-        Some(NoticeCode::EmptyEntity)
+        Some(Code::EmptyEntity)
     } else {
         None
     }
 }
 
 /// The code of an attribute whose name has no meaning.
-fn attribute_code(name: &str) -> Option<NoticeCode>
+fn attribute_code(name: &str) -> Option<Code>
     ensures { result ≡ attribute_code name.now }
 {
     if is_attribute(name) {
         None
     } else {
-        Some(NoticeCode::MeshPrimitiveInvalidAttribute)
+        Some(Code::MeshPrimitiveInvalidAttribute)
     }
 }
 

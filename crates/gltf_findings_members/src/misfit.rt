@@ -4,12 +4,12 @@ ghost use Rattle.std.specs.Prelude.{◌≡◌, option_map};
 ghost use Rattle.serde_json.specs.View.{view};
 ghost use Rattle.gltf_findings_members.specs.Misfits.{misfit, index_misfit, whole_misfit, out_of_range, is_integer, mismatch_unless, misfit_in, item_mismatch};
 
-use crate::code::NoticeCode;
+use gltf_findings_codes::Code;
 use gltf_schema::Shape;
 use serde_json::Value;
 
 /// What is wrong with a value by itself, if the format wants this shape.
-pub(crate) fn misfit(shape: Option<&Shape>, value: &Value) -> Option<NoticeCode>
+pub(crate) fn misfit(shape: Option<&Shape>, value: &Value) -> Option<Code>
     ensures { result ≡ misfit (option_map (λ s. s.now) shape.entry) (view value.now) }
 {
     match shape {
@@ -25,33 +25,33 @@ pub(crate) fn misfit(shape: Option<&Shape>, value: &Value) -> Option<NoticeCode>
 }
 
 /// What is wrong with a value that must be a number below 2^32.
-pub(crate) fn index_misfit(value: &Value) -> Option<NoticeCode>
+pub(crate) fn index_misfit(value: &Value) -> Option<Code>
     ensures { result ≡ index_misfit (view value.now) }
 {
     match value.as_u64() {
         Some(number) if number < 0x1_0000_0000 => None,
-        _ => Some(out_of_range(value, NoticeCode::InvalidIndex)),
+        _ => Some(out_of_range(value, Code::InvalidIndex)),
     }
 }
 
 /// What is wrong with a value that must be a number below 2^64.
-fn whole_misfit(value: &Value) -> Option<NoticeCode>
+fn whole_misfit(value: &Value) -> Option<Code>
     ensures { result ≡ whole_misfit (view value.now) }
 {
     match value.as_u64() {
         Some(_) => None,
-        None => Some(out_of_range(value, NoticeCode::ValueNotInRange)),
+        None => Some(out_of_range(value, Code::ValueNotInRange)),
     }
 }
 
 /// The code of a whole number that is out of range, or of another value.
-fn out_of_range(value: &Value, code: NoticeCode) -> NoticeCode
+fn out_of_range(value: &Value, code: Code) -> Code
     ensures { result ≡ out_of_range (view value.now) code }
 {
     if is_integer(value) {
         code
     } else {
-        NoticeCode::TypeMismatch
+        Code::TypeMismatch
     }
 }
 
@@ -66,32 +66,32 @@ fn is_integer(value: &Value) -> bool
 }
 
 /// The code of a value that is of another kind than is wanted.
-pub(crate) fn mismatch_unless(is_wanted: bool) -> Option<NoticeCode>
+pub(crate) fn mismatch_unless(is_wanted: bool) -> Option<Code>
     ensures { result ≡ mismatch_unless is_wanted }
 {
     if is_wanted {
         None
     } else {
-        Some(NoticeCode::TypeMismatch)
+        Some(Code::TypeMismatch)
     }
 }
 
 /// What is wrong with a value that may be an item of a list.
-pub(crate) fn misfit_in(is_item: bool, shape: Option<&Shape>, value: &Value) -> Option<NoticeCode>
+pub(crate) fn misfit_in(is_item: bool, shape: Option<&Shape>, value: &Value) -> Option<Code>
     ensures { result ≡ misfit_in is_item (option_map (λ s. s.now) shape.entry) (view value.now) }
 {
     match misfit(shape, value) {
-        Some(NoticeCode::TypeMismatch) if is_item => Some(item_mismatch(shape)),
+        Some(Code::TypeMismatch) if is_item => Some(item_mismatch(shape)),
         code => code,
     }
 }
 
 /// The code of an item that is of another kind than is wanted.
-fn item_mismatch(shape: Option<&Shape>) -> NoticeCode
+fn item_mismatch(shape: Option<&Shape>) -> Code
     ensures { result ≡ item_mismatch (option_map (λ s. s.now) shape.entry) }
 {
     match shape {
-        Some(Shape::Whole32) => NoticeCode::InvalidIndex,
-        _ => NoticeCode::ArrayTypeMismatch,
+        Some(Shape::Whole32) => Code::InvalidIndex,
+        _ => Code::ArrayTypeMismatch,
     }
 }

@@ -5,8 +5,8 @@ ghost use Rattle.gltf_base.specs.Steps.{step_of};
 ghost use Rattle.gltf_findings_members.specs.Noted.{steps_in, noted_in, note, Adds, maybe_note};
 ghost use Rattle.gltf_findings_members.specs.Steps.{without_last};
 
-use crate::code::NoticeCode;
 use gltf_base::{Path, Step};
+use gltf_findings_codes::Code;
 use std::alloc::{AllocError, Global};
 use std::fmt::{self, Display, Formatter, Write};
 
@@ -14,7 +14,7 @@ use std::fmt::{self, Display, Formatter, Write};
 #[derive(Clone, Debug, Drop, PartialEq)]
 pub struct Notice {
     /// What is wrong.
-    pub code: NoticeCode,
+    pub code: Code,
     /// Where, as a JSON pointer (RFC 6901). It may name a member that is missing.
     pub pointer: String,
 }
@@ -75,7 +75,7 @@ impl<'a> Noticing<'a> {
     }
 
     /// Notes what is wrong at the value.
-    pub(crate) fn note(&mut self, code: NoticeCode) -> Result<(), AllocError>
+    pub(crate) fn note(&mut self, code: Code) -> Result<(), AllocError>
         ensures { Adds self.old result self.new (note (steps_in self.old) code ∷ []) }
     {
         let pointer = Path::pointer_of_steps(self.alloc, &self.steps)?;
@@ -84,7 +84,7 @@ impl<'a> Noticing<'a> {
     }
 
     /// Notes what may be wrong at the value.
-    pub(crate) fn note_some(&mut self, code: Option<NoticeCode>) -> Result<(), AllocError>
+    pub(crate) fn note_some(&mut self, code: Option<Code>) -> Result<(), AllocError>
         ensures { Adds self.old result self.new (maybe_note (steps_in self.old) code) }
     {
         match code {
@@ -97,7 +97,7 @@ impl<'a> Noticing<'a> {
     pub(crate) fn note_below(
         &mut self,
         step: Step<'a>,
-        code: Option<NoticeCode>,
+        code: Option<Code>,
     ) -> Result<(), AllocError>
         ensures { Adds self.old result self.new
             (maybe_note (steps_in self.old ++ step_of step.entry ∷ []) code) }

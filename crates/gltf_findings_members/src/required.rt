@@ -5,10 +5,10 @@ ghost use Rattle.serde_json.specs.View.{view, items_view};
 ghost use Rattle.gltf_findings_members.specs.Noted.{steps_in, Adds};
 ghost use Rattle.gltf_findings_members.specs.Required.{required_notices, required_in, lacking_notices, lacking_code};
 
-use crate::code::NoticeCode;
 use crate::notice::Noticing;
 use crate::uses::items_at;
 use gltf_base::Step;
+use gltf_findings_codes::Code;
 use serde_json::Value;
 use std::alloc::AllocError;
 
@@ -61,11 +61,11 @@ fn note_lacking<'a>(
 }
 
 /// The code of an object without a member.
-fn lacking_code(value: &Value, name: &str) -> Option<NoticeCode>
+fn lacking_code(value: &Value, name: &str) -> Option<Code>
     ensures { result ≡ lacking_code name.now (view value.now) }
 {
     if value.is_object() && value.get(name).is_none() {
-        Some(NoticeCode::UndefinedProperty)
+        Some(Code::UndefinedProperty)
     } else {
         None
     }

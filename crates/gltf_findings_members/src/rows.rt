@@ -6,10 +6,10 @@ ghost use Rattle.gltf_findings_members.specs.Rows.{row_named, reads_null_as_abse
 ghost use Rattle.gltf_findings_members.specs.Noted.{steps_in, Adds};
 
 use crate::attribute::is_attribute;
-use crate::code::NoticeCode;
 use crate::members::empty_object_code;
 use crate::notice::Noticing;
 use gltf_base::Step;
+use gltf_findings_codes::Code;
 use gltf_schema::{Member, Presence};
 use serde_json::{Map, Value};
 use std::alloc::AllocError;
@@ -49,7 +49,7 @@ pub(crate) fn note_own<'a>(
 }
 
 /// The code of a morph target without attributes.
-fn empty_target_code(rows: &[Member], members: &Map<String, Value>) -> Option<NoticeCode>
+fn empty_target_code(rows: &[Member], members: &Map<String, Value>) -> Option<Code>
     ensures { result ≡ empty_target_code rows.now (members_view members.now.entries) }
 {
     if is_target(rows) {
@@ -75,11 +75,11 @@ fn note_missing<'a>(
 }
 
 /// The code of a row whose member has to be there and is missing.
-fn is_missing(value: &Value, row: &Member) -> Option<NoticeCode>
+fn is_missing(value: &Value, row: &Member) -> Option<Code>
     ensures { result ≡ is_missing (view value.now) row.now }
 {
     if row.presence == Presence::Required && row.name != "node" && value.get(row.name).is_none() {
-        Some(NoticeCode::UndefinedProperty)
+        Some(Code::UndefinedProperty)
     } else {
         None
     }
@@ -93,14 +93,14 @@ fn is_target(rows: &[Member]) -> bool
 }
 
 /// The code of a member that no row names.
-pub(crate) fn unknown_code(rows: &[Member], name: &str) -> Option<NoticeCode>
+pub(crate) fn unknown_code(rows: &[Member], name: &str) -> Option<Code>
     ensures { result ≡ unknown_code rows.now name.now }
 {
     if !is_target(rows) {
-        Some(NoticeCode::UnexpectedProperty)
+        Some(Code::UnexpectedProperty)
     } else if is_attribute(name) {
         None
     } else {
-        Some(NoticeCode::MeshPrimitiveInvalidAttribute)
+        Some(Code::MeshPrimitiveInvalidAttribute)
     }
 }

@@ -4,9 +4,9 @@ ghost use Rattle.std.specs.Prelude.{◌≡◌, ◌++◌, IfOk, OnOk, map, option
 ghost use Rattle.serde_json.specs.View.{view};
 ghost use Rattle.gltf_findings_members.specs.Format.{format_of, undeclared_code, unknown_extension_code, extension_rows, extension_list, extension_lists, lists_in, is_known, extras_code, rows_of};
 
-use crate::code::NoticeCode;
 use crate::misfit::mismatch_unless;
 use crate::rows::row_named;
+use gltf_findings_codes::Code;
 use gltf_schema::{Member, Shape};
 use serde_json::Value;
 use std::alloc::{AllocError, Global};
@@ -39,23 +39,23 @@ impl<'a> Table<'a> {
     }
 
     /// The code of an extension that `extensionsUsed` doesn't list.
-    pub(crate) fn undeclared_code(&self, name: &str) -> Option<NoticeCode>
+    pub(crate) fn undeclared_code(&self, name: &str) -> Option<Code>
         ensures { result ≡ undeclared_code (format_of self.now) name.now }
     {
         if self.used.contains(name) {
             None
         } else {
-            Some(NoticeCode::UndeclaredExtension)
+            Some(Code::UndeclaredExtension)
         }
     }
 
     /// The code of an extension object that the object's rows don't name: the extension belongs to
     /// another object, or the table doesn't know it and it is no object.
-    pub(crate) fn unknown_extension_code(&self, name: &str, value: &Value) -> Option<NoticeCode>
+    pub(crate) fn unknown_extension_code(&self, name: &str, value: &Value) -> Option<Code>
         ensures { result ≡ unknown_extension_code (format_of self.now) name.now (view value.now) }
     {
         if is_known(self.known, name) {
-            Some(NoticeCode::UnexpectedExtensionObject)
+            Some(Code::UnexpectedExtensionObject)
         } else {
             mismatch_unless(value.is_object())
         }
@@ -128,12 +128,12 @@ fn rows_of(shape: &Shape) -> Option<&Vec<Member>>
 }
 
 /// The code of extras that are no object.
-pub(crate) fn extras_code(value: &Value) -> Option<NoticeCode>
+pub(crate) fn extras_code(value: &Value) -> Option<Code>
     ensures { result ≡ extras_code (view value.now) }
 {
     if value.is_null() || value.is_object() {
         None
     } else {
-        Some(NoticeCode::NonObjectExtras)
+        Some(Code::NonObjectExtras)
     }
 }

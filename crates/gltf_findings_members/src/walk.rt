@@ -6,7 +6,6 @@ ghost use Rattle.gltf_findings_members.specs.Noted.{steps_in, Adds};
 ghost use Rattle.gltf_findings_members.specs.Format.{format_of};
 ghost use Rattle.gltf_findings_members.specs.Walk.{notices, item_notices, member_notices, extensions_notices, extension_members_notices, row_notices, member_notice, extension_notice};
 
-use crate::code::NoticeCode;
 use crate::lists::{empty_code, length_code, note_repeats};
 use crate::members::{extension_row, note_attributes};
 use crate::misfit::misfit_in;
@@ -14,6 +13,7 @@ use crate::notice::Noticing;
 use crate::rows::{note_own, reads_null_as_absent, row_named, unknown_code};
 use crate::table::{Table, extras_code};
 use gltf_base::Step;
+use gltf_findings_codes::Code;
 use gltf_schema::{Member, Shape};
 use serde_json::{Map, Value};
 use std::alloc::AllocError;
@@ -148,7 +148,7 @@ fn note_extensions<'a>(
     match value {
         Value::Object(members) => note_extension_members(members, rows, table, to),
         Value::Null => Ok(()),
-        _ => to.note(NoticeCode::TypeMismatch),
+        _ => to.note(Code::TypeMismatch),
     }
 }
 

@@ -19,7 +19,7 @@ use Rattle.gltf_findings_codes.specs.declared.finding.Place.TheVariants.{Object,
 use Rattle.gltf_findings_codes.specs.declared.finding.Finding.{Finding}
 use Rattle.gltf_findings_codes.specs.declared.range.Range.TheVariants.{NotNegative, Positive}
 use Rattle.gltf_findings_codes.specs.Found.{broken, found, findings_if}
-use Rattle.gltf_findings_codes.specs.Ranges.{is_out, is_some_out}
+use Rattle.gltf_findings_codes.specs.Ranges.{is_out, range_rule}
 use Rattle.gltf_findings_codes.specs.Rules.{is_invalid}
 
 abbrev pub perspective_at : ℕ → Of
@@ -71,9 +71,9 @@ perspective_rules n p =
     broken (is_out Positive p.yfov) ValueNotInRange (Member (perspective_at n) Yfov)
     -- "This value SHOULD be less than π"
     ∷ broken (is_half_turn p.yfov) CameraYfovGequalPi (Member (perspective_at n) Yfov)
-    ∷ broken (is_some_out Positive p.aspect_ratio) ValueNotInRange (Member (perspective_at n) AspectRatio)
+    ∷ range_rule Positive (perspective_at n) AspectRatio p.aspect_ratio
     ∷ broken (is_out Positive p.znear) ValueNotInRange (Member (perspective_at n) Znear)
-    ∷ broken (is_some_out Positive p.zfar) ValueNotInRange (Member (perspective_at n) Zfar)
+    ∷ range_rule Positive (perspective_at n) Zfar p.zfar
     -- "zfar MUST be greater than znear"
     ∷ broken (is_some_not_behind p.zfar p.znear) CameraZfarLequalZnear (Object (perspective_at n))
     ∷ []

@@ -6,7 +6,6 @@ use Rattle.gltf_base.specs.declared.validation.Checked.{Checked}
 use Rattle.gltf_base.specs.declared.validation.Checked.TheVariants.{Valid}
 use Rattle.gltf_base.specs.declared.material.AlphaMode.{AlphaMode as Mode}
 use Rattle.gltf_base.specs.declared.material.AlphaMode.TheVariants.{Mask}
-use Rattle.gltf_parts.specs.declared.texture.Info.{Info}
 use Rattle.gltf_parts.specs.declared.material.Material.{Material}
 use Rattle.gltf_parts.specs.declared.material.AlphaCutoff.{AlphaCutoff as Cutoff}
 use Rattle.gltf_parts.specs.declared.material.NormalTexture.{NormalTexture as Normal}
@@ -20,10 +19,10 @@ use Rattle.gltf_findings_codes.specs.declared.finding.Place.TheVariants.{Object 
 use Rattle.gltf_findings_codes.specs.declared.finding.Finding.{Finding}
 use Rattle.gltf_findings_codes.specs.declared.range.Range.TheVariants.{Factor, NotNegative}
 use Rattle.gltf_findings_codes.specs.Found.{broken, found}
-use Rattle.gltf_findings_codes.specs.Ranges.{is_out, is_some_out, numbers_findings}
+use Rattle.gltf_findings_codes.specs.Ranges.{is_out, is_some_out, numbers_findings, range_rule}
 use Rattle.gltf_findings_codes.specs.Rules.{is_invalid, is_unresolved}
 use Rattle.gltf_findings_objects.specs.Cameras.{is_zero}
-use Rattle.gltf_findings_objects.specs.Shading.{is_info_unresolved, shading_findings}
+use Rattle.gltf_findings_objects.specs.Shading.{texture_rule, shading_findings}
 
 abbrev pub material_at : ℕ → Object
 material_at n = Item Materials n
@@ -76,7 +75,7 @@ material_rules textures n m =
     ∷ broken (is_normal_unresolved textures m.normal_texture) UnresolvedReference (Member (Part Materials n NormalTexture) Index)
     ∷ broken (is_occlusion_unresolved textures m.occlusion_texture) UnresolvedReference (Member (Part Materials n OcclusionTexture) Index)
     ∷ broken (is_strength_out m.occlusion_texture) ValueNotInRange (Member (Part Materials n OcclusionTexture) Strength)
-    ∷ broken (is_info_unresolved textures m.emissive_texture) UnresolvedReference (Member (Part Materials n EmissiveTexture) Index)
+    ∷ texture_rule textures (Part Materials n EmissiveTexture) m.emissive_texture
     -- the strength is a factor of the emissive factor, which is black if it isn't there
     ∷ broken (has_strength m.extensions && is_black m.emissive_factor.0) KhrMaterialsEmissiveStrengthZeroFactor (Of (Inner Materials n Extensions KhrMaterialsEmissiveStrength))
     ∷ []
@@ -84,10 +83,10 @@ material_rules textures n m =
 -- section 5.22: the metallic-roughness model
 abbrev pub metallic_rules : ℕ → ℕ → Metallic → List (Option Finding)
 metallic_rules textures n p =
-    broken (is_some_out Factor p.metallic_factor.0) ValueNotInRange (Member (part_at n) MetallicFactor)
-    ∷ broken (is_some_out Factor p.roughness_factor.0) ValueNotInRange (Member (part_at n) RoughnessFactor)
-    ∷ broken (is_info_unresolved textures p.base_color_texture) UnresolvedReference (Member (Inner Materials n PbrMetallicRoughness BaseColorTexture) Index)
-    ∷ broken (is_info_unresolved textures p.metallic_roughness_texture) UnresolvedReference (Member (Inner Materials n PbrMetallicRoughness MetallicRoughnessTexture) Index)
+    range_rule Factor (part_at n) MetallicFactor p.metallic_factor.0
+    ∷ range_rule Factor (part_at n) RoughnessFactor p.roughness_factor.0
+    ∷ texture_rule textures (Inner Materials n PbrMetallicRoughness BaseColorTexture) p.base_color_texture
+    ∷ texture_rule textures (Inner Materials n PbrMetallicRoughness MetallicRoughnessTexture) p.metallic_roughness_texture
     ∷ []
 
 abbrev pub metallic_findings : ℕ → ℕ → Metallic → List Finding

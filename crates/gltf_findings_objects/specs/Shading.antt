@@ -9,7 +9,7 @@ use Rattle.gltf_parts.specs.declared.extensions.material.emissive_strength.Emiss
 use Rattle.gltf_parts.specs.declared.extensions.material.volume.Volume.{Volume}
 use Rattle.gltf_parts.specs.declared.extensions.material.specular.Specular.{Specular}
 use Rattle.gltf_parts.specs.declared.extensions.material.pbr_specular_glossiness.PbrSpecularGlossiness.{PbrSpecularGlossiness as Glossiness}
-use Rattle.gltf_findings_codes.specs.declared.code.Code.TheVariants.{UnresolvedReference, ValueNotInRange, KhrMaterialsVolumeNoTransmission, KhrMaterialsVolumeDoubleSided}
+use Rattle.gltf_findings_codes.specs.declared.code.Code.TheVariants.{UnresolvedReference, KhrMaterialsVolumeNoTransmission, KhrMaterialsVolumeDoubleSided}
 use Rattle.gltf_findings_codes.specs.declared.name.Name.{Name}
 use Rattle.gltf_findings_codes.specs.declared.name.Name.TheVariants.{Materials, Extensions, Index, KhrMaterialsTransmission, KhrMaterialsIor, KhrMaterialsEmissiveStrength, KhrMaterialsVolume, KhrMaterialsSpecular, KhrMaterialsPbrSpecularGlossiness, TransmissionFactor, TransmissionTexture, Ior, EmissiveStrength, ThicknessFactor, ThicknessTexture, AttenuationDistance, AttenuationColor, SpecularFactor, SpecularTexture, SpecularColorFactor, SpecularColorTexture, DiffuseFactor, DiffuseTexture, GlossinessFactor, SpecularGlossinessTexture}
 use Rattle.gltf_findings_codes.specs.declared.finding.Object.{Object as Of}
@@ -18,36 +18,40 @@ use Rattle.gltf_findings_codes.specs.declared.finding.Place.TheVariants.{Object,
 use Rattle.gltf_findings_codes.specs.declared.finding.Finding.{Finding}
 use Rattle.gltf_findings_codes.specs.declared.range.Range.TheVariants.{Factor, NotNegative, Positive, RefractionIndex}
 use Rattle.gltf_findings_codes.specs.Found.{broken, found, findings_if}
-use Rattle.gltf_findings_codes.specs.Ranges.{is_some_out, numbers_findings}
+use Rattle.gltf_findings_codes.specs.Ranges.{numbers_findings, range_rule}
 use Rattle.gltf_findings_codes.specs.Rules.{is_unresolved}
-
--- the extension of a material
-abbrev pub extension_at : ℕ → Name → Of
-extension_at n extension = Inner Materials n Extensions extension
 
 abbrev pub is_info_unresolved : ℕ → Option Info → Bool
 is_info_unresolved textures None = false
 is_info_unresolved textures (Some t) = is_unresolved textures t.index
 
+-- the rule for a texture that an object may have
+abbrev pub texture_rule : ℕ → Of → Option Info → Option Finding
+texture_rule textures object info = broken (is_info_unresolved textures info) UnresolvedReference (Member object Index)
+
+-- the extension of a material
+abbrev pub extension_at : ℕ → Name → Of
+extension_at n extension = Inner Materials n Extensions extension
+
 abbrev pub transmission_rules : ℕ → ℕ → Transmission → List (Option Finding)
 transmission_rules textures n x =
-    broken (is_some_out Factor x.transmission_factor.0) ValueNotInRange (Member (extension_at n KhrMaterialsTransmission) TransmissionFactor)
-    ∷ broken (is_info_unresolved textures x.transmission_texture) UnresolvedReference (Member (Extended Materials n KhrMaterialsTransmission TransmissionTexture) Index)
+    range_rule Factor (extension_at n KhrMaterialsTransmission) TransmissionFactor x.transmission_factor.0
+    ∷ texture_rule textures (Extended Materials n KhrMaterialsTransmission TransmissionTexture) x.transmission_texture
     ∷ []
 
 -- "Valid values ... greater than or equal to one", or 0
 abbrev pub ior_rules : ℕ → Refracting → List (Option Finding)
-ior_rules n x = broken (is_some_out RefractionIndex x.ior.0) ValueNotInRange (Member (extension_at n KhrMaterialsIor) Ior) ∷ []
+ior_rules n x = range_rule RefractionIndex (extension_at n KhrMaterialsIor) Ior x.ior.0 ∷ []
 
 abbrev pub emissive_strength_rules : ℕ → Emissive → List (Option Finding)
-emissive_strength_rules n x = broken (is_some_out NotNegative x.emissive_strength.0) ValueNotInRange (Member (extension_at n KhrMaterialsEmissiveStrength) EmissiveStrength) ∷ []
+emissive_strength_rules n x = range_rule NotNegative (extension_at n KhrMaterialsEmissiveStrength) EmissiveStrength x.emissive_strength.0 ∷ []
 
 -- a volume of a material that may be double-sided, and may transmit light
 abbrev pub volume_rules : ℕ → Bool → Bool → ℕ → Volume → List (Option Finding)
 volume_rules textures is_double_sided transmits n x =
-    broken (is_some_out NotNegative x.thickness_factor.0) ValueNotInRange (Member (extension_at n KhrMaterialsVolume) ThicknessFactor)
-    ∷ broken (is_some_out Positive x.attenuation_distance.0) ValueNotInRange (Member (extension_at n KhrMaterialsVolume) AttenuationDistance)
-    ∷ broken (is_info_unresolved textures x.thickness_texture) UnresolvedReference (Member (Extended Materials n KhrMaterialsVolume ThicknessTexture) Index)
+    range_rule NotNegative (extension_at n KhrMaterialsVolume) ThicknessFactor x.thickness_factor.0
+    ∷ range_rule Positive (extension_at n KhrMaterialsVolume) AttenuationDistance x.attenuation_distance.0
+    ∷ texture_rule textures (Extended Materials n KhrMaterialsVolume ThicknessTexture) x.thickness_texture
     ∷ broken (not transmits) KhrMaterialsVolumeNoTransmission (Object (extension_at n KhrMaterialsVolume))
     ∷ broken is_double_sided KhrMaterialsVolumeDoubleSided (Object (extension_at n KhrMaterialsVolume))
     ∷ []
@@ -57,9 +61,9 @@ volume_findings textures is_double_sided transmits n x = numbers_findings (exten
 
 abbrev pub specular_rules : ℕ → ℕ → Specular → List (Option Finding)
 specular_rules textures n x =
-    broken (is_some_out Factor x.specular_factor.0) ValueNotInRange (Member (extension_at n KhrMaterialsSpecular) SpecularFactor)
-    ∷ broken (is_info_unresolved textures x.specular_texture) UnresolvedReference (Member (Extended Materials n KhrMaterialsSpecular SpecularTexture) Index)
-    ∷ broken (is_info_unresolved textures x.specular_color_texture) UnresolvedReference (Member (Extended Materials n KhrMaterialsSpecular SpecularColorTexture) Index)
+    range_rule Factor (extension_at n KhrMaterialsSpecular) SpecularFactor x.specular_factor.0
+    ∷ texture_rule textures (Extended Materials n KhrMaterialsSpecular SpecularTexture) x.specular_texture
+    ∷ texture_rule textures (Extended Materials n KhrMaterialsSpecular SpecularColorTexture) x.specular_color_texture
     ∷ []
 
 abbrev pub specular_findings : ℕ → ℕ → Specular → List Finding
@@ -67,9 +71,9 @@ specular_findings textures n x = numbers_findings (extension_at n KhrMaterialsSp
 
 abbrev pub glossiness_rules : ℕ → ℕ → Glossiness → List (Option Finding)
 glossiness_rules textures n x =
-    broken (is_some_out Factor x.glossiness_factor.0) ValueNotInRange (Member (extension_at n KhrMaterialsPbrSpecularGlossiness) GlossinessFactor)
-    ∷ broken (is_info_unresolved textures x.diffuse_texture) UnresolvedReference (Member (Extended Materials n KhrMaterialsPbrSpecularGlossiness DiffuseTexture) Index)
-    ∷ broken (is_info_unresolved textures x.specular_glossiness_texture) UnresolvedReference (Member (Extended Materials n KhrMaterialsPbrSpecularGlossiness SpecularGlossinessTexture) Index)
+    range_rule Factor (extension_at n KhrMaterialsPbrSpecularGlossiness) GlossinessFactor x.glossiness_factor.0
+    ∷ texture_rule textures (Extended Materials n KhrMaterialsPbrSpecularGlossiness DiffuseTexture) x.diffuse_texture
+    ∷ texture_rule textures (Extended Materials n KhrMaterialsPbrSpecularGlossiness SpecularGlossinessTexture) x.specular_glossiness_texture
     ∷ []
 
 abbrev pub glossiness_findings : ℕ → ℕ → Glossiness → List Finding

@@ -111,21 +111,13 @@ fn perspective_rules(number: usize, projection: &Perspective) -> [Option<Finding
             Code::CameraYfovGequalPi,
             Place::Member(at, Name::Yfov),
         ),
-        broken(
-            Range::Positive.excludes_some(&projection.aspect_ratio),
-            Code::ValueNotInRange,
-            Place::Member(at, Name::AspectRatio),
-        ),
+        Range::Positive.rule(at, Name::AspectRatio, &projection.aspect_ratio),
         broken(
             Range::Positive.excludes(&projection.znear),
             Code::ValueNotInRange,
             Place::Member(at, Name::Znear),
         ),
-        broken(
-            Range::Positive.excludes_some(&projection.zfar),
-            Code::ValueNotInRange,
-            Place::Member(at, Name::Zfar),
-        ),
+        Range::Positive.rule(at, Name::Zfar, &projection.zfar),
         broken(
             is_some_not_behind(&projection.zfar, &projection.znear),
             Code::CameraZfarLequalZnear,

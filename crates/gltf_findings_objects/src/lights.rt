@@ -3,7 +3,7 @@
 ghost use Rattle.std.specs.Prelude.{◌≡◌, ◌++◌, Option, OnOk};
 ghost use Rattle.gltf_findings_codes.specs.Found.{found, findings_if};
 ghost use Rattle.gltf_findings_codes.specs.Ranges.{numbers_findings};
-ghost use Rattle.gltf_findings_objects.specs.Lights.{light_findings, light_rules, spot_rules, is_spot, are_spot_angles};
+ghost use Rattle.gltf_findings_objects.specs.Lights.{light_findings, light_rules, spot_rules, is_spot, is_directional, is_no_spot, are_spot_angles};
 ghost use Rattle.gltf_schema.specs.Floats.{float_or};
 
 use gltf_base::Real;
@@ -38,7 +38,7 @@ impl Rules<Light> for LightRules {
 }
 
 /// The rules for a light by itself.
-fn light_rules(number: usize, light: &Light) -> [Option<Finding>; 4]
+fn light_rules(number: usize, light: &Light) -> [Option<Finding>; 6]
     ensures { result ≡ light_rules number light.now }
 {
     let at = Object::Light(number);
@@ -48,20 +48,22 @@ fn light_rules(number: usize, light: &Light) -> [Option<Finding>; 4]
             Code::ValueNotInList,
             Place::Member(at, Name::Type),
         ),
-        broken(
-            Range::NotNegative.excludes_some(&light.intensity),
-            Code::ValueNotInRange,
-            Place::Member(at, Name::Intensity),
-        ),
-        broken(
-            Range::Positive.excludes_some(&light.range),
-            Code::ValueNotInRange,
-            Place::Member(at, Name::Range),
-        ),
+        Range::NotNegative.rule(at, Name::Intensity, &light.intensity),
+        Range::Positive.rule(at, Name::Range, &light.range),
         broken(
             is_spot(light.type_) && light.spot.is_none(),
             Code::UndefinedProperty,
             Place::Member(at, Name::Spot),
+        ),
+        broken(
+            is_no_spot(light.type_) && light.spot.is_some(),
+            Code::ExtraProperty,
+            Place::Member(at, Name::Spot),
+        ),
+        broken(
+            is_directional(light.type_) && light.range.is_some(),
+            Code::ExtraProperty,
+            Place::Member(at, Name::Range),
         ),
     ]
 }
@@ -72,6 +74,26 @@ fn is_spot(type_: Checked<LightType>) -> bool
 {
     match type_ {
         Checked::Valid(LightType::Spot) => true,
+        _ => false,
+    }
+}
+
+/// Whether a light is a directional light.
+fn is_directional(type_: Checked<LightType>) -> bool
+    ensures { result ≡ is_directional type_ }
+{
+    match type_ {
+        Checked::Valid(LightType::Directional) => true,
+        _ => false,
+    }
+}
+
+/// Whether a light is a directional light or a point light.
+fn is_no_spot(type_: Checked<LightType>) -> bool
+    ensures { result ≡ is_no_spot type_ }
+{
+    match type_ {
+        Checked::Valid(LightType::Directional | LightType::Point) => true,
         _ => false,
     }
 }
@@ -90,16 +112,8 @@ fn spot_rules(number: usize, spot: &Spot) -> [Option<Finding>; 3]
 {
     let at = Object::Spot(number);
     [
-        broken(
-            Range::InnerAngle.excludes_some(&spot.inner_cone_angle),
-            Code::ValueNotInRange,
-            Place::Member(at, Name::InnerConeAngle),
-        ),
-        broken(
-            Range::OuterAngle.excludes_some(&spot.outer_cone_angle),
-            Code::ValueNotInRange,
-            Place::Member(at, Name::OuterConeAngle),
-        ),
+        Range::InnerAngle.rule(at, Name::InnerConeAngle, &spot.inner_cone_angle),
+        Range::OuterAngle.rule(at, Name::OuterConeAngle, &spot.outer_cone_angle),
         broken(
             !are_spot_angles(spot),
             Code::KhrLightsPunctualLightSpotAngles,

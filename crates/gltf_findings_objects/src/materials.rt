@@ -7,7 +7,7 @@ ghost use Rattle.gltf_findings_objects.specs.Materials.{material_findings, mater
 ghost use Rattle.gltf_findings_objects.specs.Shading.{shading_findings};
 
 use crate::cameras::is_zero;
-use crate::shading::{add_shading, is_info_unresolved};
+use crate::shading::{add_shading, texture_rule};
 use gltf_base::Real;
 use gltf_base::material::AlphaMode;
 use gltf_base::validation::Checked;
@@ -90,11 +90,7 @@ fn material_rules(textures: usize, number: usize, material: &Material) -> [Optio
             Code::ValueNotInRange,
             Place::Member(occlusion, Name::Strength),
         ),
-        broken(
-            is_info_unresolved(&material.emissive_texture, textures),
-            Code::UnresolvedReference,
-            Place::Member(emissive, Name::Index),
-        ),
+        texture_rule(emissive, &material.emissive_texture, textures),
         broken(
             has_strength(&material.extensions) && is_black(&material.emissive_factor.0),
             Code::KhrMaterialsEmissiveStrengthZeroFactor,
@@ -224,25 +220,9 @@ fn metallic_rules(
     let color = Object::Inner(list, number, part, Name::BaseColorTexture);
     let metallic = Object::Inner(list, number, part, Name::MetallicRoughnessTexture);
     [
-        broken(
-            Range::Factor.excludes_some(&model.metallic_factor.0),
-            Code::ValueNotInRange,
-            Place::Member(at, Name::MetallicFactor),
-        ),
-        broken(
-            Range::Factor.excludes_some(&model.roughness_factor.0),
-            Code::ValueNotInRange,
-            Place::Member(at, Name::RoughnessFactor),
-        ),
-        broken(
-            is_info_unresolved(&model.base_color_texture, textures),
-            Code::UnresolvedReference,
-            Place::Member(color, Name::Index),
-        ),
-        broken(
-            is_info_unresolved(&model.metallic_roughness_texture, textures),
-            Code::UnresolvedReference,
-            Place::Member(metallic, Name::Index),
-        ),
+        Range::Factor.rule(at, Name::MetallicFactor, &model.metallic_factor.0),
+        Range::Factor.rule(at, Name::RoughnessFactor, &model.roughness_factor.0),
+        texture_rule(color, &model.base_color_texture, textures),
+        texture_rule(metallic, &model.metallic_roughness_texture, textures),
     ]
 }

@@ -3,7 +3,7 @@
 ghost use Rattle.std.specs.Prelude.{◌≡◌, ◌++◌, OnOk};
 ghost use Rattle.gltf_findings_codes.specs.Found.{found, findings_if};
 ghost use Rattle.gltf_findings_codes.specs.Ranges.{numbers_findings};
-ghost use Rattle.gltf_findings_objects.specs.Shading.{shading_findings, extension_findings, transmission_rules, ior_rules, emissive_strength_rules, volume_rules, volume_findings, specular_rules, specular_findings, glossiness_rules, glossiness_findings, is_info_unresolved};
+ghost use Rattle.gltf_findings_objects.specs.Shading.{shading_findings, extension_findings, transmission_rules, ior_rules, emissive_strength_rules, volume_rules, volume_findings, specular_rules, specular_findings, glossiness_rules, glossiness_findings, is_info_unresolved, texture_rule};
 
 use gltf_findings_codes::{
     Code, Finding, Name, Numbers, Object, Place, Range, Rules, add_found, add_some, broken,
@@ -71,13 +71,24 @@ fn add_extensions(
 }
 
 /// Whether a reference to a texture names none of so many.
-pub fn is_info_unresolved(info: &Option<Info>, textures: usize) -> bool
+fn is_info_unresolved(info: &Option<Info>, textures: usize) -> bool
     ensures { result ≡ is_info_unresolved textures info.now }
 {
     match info {
         Some(info) => is_unresolved(info.index, textures),
         None => false,
     }
+}
+
+/// The rule for a texture that an object may have, one of so many.
+pub fn texture_rule(object: Object, info: &Option<Info>, textures: usize) -> Option<Finding>
+    ensures { result ≡ texture_rule textures object info.now }
+{
+    broken(
+        is_info_unresolved(info, textures),
+        Code::UnresolvedReference,
+        Place::Member(object, Name::Index),
+    )
 }
 
 impl Rules<Transmission> for ShadingRules {
@@ -100,16 +111,8 @@ impl Rules<Transmission> for ShadingRules {
         add_found(
             to,
             &[
-                broken(
-                    Range::Factor.excludes_some(&item.transmission_factor.0),
-                    Code::ValueNotInRange,
-                    Place::Member(at, Name::TransmissionFactor),
-                ),
-                broken(
-                    is_info_unresolved(&item.transmission_texture, self.textures),
-                    Code::UnresolvedReference,
-                    Place::Member(texture, Name::Index),
-                ),
+                Range::Factor.rule(at, Name::TransmissionFactor, &item.transmission_factor.0),
+                texture_rule(texture, &item.transmission_texture, self.textures),
             ],
         )
     }
@@ -123,11 +126,7 @@ impl Rules<Ior> for ShadingRules {
         let at = Object::Inner(Name::Materials, number, Name::Extensions, extension);
         add_found(
             to,
-            &[broken(
-                Range::RefractionIndex.excludes_some(&item.ior.0),
-                Code::ValueNotInRange,
-                Place::Member(at, Name::Ior),
-            )],
+            &[Range::RefractionIndex.rule(at, Name::Ior, &item.ior.0)],
         )
     }
 }
@@ -145,11 +144,7 @@ impl Rules<EmissiveStrength> for ShadingRules {
         let at = Object::Inner(Name::Materials, number, Name::Extensions, extension);
         add_found(
             to,
-            &[broken(
-                Range::NotNegative.excludes_some(&item.emissive_strength.0),
-                Code::ValueNotInRange,
-                Place::Member(at, Name::EmissiveStrength),
-            )],
+            &[Range::NotNegative.rule(at, Name::EmissiveStrength, &item.emissive_strength.0)],
         )
     }
 }
@@ -179,21 +174,13 @@ fn volume_rules(rules: &ShadingRules, number: usize, volume: &Volume) -> [Option
     let at = Object::Inner(Name::Materials, number, Name::Extensions, extension);
     let texture = Object::Extended(Name::Materials, number, extension, Name::ThicknessTexture);
     [
-        broken(
-            Range::NotNegative.excludes_some(&volume.thickness_factor.0),
-            Code::ValueNotInRange,
-            Place::Member(at, Name::ThicknessFactor),
+        Range::NotNegative.rule(at, Name::ThicknessFactor, &volume.thickness_factor.0),
+        Range::Positive.rule(
+            at,
+            Name::AttenuationDistance,
+            &volume.attenuation_distance.0,
         ),
-        broken(
-            Range::Positive.excludes_some(&volume.attenuation_distance.0),
-            Code::ValueNotInRange,
-            Place::Member(at, Name::AttenuationDistance),
-        ),
-        broken(
-            is_info_unresolved(&volume.thickness_texture, rules.textures),
-            Code::UnresolvedReference,
-            Place::Member(texture, Name::Index),
-        ),
+        texture_rule(texture, &volume.thickness_texture, rules.textures),
         broken(
             !rules.transmits,
             Code::KhrMaterialsVolumeNoTransmission,
@@ -233,21 +220,9 @@ fn specular_rules(textures: usize, number: usize, specular: &Specular) -> [Optio
     let texture = Object::Extended(list, number, extension, Name::SpecularTexture);
     let color = Object::Extended(list, number, extension, Name::SpecularColorTexture);
     [
-        broken(
-            Range::Factor.excludes_some(&specular.specular_factor.0),
-            Code::ValueNotInRange,
-            Place::Member(at, Name::SpecularFactor),
-        ),
-        broken(
-            is_info_unresolved(&specular.specular_texture, textures),
-            Code::UnresolvedReference,
-            Place::Member(texture, Name::Index),
-        ),
-        broken(
-            is_info_unresolved(&specular.specular_color_texture, textures),
-            Code::UnresolvedReference,
-            Place::Member(color, Name::Index),
-        ),
+        Range::Factor.rule(at, Name::SpecularFactor, &specular.specular_factor.0),
+        texture_rule(texture, &specular.specular_texture, textures),
+        texture_rule(color, &specular.specular_color_texture, textures),
     ]
 }
 
@@ -292,20 +267,8 @@ fn glossiness_rules(
     let diffuse = Object::Extended(list, number, extension, Name::DiffuseTexture);
     let specular = Object::Extended(list, number, extension, Name::SpecularGlossinessTexture);
     [
-        broken(
-            Range::Factor.excludes_some(&model.glossiness_factor.0),
-            Code::ValueNotInRange,
-            Place::Member(at, Name::GlossinessFactor),
-        ),
-        broken(
-            is_info_unresolved(&model.diffuse_texture, textures),
-            Code::UnresolvedReference,
-            Place::Member(diffuse, Name::Index),
-        ),
-        broken(
-            is_info_unresolved(&model.specular_glossiness_texture, textures),
-            Code::UnresolvedReference,
-            Place::Member(specular, Name::Index),
-        ),
+        Range::Factor.rule(at, Name::GlossinessFactor, &model.glossiness_factor.0),
+        texture_rule(diffuse, &model.diffuse_texture, textures),
+        texture_rule(specular, &model.specular_glossiness_texture, textures),
     ]
 }

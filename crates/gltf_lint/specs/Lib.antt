@@ -1,3 +1,2 @@
-pub mod Escaped
 pub mod Lines
 pub mod Status

@@ -1,64 +1,48 @@
--- The lines that are printed for a document.
-use Rattle.std.specs.Prelude.{ℕ, ◌-◌, List, [], ◌∷◌, ◌++◌, length, take, nat_lt, if◌then◌else◌, codes}
+-- The lines that are neither findings nor reports.
+use Rattle.std.specs.Prelude.{ℕ, List, ◌++◌, codes}
 use Rattle.std.specs.Fmt.{decimal}
 use Rattle.serde_json.specs.Data.{Data, number, string, object, member, no_members, unsigned}
-use Rattle.serde_json.specs.Written.{compact_text}
-use Rattle.gltf_base.specs.Errors.{error_text, error_code}
-use Rattle.gltf_base.specs.Text.{path_text}
-use Rattle.gltf_base.specs.Pointers.{pointer_text}
-use Rattle.gltf_sinks.specs.Report.{Report}
-use Rattle.gltf_io.specs.Device.{saturated}
-use Rattle.gltf_lint.specs.Escaped.{escaped}
-use Rattle.gltf_lint.specs.declared.arguments.Format.{Format}
-use Rattle.gltf_lint.specs.declared.arguments.Format.TheVariants.{Text, Json}
+use Rattle.gltf_lint_lines.specs.Escaped.{escaped}
+use Rattle.gltf_lint_lines.specs.Lines.{line}
+use Rattle.gltf_findings_lines.specs.declared.counts.Counts.{Counts}
 use Rattle.gltf_lint.specs.declared.tally.Tally.{Tally}
-
--- a text with the end of its line
-abbrev pub line : List ℕ → List ℕ
-line text = text ++ 10 ∷ []
-
--- a report of a file as JSON, and as text. Text escapes control bytes, or a name could be read as a line
-abbrev pub report_data : List ℕ → Report → Data
-report_data file r = object (member (codes "code") (string (error_code r.error))
-    (member (codes "file") (string file)
-    (member (codes "message") (string (error_text r.error))
-    (member (codes "path") (string (path_text r.steps))
-    (member (codes "pointer") (string (pointer_text r.steps)) no_members)))))
-
-abbrev pub report_line : Format → List ℕ → Report → List ℕ
-report_line Text file r = line (escaped file ++ codes ": " ++ escaped (path_text r.steps) ++ codes ": " ++ error_text r.error)
-report_line Json file r = line (compact_text (report_data file r))
-
--- that so many more reports are not printed
-abbrev pub rest_data : List ℕ → ℕ → Data
-rest_data file rest = object (member (codes "file") (string file) (member (codes "more") (number (unsigned rest)) no_members))
-
-abbrev pub rest_line : Format → List ℕ → ℕ → List ℕ
-rest_line Text file rest = line (escaped file ++ codes ": and " ++ decimal rest ++ codes " more")
-rest_line Json file rest = line (compact_text (rest_data file rest))
 
 -- that a file is refused, as text
 abbrev pub refused_line : List ℕ → List ℕ → List ℕ
 refused_line file why = line (escaped file ++ codes ": refused: " ++ escaped why)
 
--- the counts of all files, as JSON and as text
+-- how many of something there are
+abbrev pub count_text : List ℕ → ℕ → List ℕ
+count_text name n = codes ", " ++ name ++ codes ": " ++ decimal n
+
+abbrev pub files_text : Tally → List ℕ
+files_text t = codes "files: " ++ decimal t.files
+
+abbrev pub refusals_text : Tally → List ℕ
+refusals_text t = line (count_text (codes "refused") t.refused)
+
+-- the counts of reports, as JSON and as text
 abbrev pub summary_data : Tally → Data
 summary_data t = object (member (codes "faults") (number (unsigned t.faults))
     (member (codes "files") (number (unsigned t.files))
-    (member (codes "refused") (number (unsigned t.refused)) no_members)))
+    (member (codes "kind") (string (codes "summary"))
+    (member (codes "refused") (number (unsigned t.refused)) no_members))))
 
 abbrev pub summary_text : Tally → List ℕ
-summary_text t = line (codes "files: " ++ decimal t.files ++ codes ", faults: " ++ decimal t.faults ++ codes ", refused: " ++ decimal t.refused)
+summary_text t = files_text t ++ count_text (codes "faults") t.faults ++ refusals_text t
 
--- the line behind those of the reports, if not all of them are printed
-abbrev pub end_line : Format → List ℕ → ℕ → ℕ → List ℕ
-end_line format file most faults = if nat_lt most faults then rest_line format file (faults - most) else []
+-- the counts of findings, as JSON and as text
+abbrev pub counts_data : Tally → Counts → Data
+counts_data t c = object (member (codes "errors") (number (unsigned c.errors))
+    (member (codes "files") (number (unsigned t.files))
+    (member (codes "hints") (number (unsigned c.hints))
+    (member (codes "information") (number (unsigned c.information))
+    (member (codes "kind") (string (codes "summary"))
+    (member (codes "refused") (number (unsigned t.refused))
+    (member (codes "warnings") (number (unsigned c.warnings)) no_members)))))))
 
--- the lines of reports, in order
-abbrev pub report_lines : Format → List ℕ → List Report → List ℕ
-report_lines format file [] = []
-report_lines format file (r ∷ rs) = report_line format file r ++ report_lines format file rs
+abbrev pub severities_text : Counts → List ℕ
+severities_text c = count_text (codes "errors") c.errors ++ count_text (codes "warnings") c.warnings ++ count_text (codes "information") c.information ++ count_text (codes "hints") c.hints
 
--- the lines for a file with these reports: those of the first reports, up to the most, and then how many more there are
-abbrev pub file_lines : Format → List ℕ → ℕ → List Report → List ℕ
-file_lines format file most rs = report_lines format file (take most rs) ++ end_line format file most (saturated (length rs))
+abbrev pub counts_text : Tally → Counts → List ℕ
+counts_text t c = files_text t ++ severities_text c ++ refusals_text t

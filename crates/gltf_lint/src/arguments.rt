@@ -1,47 +1,83 @@
 //! The arguments of the program.
 
-use clap::{ArgMatches, Command, arg, value_parser};
+use clap::{Arg, ArgMatches, Command, arg, value_parser};
+use gltf_findings_lines::{Choices, FindingOptions, Severity, Style, severity_named};
+use gltf_lint_lines::{Format, Options};
 use gltf_validation_rules::Rules;
 use std::alloc::{AllocError, Global};
 
 const AFTER_HELP: &str = "\
-Exit status: 0 if nothing is wrong, 1 if there are reports, 2 if a file was
-refused or the arguments are wrong.";
+Exit status: 0 if nothing is wrong, 1 if there is a finding at or above the
+level of --fail-on, or a report, 2 if a file was refused or the arguments are
+wrong. --help lists what is checked.";
 
-/// What reports are printed as.
+/// The names of `--format`.
+const FORMATS: &[&str] = &["text", "json", "khronos"];
+
+/// The names of severities.
+const LEVELS: &[&str] = &["error", "warning", "information", "hint"];
+
+/// The heading of the options that change reports.
+const WITH_REPORTS: &str = "Options with --reports";
+
+/// What is looked for in documents.
 #[derive(Clone, Copy)]
-pub enum Format {
-    /// A line `FILE: path: message`.
-    Text,
-    /// A line with a JSON object.
-    Json,
+pub enum Checks<'a> {
+    /// What the specification requires and a document doesn't have.
+    Findings(FindingOptions<'a>),
+    /// What the ported crate reports.
+    Reports(Options<'a>),
 }
 
-/// How documents are checked, and how reports are printed.
-#[derive(Clone, Copy)]
-pub struct Options<'a> {
-    pub rules: Rules<'a>,
-    pub format: Format,
-    /// The most reports that are printed for a file.
-    pub most: u64,
-}
-
-impl<'a> Options<'a> {
-    /// The options that the arguments choose. `enabled` are the extensions that a document may
-    /// require.
-    pub fn of(matches: &ArgMatches<'_>, enabled: &'a [&'a str]) -> Options<'a> {
-        Options {
-            rules: Rules {
-                empty_texture: matches.get_flag("empty-textures"),
-                enabled,
-            },
-            format: if matches.get_flag("json") {
-                Format::Json
-            } else {
-                Format::Text
-            },
-            most: matches.get_one::<u64>("max").unwrap_or(u64::MAX),
+impl<'a> Checks<'a> {
+    /// What the arguments choose. `enabled` are the extensions that a document may require.
+    pub fn of(
+        matches: &ArgMatches<'_>,
+        choices: Choices<'a>,
+        enabled: &'a [&'a str],
+    ) -> Checks<'a> {
+        let most = matches.get_one::<u64>("max").unwrap_or(u64::MAX);
+        match style_of(matches) {
+            Style::Lines(format) if matches.get_flag("reports") => Checks::Reports(Options {
+                rules: Rules {
+                    empty_texture: matches.get_flag("empty-textures"),
+                    enabled,
+                },
+                format,
+                most,
+            }),
+            style => Checks::Findings(FindingOptions {
+                choices,
+                style,
+                most,
+            }),
         }
+    }
+
+    /// What is printed for a file.
+    pub fn style(&self) -> Style {
+        match self {
+            Checks::Findings(options) => options.style,
+            Checks::Reports(options) => Style::Lines(options.format),
+        }
+    }
+}
+
+/// What the arguments choose to print.
+fn style_of(matches: &ArgMatches<'_>) -> Style {
+    match matches.get_str("format") {
+        Some("khronos") => Style::Khronos,
+        Some("json") => Style::Lines(Format::Json),
+        _ if matches.get_flag("json") => Style::Lines(Format::Json),
+        _ => Style::Lines(Format::Text),
+    }
+}
+
+/// The severity from which on a finding decides the exit status.
+pub fn fail_level(matches: &ArgMatches<'_>) -> Severity {
+    match matches.get_str("fail-on") {
+        Some(name) => severity_named(name).unwrap_or(Severity::Error),
+        None => Severity::Error,
     }
 }
 
@@ -61,25 +97,56 @@ pub fn enabled_extensions<'a>(
     Ok(enabled)
 }
 
-/// The command, as `clap` reads its arguments.
-pub fn command<'a>(alloc: Global) -> Result<Command<'a>, AllocError> {
-    Command::new(alloc, "gltf_lint")
+/// The command, as `clap` reads its arguments. `help` is the text at the end of `--help`.
+pub fn command<'a>(alloc: Global, help: &'a str) -> Result<Command<'a>, AllocError> {
+    let command = Command::new(alloc, "gltf_lint")
         .version("1.4.1+1")
         .about("Checks glTF 2.0 documents and prints what is wrong in them")
         .after_help(AFTER_HELP)
+        .after_long_help(help)
         .arg(arg!(in alloc;
             <FILE>... "A .gltf or .glb file, a folder of them, or - for standard input"
         ))?
-        .arg(arg!(in alloc; --json "Print a JSON object for each report"))?
+        .arg(arg!(in alloc; --json "Print a JSON object for each line"))?
+        .arg(format_argument(alloc)?)?
         .arg(
-            arg!(in alloc; --enable <NAMES>... "Documents may require these too: A,B").value_delimiter(
-                ',',
-            ),
-        )?
-        .arg(arg!(in alloc; --"empty-textures" "Textures may be without an image"))?
-        .arg(
-            arg!(in alloc; --max <N> "Print at most N reports for a file").value_parser(
+            arg!(in alloc; --max <N> "Print at most N findings for a file").value_parser(
                 value_parser!(u64),
             ),
+        )?;
+    with_reports(alloc, with_findings(alloc, command)?)
+}
+
+fn format_argument<'a>(alloc: Global) -> Result<Arg<'a>, AllocError> {
+    arg!(in alloc; --format <FORMAT> "Print text, JSON or the validator's report")
+        .value_parser(FORMATS)
+        .conflicts_with("json")
+}
+
+/// Adds the options of findings.
+fn with_findings<'a>(alloc: Global, command: Command<'a>) -> Result<Command<'a>, AllocError> {
+    let severity = arg!(in alloc; --severity <"CODE=LEVEL">... "Give a code another severity");
+    let ignore = arg!(in alloc; --ignore <"CODE[:POINTER]">... "Leave out findings with a code");
+    let fail_on = arg!(in alloc; --"fail-on" <LEVEL> "Findings as severe as this give status 1");
+    command
+        .arg(severity.conflicts_with("reports")?)?
+        .arg(ignore.conflicts_with("reports")?)?
+        .arg(fail_on.value_parser(LEVELS).conflicts_with("reports")?)
+}
+
+/// Adds the options of reports.
+fn with_reports<'a>(alloc: Global, command: Command<'a>) -> Result<Command<'a>, AllocError> {
+    command
+        .arg(arg!(in alloc; --reports "Print the reports of the crate gltf-json, not findings"))?
+        .arg(
+            arg!(in alloc; --enable <NAMES>... "Documents may require these too: A,B")
+                .value_delimiter(',')
+                .help_heading(WITH_REPORTS)
+                .requires_arg("reports")?,
+        )?
+        .arg(
+            arg!(in alloc; --"empty-textures" "Textures may be without an image")
+                .help_heading(WITH_REPORTS)
+                .requires_arg("reports")?,
         )
 }

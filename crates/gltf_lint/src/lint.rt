@@ -1,38 +1,96 @@
 //! One file after the other.
 
-use crate::arguments::Options;
-use crate::document::document_of;
+use crate::arguments::Checks;
+use crate::document::{document_of, is_container, unread_refusal};
 use crate::files::{Buffers, Entries, Kind};
-use crate::lines::{Found, found_in};
-use crate::messages::{refusal_line, summary_line};
+use crate::messages::{counts_line, refusal_line, summary_line};
+use crate::progress::Progress;
 use crate::refusal::{Refusal, entry_refusal};
+use crate::report::report_of;
 use crate::tally::Tally;
 use crate::words::NOT_UTF8;
+use gltf_findings_lines::{Checker, Counts, File, FindingOptions, Found, Severity, Style};
+use gltf_lint_lines::found_in;
+use std::alloc::{AllocError, Global};
 use std::io;
+
+/// What is printed for a file, and what is wrong in it.
+#[derive(Drop)]
+struct Checked {
+    lines: String,
+    /// How many reports there are, or findings that decide the exit status.
+    faults: u64,
+    counts: Counts,
+    /// Why the file is refused, if it is.
+    refusal: Option<Refusal>,
+}
+
+/// What is printed for the findings of a file, and whether it is refused. The validator's report of
+/// a refusal comes in place of that of the findings.
+fn checked_findings(
+    alloc: Global,
+    options: &FindingOptions<'_>,
+    fail_level: Severity,
+    file: &File<'_>,
+    found: Found,
+) -> Checked {
+    let faults = found.counts.at_least(fail_level);
+    let counts = found.counts;
+    match found.refusal() {
+        Some(unread) => Checked {
+            lines: match options.style {
+                Style::Lines(_) => found.lines,
+                Style::Khronos => String::new(alloc),
+            },
+            faults,
+            counts,
+            refusal: Some(unread_refusal(alloc, file, unread)),
+        },
+        None => Checked {
+            lines: found.lines,
+            faults,
+            counts,
+            refusal: None,
+        },
+    }
+}
 
 /// What is still to be checked, and what was found so far.
 #[derive(Drop)]
 pub struct Linter<'a> {
     rt: &'a HostRuntime,
-    options: Options<'a>,
+    checks: Checks<'a>,
+    checker: Checker,
+    /// The severity from which on a finding decides the exit status.
+    fail_level: Severity,
     /// Paths, of which the first one is at the end.
     waiting: Vec<(String, Kind)>,
     tally: Tally,
+    counts: Counts,
+    progress: Progress,
     buffers: Buffers,
 }
 
 impl<'a> Linter<'a> {
-    pub fn new(rt: &'a HostRuntime, options: Options<'a>) -> io::Result<Linter<'a>> {
+    pub fn new(
+        rt: &'a HostRuntime,
+        checks: Checks<'a>,
+        fail_level: Severity,
+    ) -> io::Result<Linter<'a>> {
         Ok(Linter {
             rt,
-            options,
+            checks,
+            checker: Checker::new(rt.alloc())?,
+            fail_level,
             waiting: Vec::new(rt.alloc()),
             tally: Tally::new(),
+            counts: Counts::new(),
+            progress: Progress::new(rt),
             buffers: Buffers::new(rt.alloc())?,
         })
     }
 
-    /// Checks what these arguments name, in their order, and prints the reports.
+    /// Checks what these arguments name, in their order, and prints what is wrong.
     pub fn check_all(&mut self, names: &[&str]) -> io::Result<()> {
         for name in names {
             self.check_argument(name)?;
@@ -64,10 +122,34 @@ impl<'a> Linter<'a> {
     }
 
     /// Prints the summary, and returns the exit status.
-    pub fn finish(&self) -> io::Result<u8> {
-        let line = summary_line(self.rt.alloc(), self.options.format, &self.tally)?;
-        self.rt.print(line.as_str())?;
+    pub fn finish(&mut self) -> io::Result<u8> {
+        let line = self.summary()?;
+        self.print(line.as_str())?;
         Ok(self.tally.status())
+    }
+
+    /// The line behind those of all files, if there is one.
+    fn summary(&self) -> Result<String, AllocError> {
+        let alloc = self.rt.alloc();
+        match (self.checks, self.checks.style()) {
+            (_, Style::Khronos) => Ok(String::new(alloc)),
+            (Checks::Findings(_), Style::Lines(format)) => counts_line(
+                alloc,
+                format,
+                &self.tally,
+                &self.counts,
+            ),
+            (Checks::Reports(_), Style::Lines(format)) => summary_line(alloc, format, &self.tally),
+        }
+    }
+
+    /// Prints lines.
+    fn print(&mut self, lines: &str) -> io::Result<()> {
+        if !lines.is_empty() {
+            self.progress.clear(self.rt)?;
+            self.rt.print(lines)?;
+        }
+        Ok(())
     }
 
     /// Puts what is in a folder in front, in order of names.
@@ -86,31 +168,69 @@ impl<'a> Linter<'a> {
         }
     }
 
-    /// Checks a file, and prints its reports.
+    /// Checks a file, and prints what is wrong in it.
     fn check(&mut self, path: &str) -> io::Result<()> {
-        match self.found(path) {
-            Ok(found) => {
-                self.rt.print(found.lines.as_str())?;
-                self.tally.add_checked(found.faults);
-                Ok(())
+        match self.checked(path) {
+            Ok(checked) => {
+                let Checked {
+                    lines,
+                    counts,
+                    faults,
+                    refusal,
+                } = checked;
+                self.print(lines.as_str())?;
+                self.counts.add(&counts);
+                match refusal {
+                    Some(refusal) => self.refuse(path, &refusal)?,
+                    None => self.tally.add_checked(faults),
+                }
             }
-            Err(refusal) => self.refuse(path, &refusal),
+            Err(refusal) => self.refuse(path, &refusal)?,
         }
+        self.progress.show(self.rt, self.tally.files)
     }
 
-    /// What is wrong in a file.
-    fn found(&mut self, path: &str) -> Result<Found, Refusal> {
+    /// What is wrong in a file. Fails if it can't be read, or with `--reports` if it holds no
+    /// document.
+    fn checked(&mut self, path: &str) -> Result<Checked, Refusal> {
         let alloc = self.rt.alloc();
         let bytes = self.buffers.read(self.rt, path)?;
-        let root = document_of(alloc, path, bytes)?;
-        Ok(found_in(alloc, &self.options, path, &root)?)
+        match &self.checks {
+            Checks::Findings(options) => {
+                let file = File {
+                    name: path,
+                    bytes,
+                    is_container: is_container(path, bytes),
+                };
+                let found = self.checker.check(alloc, options, &file)?;
+                Ok(checked_findings(alloc, options, self.fail_level, &file, found))
+            }
+            Checks::Reports(options) => {
+                let root = document_of(alloc, path, bytes)?;
+                let found = found_in(alloc, options, path, &root)?;
+                Ok(Checked {
+                    lines: found.lines,
+                    faults: found.faults,
+                    counts: Counts::new(),
+                    refusal: None,
+                })
+            }
+        }
     }
 
     /// Prints why a path is refused.
     fn refuse(&mut self, path: &str, refusal: &Refusal) -> io::Result<()> {
-        let line = refusal_line(self.rt.alloc(), self.options.format, path, refusal)?;
-        self.rt.print(line.as_str())?;
+        let line = self.refusal(path, refusal)?;
+        self.print(line.as_str())?;
         self.tally.add_refused();
         Ok(())
+    }
+
+    /// The line of a refusal.
+    fn refusal(&self, path: &str, refusal: &Refusal) -> Result<String, AllocError> {
+        match self.checks.style() {
+            Style::Lines(format) => refusal_line(self.rt.alloc(), format, path, refusal),
+            Style::Khronos => report_of(self.rt.alloc(), path, refusal),
+        }
     }
 }

@@ -2,20 +2,23 @@
 #![tactic(auto)]
 
 mod arguments;
+mod choices;
 mod document;
-mod escape;
 mod files;
-mod lines;
+mod help;
 mod lint;
 mod messages;
+mod progress;
 mod refusal;
-mod reports;
+mod report;
 mod tally;
 mod text;
 mod words;
 
-use arguments::{Options, command, enabled_extensions};
+use arguments::{Checks, command, enabled_extensions, fail_level};
+use choices::ChoiceLists;
 use clap::ArgMatches;
+use help::long_help;
 use lint::Linter;
 use std::io::{self, ErrorKind};
 use std::process::ExitCode;
@@ -25,7 +28,15 @@ use words::words;
 /// Checks what the arguments name, prints a summary and returns the exit status.
 fn check(rt: &HostRuntime, matches: &ArgMatches<'_>) -> io::Result<u8> {
     let enabled = enabled_extensions(rt.alloc(), matches)?;
-    let mut linter = Linter::new(rt, Options::of(matches, &enabled))?;
+    let choices = match ChoiceLists::of(rt.alloc(), matches) {
+        Ok(choices) => choices,
+        Err(error) => {
+            eprintln!(rt; "error: {error}\n\nFor more information, try '--help'.")?;
+            return Ok(REFUSED);
+        }
+    };
+    let checks = Checks::of(matches, choices.as_choices(), &enabled);
+    let mut linter = Linter::new(rt, checks, fail_level(matches))?;
     linter.check_all(matches.get_strs("FILE").unwrap_or(&[]))?;
     linter.finish()
 }
@@ -34,7 +45,8 @@ fn check(rt: &HostRuntime, matches: &ArgMatches<'_>) -> io::Result<u8> {
 fn run(rt: &HostRuntime) -> io::Result<u8> {
     let alloc = rt.alloc();
     let words = words(rt)?;
-    match command(alloc)?.try_get_matches_from(words.as_slice()) {
+    let help = long_help(alloc)?;
+    match command(alloc, &help)?.try_get_matches_from(words.as_slice()) {
         Ok(matches) => check(rt, &matches),
         Err(error) => {
             error.print(rt)?;

@@ -7,8 +7,8 @@ ghost use Rattle.gltf_lint.specs.Status.{status_of};
 /// The exit status if a file was refused.
 pub const REFUSED: u8 = 2;
 
-/// How many files were checked or refused, and how many reports there were. A number stops at the
-/// largest of 64 bits.
+/// How many files were checked or refused, and how many faults there were: reports, or findings that
+/// decide the exit status. A number stops at the largest of 64 bits.
 #[derive(Clone, Copy)]
 pub struct Tally {
     pub files: u64,
@@ -28,7 +28,7 @@ impl Tally {
         }
     }
 
-    /// A file was checked, with so many reports.
+    /// A file was checked, with so many faults.
     pub fn add_checked(&mut self, faults: u64)
         ensures { self.new ≡ record self.old {
           files = saturated (self.old.files + 1);
@@ -50,7 +50,7 @@ impl Tally {
         self.refused = self.refused.saturating_add(1);
     }
 
-    /// The exit status: 2 if a file was refused, else 1 if there was a report, else 0.
+    /// The exit status: 2 if a file was refused, else 1 if there was a fault, else 0.
     pub fn status(&self) -> u8
         ensures { result ≡ status_of self.now.faults self.now.refused }
     {

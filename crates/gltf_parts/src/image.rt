@@ -3,7 +3,6 @@
 ghost use Rattle.std.specs.Prelude.{◌≡◌, [], ◌∷◌, refl, codes};
 ghost use Rattle.gltf_base.specs.Lists.{images};
 ghost use Rattle.gltf_schema.specs.Kind.{Text};
-ghost use Rattle.gltf_schema.specs.Defaults.{defaults};
 ghost use Rattle.gltf_schema.specs.WithDefaults.{with_defaults};
 ghost use Rattle.gltf_schema.specs.Fields.{index_tree, text_tree};
 ghost use Rattle.gltf_parts.specs.Image.{image_rows, image_members, mime_type_tree};
@@ -86,21 +85,6 @@ impl Drop for Image {
 // Written by tools/derive.py: end
 
 impl Image {
-    /// Returns an image without data, every member at its default.
-    #[tactic(auto, unfolding(crate::specs::Image::image_rows, crate::specs::Image::image_members))]
-    pub fn new() -> Image
-        ensures { image_members result ≡ defaults image_rows }
-    {
-        Image {
-            buffer_view: None,
-            mime_type: None,
-            name: None,
-            uri: None,
-            extensions: None,
-            extras: None,
-        }
-    }
-
     /// Returns an image with its data at a URI.
     #[tactic(auto, unfolding(crate::specs::Image::image_rows, crate::specs::Image::image_members))]
     pub fn from_uri(uri: String) -> Image

@@ -1,11 +1,10 @@
 //! Materials, and their references to textures (glTF 2.0, sections 5.19 to 5.22).
 
-ghost use Rattle.std.specs.Prelude.{◌≡◌, [], ◌∷◌, false, refl, codes, option_map};
+ghost use Rattle.std.specs.Prelude.{◌≡◌, [], ◌∷◌, refl, codes, option_map};
 ghost use Rattle.gltf_base.specs.Lists.{materials};
 ghost use Rattle.gltf_schema.specs.Kind.{Number};
-ghost use Rattle.gltf_schema.specs.Defaults.{defaults};
 ghost use Rattle.gltf_schema.specs.WithDefaults.{with_defaults};
-ghost use Rattle.gltf_parts.specs.Material.{material_rows, pbr_metallic_roughness_rows, normal_texture_rows, occlusion_texture_rows, alpha_cutoff_tree, material_members, pbr_metallic_roughness_members, normal_texture_members, occlusion_texture_members};
+ghost use Rattle.gltf_parts.specs.Material.{normal_texture_rows, occlusion_texture_rows, alpha_cutoff_tree, normal_texture_members, occlusion_texture_members};
 ghost use Rattle.gltf_schema.specs.Floats.{real_float, float_or};
 ghost use Rattle.gltf_schema.specs.Fields.{index_tree};
 
@@ -67,26 +66,6 @@ impl Drop for Material {
 // Written by tools/derive.py: end
 
 impl Material {
-    /// Returns a material with every member at its default.
-    #[tactic(auto, unfolding(crate::specs::Material::material_rows, crate::specs::Material::material_members))]
-    pub fn new() -> Material
-        ensures { material_members result ≡ defaults material_rows }
-    {
-        Material {
-            alpha_cutoff: None,
-            alpha_mode: Checked::Valid(AlphaMode::Opaque),
-            double_sided: false,
-            name: None,
-            pbr_metallic_roughness: PbrMetallicRoughness::new(),
-            normal_texture: None,
-            occlusion_texture: None,
-            emissive_texture: None,
-            emissive_factor: EmissiveFactor(None),
-            extensions: None,
-            extras: None,
-        }
-    }
-
     /// Returns the alpha cutoff as a float, or [`AlphaCutoff::DEFAULT`] if it is absent.
     pub fn alpha_cutoff_value(&self) -> f64
         ensures { result
@@ -135,24 +114,6 @@ impl Drop for PbrMetallicRoughness {
     }
 }
 // Written by tools/derive.py: end
-
-impl PbrMetallicRoughness {
-    /// Returns parameters with every member at its default.
-    #[tactic(auto, unfolding(crate::specs::Material::pbr_metallic_roughness_rows, crate::specs::Material::pbr_metallic_roughness_members))]
-    pub fn new() -> PbrMetallicRoughness
-        ensures { pbr_metallic_roughness_members result ≡ defaults pbr_metallic_roughness_rows }
-    {
-        PbrMetallicRoughness {
-            base_color_factor: PbrBaseColorFactor(None),
-            base_color_texture: None,
-            metallic_factor: StrengthFactor(None),
-            roughness_factor: StrengthFactor(None),
-            metallic_roughness_texture: None,
-            extensions: None,
-            extras: None,
-        }
-    }
-}
 
 /// A reference to a normal texture.
 #[derive(Clone, Debug)]

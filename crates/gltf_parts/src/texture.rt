@@ -3,10 +3,9 @@
 
 ghost use Rattle.std.specs.Prelude.{◌≡◌, [], ◌∷◌, codes};
 ghost use Rattle.gltf_base.specs.Lists.{samplers, textures};
-ghost use Rattle.gltf_schema.specs.Defaults.{defaults};
 ghost use Rattle.gltf_schema.specs.WithDefaults.{with_defaults};
 ghost use Rattle.gltf_schema.specs.Fields.{index_tree};
-ghost use Rattle.gltf_parts.specs.Texture.{sampler_rows, texture_rows, info_rows, sampler_members, texture_members, info_members};
+ghost use Rattle.gltf_parts.specs.Texture.{texture_rows, info_rows, texture_members, info_members};
 
 use crate::extensions;
 use crate::extras::Extras;
@@ -53,24 +52,6 @@ impl Drop for Sampler {
     }
 }
 // Written by tools/derive.py: end
-
-impl Sampler {
-    /// Returns a sampler with every member at its default: it repeats the texture.
-    #[tactic(auto, unfolding(crate::specs::Texture::sampler_rows, crate::specs::Texture::sampler_members))]
-    pub fn new() -> Sampler
-        ensures { sampler_members result ≡ defaults sampler_rows }
-    {
-        Sampler {
-            mag_filter: None,
-            min_filter: None,
-            name: None,
-            wrap_s: Checked::Valid(WrappingMode::Repeat),
-            wrap_t: Checked::Valid(WrappingMode::Repeat),
-            extensions: None,
-            extras: None,
-        }
-    }
-}
 
 impl Listed for Sampler {
     ghost list = { samplers };

@@ -2,10 +2,9 @@
 
 ghost use Rattle.std.specs.Prelude.{◌≡◌, [], ◌∷◌, codes};
 ghost use Rattle.gltf_base.specs.Lists.{meshes};
-ghost use Rattle.gltf_schema.specs.Defaults.{defaults};
 ghost use Rattle.gltf_schema.specs.WithDefaults.{with_defaults};
 ghost use Rattle.gltf_schema.specs.Fields.{list_tree, attributes_tree, closed_object};
-ghost use Rattle.gltf_scene.specs.Mesh.{mesh_rows, primitive_rows, morph_target_rows, mesh_members, primitive_members, morph_target_members};
+ghost use Rattle.gltf_scene.specs.Mesh.{mesh_rows, primitive_rows, mesh_members, primitive_members};
 
 use crate::extensions;
 pub use gltf_base::mesh::{
@@ -118,18 +117,4 @@ pub struct MorphTarget {
     pub normals: Option<Index<Accessor>>,
     /// The displacements of `TANGENT`.
     pub tangents: Option<Index<Accessor>>,
-}
-
-impl MorphTarget {
-    /// Returns a morph target without displacements.
-    #[tactic(auto, unfolding(crate::specs::Mesh::morph_target_rows, crate::specs::Mesh::morph_target_members))]
-    pub fn new() -> MorphTarget
-        ensures { morph_target_members result ≡ defaults morph_target_rows }
-    {
-        MorphTarget {
-            positions: None,
-            normals: None,
-            tangents: None,
-        }
-    }
 }

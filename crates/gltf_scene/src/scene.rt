@@ -3,11 +3,10 @@
 ghost use Rattle.std.specs.Prelude.{◌≡◌, [], ◌∷◌, refl, codes, map, option_map};
 ghost use Rattle.gltf_base.specs.Lists.{nodes, scenes};
 ghost use Rattle.gltf_schema.specs.Kind.{Numbers};
-ghost use Rattle.gltf_schema.specs.Defaults.{defaults};
 ghost use Rattle.gltf_schema.specs.WithDefaults.{with_defaults};
 ghost use Rattle.gltf_schema.specs.Floats.{real_float, floats_or};
 ghost use Rattle.gltf_schema.specs.Fields.{index_tree, list_tree};
-ghost use Rattle.gltf_scene.specs.Scene.{node_rows, scene_rows, node_members, scene_members, unit_quaternion_tree, no_rotation};
+ghost use Rattle.gltf_scene.specs.Scene.{scene_rows, scene_members, unit_quaternion_tree, no_rotation};
 
 use crate::camera::Camera;
 use crate::extensions;
@@ -69,27 +68,6 @@ impl Drop for Node {
 // Written by tools/derive.py: end
 
 impl Node {
-    /// Returns a node with every member at its default.
-    #[tactic(auto, unfolding(crate::specs::Scene::node_rows, crate::specs::Scene::node_members))]
-    pub fn new() -> Node
-        ensures { node_members result ≡ defaults node_rows }
-    {
-        Node {
-            camera: None,
-            children: None,
-            mesh: None,
-            name: None,
-            skin: None,
-            weights: None,
-            extras: None,
-            extensions: None,
-            matrix: None,
-            rotation: None,
-            scale: None,
-            translation: None,
-        }
-    }
-
     /// The numbers that an absent `translation` means.
     pub const DEFAULT_TRANSLATION: [f64; 3] = [0.0; 3];
 

@@ -144,6 +144,17 @@ pub fn name(code: Code) -> &'static str
         Code::UriGlb => "URI_GLB",
         Code::DataUriGlb => "DATA_URI_GLB",
         Code::BufferDataUriMimeTypeInvalid => "BUFFER_DATA_URI_MIME_TYPE_INVALID",
+        Code::SkinNoCommonRoot => "SKIN_NO_COMMON_ROOT",
+        Code::SkinSkeletonInvalid => "SKIN_SKELETON_INVALID",
+        Code::UnusedExtensionRequired => "UNUSED_EXTENSION_REQUIRED",
+        Code::ExtraProperty => "EXTRA_PROPERTY",
+        Code::ArrayTypeMismatch => "ARRAY_TYPE_MISMATCH",
+        Code::InvalidIndex => "INVALID_INDEX",
+        Code::TypeMismatch => "TYPE_MISMATCH",
+        Code::UnexpectedProperty => "UNEXPECTED_PROPERTY",
+        Code::NonObjectExtras => "NON_OBJECT_EXTRAS",
+        Code::UndeclaredExtension => "UNDECLARED_EXTENSION",
+        Code::UnexpectedExtensionObject => "UNEXPECTED_EXTENSION_OBJECT",
     }
 }
 
@@ -202,7 +213,7 @@ pub fn section(code: Code) -> &'static str
         Code::AssetMinVersionGreaterThanVersion => "5.9.4",
         Code::InvalidExtensionNameFormat => "3.12",
         Code::DuplicateElements => "5",
-        Code::ArrayLengthNotInList => "5.1",
+        Code::ArrayLengthNotInList => "5",
         Code::SceneNonRootNode => "3.5.1",
         Code::MeshPrimitiveAttributesAccessorInvalidFormat => "3.7.2.1",
         Code::MeshPrimitiveAttributesAccessorUnsignedInt => "3.7.2.1",
@@ -267,6 +278,17 @@ pub fn section(code: Code) -> &'static str
         Code::UriGlb => "2.8",
         Code::DataUriGlb => "2.8",
         Code::BufferDataUriMimeTypeInvalid => "3.6.1.1",
+        Code::SkinNoCommonRoot => "3.7.3.2",
+        Code::SkinSkeletonInvalid => "5.28",
+        Code::UnusedExtensionRequired => "3.12",
+        Code::ExtraProperty => "KHR_lights_punctual",
+        Code::ArrayTypeMismatch => "5",
+        Code::InvalidIndex => "5",
+        Code::TypeMismatch => "5",
+        Code::UnexpectedProperty => "5",
+        Code::NonObjectExtras => "5.16",
+        Code::UndeclaredExtension => "3.12",
+        Code::UnexpectedExtensionObject => "3.12",
     }
 }
 
@@ -339,7 +361,7 @@ pub fn message(code: Code) -> &'static str
         Code::InvalidExtensionNameFormat =>
             "the name of an extension has no prefix of capital letters",
         Code::DuplicateElements => "an element is listed twice",
-        Code::ArrayLengthNotInList => "there are not as many bounds as components",
+        Code::ArrayLengthNotInList => "there are not as many numbers as are required",
         Code::SceneNonRootNode => "a scene lists a node that has a parent",
         Code::MeshPrimitiveAttributesAccessorInvalidFormat =>
             "an attribute has a format that its semantic excludes",
@@ -421,5 +443,16 @@ pub fn message(code: Code) -> &'static str
         Code::DataUriGlb => "the document of a .glb file has a data URI",
         Code::BufferDataUriMimeTypeInvalid =>
             "the data URI has a media type that is not one of buffers",
+        Code::SkinNoCommonRoot => "the joints have no common root",
+        Code::SkinSkeletonInvalid => "the skeleton is not a common root of the joints",
+        Code::UnusedExtensionRequired => "an extension is required and not used",
+        Code::ExtraProperty => "a member is defined that has no effect",
+        Code::ArrayTypeMismatch => "an item is of another kind than is wanted",
+        Code::InvalidIndex => "an index is no whole number below 2^32",
+        Code::TypeMismatch => "a value is of another kind than is wanted",
+        Code::UnexpectedProperty => "the format has no member of this name",
+        Code::NonObjectExtras => "extras are no object",
+        Code::UndeclaredExtension => "extensionsUsed does not list the extension",
+        Code::UnexpectedExtensionObject => "the extension has no meaning in this object",
     }
 }

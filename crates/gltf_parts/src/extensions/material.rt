@@ -1,14 +1,7 @@
 //! The extension objects of materials and of their references to textures.
 
-ghost use Rattle.std.specs.Prelude.{◌≡◌};
-ghost use Rattle.serde_json.specs.Data.{no_members};
-ghost use Rattle.serde_json.specs.View.{members_view};
-ghost use Rattle.gltf_schema.specs.Defaults.{defaults};
-ghost use Rattle.gltf_parts.specs.MaterialExtension.{material_extension_rows, material_extension_members};
-
 use gltf_schema::KeptExtensions;
 use serde_json::{Map, Value};
-use std::alloc::Global;
 
 mod derived;
 mod emissive_strength;
@@ -65,26 +58,6 @@ impl Drop for Material {
     }
 }
 // Written by tools/derive.py: end
-
-impl Material {
-    /// Returns an empty extension object.
-    #[tactic(auto, unfolding(crate::specs::MaterialExtension::material_extension_rows, crate::specs::MaterialExtension::material_extension_members))]
-    pub fn new(alloc: Global) -> Material
-        ensures known { material_extension_members result ≡ defaults material_extension_rows }
-        ensures unknown { members_view result.others.entries ≡ no_members }
-    {
-        Material {
-            pbr_specular_glossiness: None,
-            unlit: None,
-            transmission: None,
-            volume: None,
-            specular: None,
-            ior: None,
-            emissive_strength: None,
-            others: Map::new(alloc),
-        }
-    }
-}
 
 /// The extensions of the parameters of the metallic-roughness model.
 pub type PbrMetallicRoughness = KeptExtensions;

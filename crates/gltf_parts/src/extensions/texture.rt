@@ -1,16 +1,9 @@
 //! The extension objects of textures, their samplers and the references to them.
 
-ghost use Rattle.std.specs.Prelude.{◌≡◌};
-ghost use Rattle.serde_json.specs.Data.{no_members};
-ghost use Rattle.serde_json.specs.View.{members_view};
-ghost use Rattle.gltf_schema.specs.Defaults.{defaults};
-ghost use Rattle.gltf_parts.specs.Texture.{info_extension_rows, texture_transform_rows, info_extension_members, texture_transform_members};
-
 use crate::extras::Extras;
 use gltf_base::Real;
 use gltf_schema::KeptExtensions;
 use serde_json::{Map, Value};
-use std::alloc::Global;
 
 mod derived;
 
@@ -29,20 +22,6 @@ pub struct Info {
     pub others: Map<String, Value>,
 }
 
-impl Info {
-    /// Returns an empty extension object.
-    #[tactic(auto, unfolding(crate::specs::Texture::info_extension_rows, crate::specs::Texture::info_extension_members))]
-    pub fn new(alloc: Global) -> Info
-        ensures known { info_extension_members result ≡ defaults info_extension_rows }
-        ensures unknown { members_view result.others.entries ≡ no_members }
-    {
-        Info {
-            texture_transform: None,
-            others: Map::new(alloc),
-        }
-    }
-}
-
 /// A transform of texture coordinates: scale, then rotation, then offset.
 // What takes longest to drop comes last (docs/DECISIONS.md, "Order of fields").
 #[derive(Clone, Debug, Drop)]
@@ -53,22 +32,6 @@ pub struct TextureTransform {
     pub offset: TextureTransformOffset,
     pub scale: TextureTransformScale,
     pub extras: Extras,
-}
-
-impl TextureTransform {
-    /// Returns the identity transform.
-    #[tactic(auto, unfolding(crate::specs::Texture::texture_transform_rows, crate::specs::Texture::texture_transform_members))]
-    pub fn new() -> TextureTransform
-        ensures { texture_transform_members result ≡ defaults texture_transform_rows }
-    {
-        TextureTransform {
-            offset: TextureTransformOffset(None),
-            rotation: TextureTransformRotation(None),
-            scale: TextureTransformScale(None),
-            tex_coord: None,
-            extras: None,
-        }
-    }
 }
 
 /// The offset of the origin, in texture widths and heights; `None` means zeros.

@@ -3,13 +3,31 @@
 
 ghost use Rattle.gltf_parts.specs.Image.{image_members, image_rows};
 ghost use Rattle.gltf_parts.specs.ImageDerived.{image_height, image_sound};
+ghost use Rattle.gltf_schema.specs.Defaults.{defaults};
 ghost use Rattle.serde_json.specs.Data.{no_members};
 ghost use Rattle.std.proofs.Common.{lit≤};
-ghost use Rattle.std.specs.Prelude.{false};
+ghost use Rattle.std.specs.Prelude.{false, ◌≡◌};
 
 use super::Image;
 use gltf_schema::{Object, ReadRows, WriteRows};
 use std::alloc::Global;
+
+impl Image {
+    /// Returns an image without data, every member at its default.
+    #[tactic(auto, unfolding(crate::specs::Image::image_rows, crate::specs::Image::image_members))]
+    pub fn new() -> Image
+        ensures { image_members result ≡ defaults image_rows }
+    {
+        Image {
+            buffer_view: None,
+            mime_type: None,
+            name: None,
+            uri: None,
+            extensions: None,
+            extras: None,
+        }
+    }
+}
 
 impl Object for Image {
     ghost rows = { image_rows };

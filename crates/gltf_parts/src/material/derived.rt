@@ -3,6 +3,7 @@
 
 ghost use Rattle.gltf_parts.specs.Material.{material_members, material_rows, normal_texture_members, normal_texture_rows, occlusion_texture_members, occlusion_texture_rows, pbr_metallic_roughness_members, pbr_metallic_roughness_rows};
 ghost use Rattle.gltf_parts.specs.MaterialDerived.{material_height, material_sound, normal_texture_height, normal_texture_sound, occlusion_texture_height, occlusion_texture_sound, pbr_metallic_roughness_height, pbr_metallic_roughness_sound};
+ghost use Rattle.gltf_schema.specs.Defaults.{defaults};
 ghost use Rattle.gltf_schema.specs.Fields.{reals_tree};
 ghost use Rattle.gltf_schema.specs.Floats.{float_or, floats_or};
 ghost use Rattle.gltf_schema.specs.Kind.{Numbers};
@@ -21,6 +22,24 @@ use gltf_base::material::AlphaMode;
 use gltf_base::validation::Checked;
 use gltf_schema::{Object, ReadRows, StrictObject, StrictRows, Tabled, WriteRows};
 use std::alloc::Global;
+
+impl PbrMetallicRoughness {
+    /// Returns parameters with every member at its default.
+    #[tactic(auto, unfolding(crate::specs::Material::pbr_metallic_roughness_rows, crate::specs::Material::pbr_metallic_roughness_members))]
+    pub fn new() -> PbrMetallicRoughness
+        ensures { pbr_metallic_roughness_members result ≡ defaults pbr_metallic_roughness_rows }
+    {
+        PbrMetallicRoughness {
+            base_color_factor: PbrBaseColorFactor(None),
+            base_color_texture: None,
+            metallic_factor: StrengthFactor(None),
+            roughness_factor: StrengthFactor(None),
+            metallic_roughness_texture: None,
+            extensions: None,
+            extras: None,
+        }
+    }
+}
 
 impl Object for PbrMetallicRoughness {
     ghost rows = { pbr_metallic_roughness_rows };
@@ -196,6 +215,28 @@ impl Object for OcclusionTexture {
         to.always("index", &self.index);
         to.optional("strength", &self.strength.0);
         to.always("texCoord", &self.tex_coord);
+    }
+}
+
+impl Material {
+    /// Returns a material with every member at its default.
+    #[tactic(auto, unfolding(crate::specs::Material::material_rows, crate::specs::Material::material_members))]
+    pub fn new() -> Material
+        ensures { material_members result ≡ defaults material_rows }
+    {
+        Material {
+            alpha_cutoff: None,
+            alpha_mode: Checked::Valid(AlphaMode::Opaque),
+            double_sided: false,
+            name: None,
+            pbr_metallic_roughness: PbrMetallicRoughness::new(),
+            normal_texture: None,
+            occlusion_texture: None,
+            emissive_texture: None,
+            emissive_factor: EmissiveFactor(None),
+            extensions: None,
+            extras: None,
+        }
     }
 }
 

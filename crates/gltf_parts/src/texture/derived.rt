@@ -3,9 +3,10 @@
 
 ghost use Rattle.gltf_parts.specs.Texture.{info_members, info_rows, sampler_members, sampler_rows, texture_members, texture_rows};
 ghost use Rattle.gltf_parts.specs.TextureDerived.{info_height, info_sound, sampler_height, sampler_sound, texture_height, texture_sound};
+ghost use Rattle.gltf_schema.specs.Defaults.{defaults};
 ghost use Rattle.serde_json.specs.Data.{no_members};
 ghost use Rattle.std.proofs.Common.{lit≤};
-ghost use Rattle.std.specs.Prelude.{false};
+ghost use Rattle.std.specs.Prelude.{false, ◌≡◌};
 
 use super::{Info, NO_IMAGE, Sampler, Texture};
 use gltf_base::Index;
@@ -13,6 +14,24 @@ use gltf_base::texture::WrappingMode;
 use gltf_base::validation::Checked;
 use gltf_schema::{Object, ReadRows, StrictObject, StrictRows, WriteRows};
 use std::alloc::Global;
+
+impl Sampler {
+    /// Returns a sampler with every member at its default: it repeats the texture.
+    #[tactic(auto, unfolding(crate::specs::Texture::sampler_rows, crate::specs::Texture::sampler_members))]
+    pub fn new() -> Sampler
+        ensures { sampler_members result ≡ defaults sampler_rows }
+    {
+        Sampler {
+            mag_filter: None,
+            min_filter: None,
+            name: None,
+            wrap_s: Checked::Valid(WrappingMode::Repeat),
+            wrap_t: Checked::Valid(WrappingMode::Repeat),
+            extensions: None,
+            extras: None,
+        }
+    }
+}
 
 impl Object for Sampler {
     ghost rows = { sampler_rows };

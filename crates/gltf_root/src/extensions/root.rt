@@ -1,11 +1,8 @@
 //! The extension objects of a whole document.
 
 ghost use Rattle.std.specs.Prelude.{◌≡◌};
-ghost use Rattle.serde_json.specs.Data.{no_members};
-ghost use Rattle.serde_json.specs.View.{members_view};
 ghost use Rattle.gltf_schema.specs.Tree.{end, list, with_tree};
-ghost use Rattle.gltf_schema.specs.Defaults.{defaults};
-ghost use Rattle.gltf_root.specs.RootExtension.{root_extension_rows, root_extension_members, lights_members, variants_members};
+ghost use Rattle.gltf_root.specs.RootExtension.{lights_members, variants_members};
 
 use gltf_scene::extensions::scene::khr_lights_punctual::Light;
 use gltf_scene::extensions::scene::khr_materials_variants::Variant;
@@ -23,21 +20,6 @@ pub struct Root {
     pub khr_materials_variants: Option<KhrMaterialsVariants>,
     /// Unknown extensions, kept as they are.
     pub others: Map<String, Value>,
-}
-
-impl Root {
-    /// Returns an empty extension object.
-    #[tactic(auto, unfolding(crate::specs::RootExtension::root_extension_rows, crate::specs::RootExtension::root_extension_members))]
-    pub fn new(alloc: Global) -> Root
-        ensures known { root_extension_members result ≡ defaults root_extension_rows }
-        ensures unknown { members_view result.others.entries ≡ no_members }
-    {
-        Root {
-            khr_lights_punctual: None,
-            khr_materials_variants: None,
-            others: Map::new(alloc),
-        }
-    }
 }
 
 /// The lights of a document (`KHR_lights_punctual`).

@@ -1,11 +1,8 @@
 //! The extension objects of meshes and their primitives.
 
 ghost use Rattle.std.specs.Prelude.{◌≡◌};
-ghost use Rattle.serde_json.specs.Data.{no_members};
-ghost use Rattle.serde_json.specs.View.{members_view};
 ghost use Rattle.gltf_schema.specs.Tree.{end, list, whole, with_tree};
-ghost use Rattle.gltf_schema.specs.Defaults.{defaults};
-ghost use Rattle.gltf_scene.specs.Mesh.{primitive_extension_rows, primitive_extension_members, variant_mappings_members, variant_mapping_members};
+ghost use Rattle.gltf_scene.specs.Mesh.{variant_mappings_members, variant_mapping_members};
 
 use gltf_schema::KeptExtensions;
 use serde_json::{Map, Value};
@@ -23,20 +20,6 @@ pub struct Primitive {
     pub khr_materials_variants: Option<KhrMaterialsVariants>,
     /// Unknown extensions, kept as they are.
     pub others: Map<String, Value>,
-}
-
-impl Primitive {
-    /// Returns an empty extension object.
-    #[tactic(auto, unfolding(crate::specs::Mesh::primitive_extension_rows, crate::specs::Mesh::primitive_extension_members))]
-    pub fn new(alloc: Global) -> Primitive
-        ensures known { primitive_extension_members result ≡ defaults primitive_extension_rows }
-        ensures unknown { members_view result.others.entries ≡ no_members }
-    {
-        Primitive {
-            khr_materials_variants: None,
-            others: Map::new(alloc),
-        }
-    }
 }
 
 /// The material of a primitive for each variant (`KHR_materials_variants`).

@@ -3,10 +3,11 @@
 
 ghost use Rattle.gltf_scene.specs.Mesh.{mesh_members, mesh_rows, morph_target_members, morph_target_rows, primitive_members, primitive_rows};
 ghost use Rattle.gltf_scene.specs.MeshDerived.{mesh_height, mesh_sound, morph_target_height, morph_target_sound, primitive_height, primitive_sound};
+ghost use Rattle.gltf_schema.specs.Defaults.{defaults};
 ghost use Rattle.gltf_schema.specs.Kind.{needs_positions};
 ghost use Rattle.serde_json.specs.Data.{no_members};
 ghost use Rattle.std.proofs.Common.{lit≤};
-ghost use Rattle.std.specs.Prelude.{false};
+ghost use Rattle.std.specs.Prelude.{false, ◌≡◌};
 
 use super::{Mesh, MorphTarget, Primitive};
 use gltf_base::mesh::Mode;
@@ -14,6 +15,20 @@ use gltf_base::validation::Checked;
 use gltf_schema::{Object, ReadRows, WriteRows};
 use std::alloc::Global;
 use std::collections::BTreeMap;
+
+impl MorphTarget {
+    /// Returns a morph target without displacements.
+    #[tactic(auto, unfolding(crate::specs::Mesh::morph_target_rows, crate::specs::Mesh::morph_target_members))]
+    pub fn new() -> MorphTarget
+        ensures { morph_target_members result ≡ defaults morph_target_rows }
+    {
+        MorphTarget {
+            positions: None,
+            normals: None,
+            tangents: None,
+        }
+    }
+}
 
 impl Object for MorphTarget {
     ghost rows = { morph_target_rows };

@@ -3,6 +3,7 @@
 
 ghost use Rattle.gltf_scene.specs.Scene.{node_members, node_rows, scene_members, scene_rows};
 ghost use Rattle.gltf_scene.specs.SceneDerived.{node_height, node_sound, scene_height, scene_sound};
+ghost use Rattle.gltf_schema.specs.Defaults.{defaults};
 ghost use Rattle.gltf_schema.specs.Floats.{floats_or};
 ghost use Rattle.serde_json.specs.Data.{no_members};
 ghost use Rattle.std.proofs.Common.{lit≤};
@@ -11,6 +12,29 @@ ghost use Rattle.std.specs.Prelude.{false, ◌≡◌};
 use super::{Node, Scene};
 use gltf_schema::{Object, ReadRows, WriteRows};
 use std::alloc::Global;
+
+impl Node {
+    /// Returns a node with every member at its default.
+    #[tactic(auto, unfolding(crate::specs::Scene::node_rows, crate::specs::Scene::node_members))]
+    pub fn new() -> Node
+        ensures { node_members result ≡ defaults node_rows }
+    {
+        Node {
+            camera: None,
+            children: None,
+            extensions: None,
+            extras: None,
+            matrix: None,
+            mesh: None,
+            name: None,
+            rotation: None,
+            scale: None,
+            translation: None,
+            skin: None,
+            weights: None,
+        }
+    }
+}
 
 impl Object for Node {
     ghost rows = { node_rows };

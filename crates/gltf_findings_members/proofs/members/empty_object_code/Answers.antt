@@ -3,7 +3,7 @@ use Rattle.std.proofs.Common.{◌≡◌, List, [], ◌∷◌, length, Bool, true
 use Rattle.std.specs.Prelude.{◌↔◌}
 use Rattle.serde_json.specs.View.{members_view}
 use Rattle.serde_json.proofs.Views.{Entry}
-use Rattle.gltf_findings_members.specs.declared.code.NoticeCode.{NoticeCode}
+use Rattle.gltf_findings_codes.specs.declared.code.Code.{Code}
 use Rattle.gltf_findings_members.specs.Empty.{empty_object_code}
 use Rattle.gltf_findings_members.proofs.members.empty_object_code.Goals as goal
 

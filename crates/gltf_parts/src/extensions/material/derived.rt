@@ -3,14 +3,36 @@
 
 ghost use Rattle.gltf_parts.specs.MaterialExtension.{material_extension_members, material_extension_rows};
 ghost use Rattle.gltf_parts.specs.MaterialExtensionDerived.{material_extension_height, material_extension_sound};
+ghost use Rattle.gltf_schema.specs.Defaults.{defaults};
+ghost use Rattle.serde_json.specs.Data.{no_members};
 ghost use Rattle.serde_json.specs.View.{members_view};
 ghost use Rattle.std.proofs.Common.{lit≤};
-ghost use Rattle.std.specs.Prelude.{true};
+ghost use Rattle.std.specs.Prelude.{true, ◌≡◌};
 
 use super::Material;
 use gltf_schema::{Object, ReadRows, StrictObject, StrictRows, WriteRows};
 use serde_json::Map;
 use std::alloc::Global;
+
+impl Material {
+    /// Returns an empty extension object.
+    #[tactic(auto, unfolding(crate::specs::MaterialExtension::material_extension_rows, crate::specs::MaterialExtension::material_extension_members))]
+    pub fn new(alloc: Global) -> Material
+        ensures known { material_extension_members result ≡ defaults material_extension_rows }
+        ensures unknown { members_view result.others.entries ≡ no_members }
+    {
+        Material {
+            pbr_specular_glossiness: None,
+            unlit: None,
+            transmission: None,
+            volume: None,
+            specular: None,
+            ior: None,
+            emissive_strength: None,
+            others: Map::new(alloc),
+        }
+    }
+}
 
 impl Object for Material {
     ghost rows = { material_extension_rows };

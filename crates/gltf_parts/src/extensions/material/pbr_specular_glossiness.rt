@@ -1,17 +1,10 @@
 //! The specular-glossiness model (`KHR_materials_pbrSpecularGlossiness`).
 
-ghost use Rattle.std.specs.Prelude.{◌≡◌};
-ghost use Rattle.serde_json.specs.Data.{no_members};
-ghost use Rattle.serde_json.specs.View.{members_view};
-ghost use Rattle.gltf_schema.specs.Defaults.{defaults};
-ghost use Rattle.gltf_parts.specs.MaterialExtension.{pbr_specular_glossiness_rows, pbr_specular_glossiness_members};
-
 use crate::extras::Extras;
 use crate::material::StrengthFactor;
 use crate::texture::Info;
 use gltf_base::Real;
 use serde_json::{Map, Value};
-use std::alloc::Global;
 
 mod derived;
 
@@ -48,26 +41,6 @@ impl Drop for PbrSpecularGlossiness {
     }
 }
 // Written by tools/derive.py: end
-
-impl PbrSpecularGlossiness {
-    /// Returns parameters with every member at its default.
-    #[tactic(auto, unfolding(crate::specs::MaterialExtension::pbr_specular_glossiness_rows, crate::specs::MaterialExtension::pbr_specular_glossiness_members))]
-    pub fn new(alloc: Global) -> PbrSpecularGlossiness
-        ensures known { pbr_specular_glossiness_members result
-            ≡ defaults pbr_specular_glossiness_rows }
-        ensures unknown { members_view result.others.entries ≡ no_members }
-    {
-        PbrSpecularGlossiness {
-            diffuse_factor: PbrDiffuseFactor(None),
-            diffuse_texture: None,
-            specular_factor: PbrSpecularFactor(None),
-            glossiness_factor: StrengthFactor(None),
-            specular_glossiness_texture: None,
-            extras: None,
-            others: Map::new(alloc),
-        }
-    }
-}
 
 /// A diffuse factor: red, green, blue, alpha; `None` means ones.
 #[derive(Clone, Debug, Default, Drop)]

@@ -1,9 +1,5 @@
 //! The specular reflection (`KHR_materials_specular`).
 
-ghost use Rattle.std.specs.Prelude.{◌≡◌};
-ghost use Rattle.gltf_schema.specs.Defaults.{defaults};
-ghost use Rattle.gltf_parts.specs.MaterialExtension.{specular_rows, specular_members};
-
 use crate::extras::Extras;
 use crate::texture::Info;
 use gltf_base::Real;
@@ -37,22 +33,6 @@ impl Drop for Specular {
     }
 }
 // Written by tools/derive.py: end
-
-impl Specular {
-    /// Returns an object with every member at its default.
-    #[tactic(auto, unfolding(crate::specs::MaterialExtension::specular_rows, crate::specs::MaterialExtension::specular_members))]
-    pub fn new() -> Specular
-        ensures { specular_members result ≡ defaults specular_rows }
-    {
-        Specular {
-            specular_factor: SpecularFactor(None),
-            specular_texture: None,
-            specular_color_factor: SpecularColorFactor(None),
-            specular_color_texture: None,
-            extras: None,
-        }
-    }
-}
 
 /// The strength of a specular reflection, from 0 to 1; `None` means 1.
 #[derive(Clone, Debug, Default, Drop)]

@@ -1,9 +1,5 @@
 //! How light passes through a surface (`KHR_materials_transmission`).
 
-ghost use Rattle.std.specs.Prelude.{◌≡◌};
-ghost use Rattle.gltf_schema.specs.Defaults.{defaults};
-ghost use Rattle.gltf_parts.specs.MaterialExtension.{transmission_rows, transmission_members};
-
 use crate::extras::Extras;
 use crate::texture::Info;
 use gltf_base::Real;
@@ -31,20 +27,6 @@ impl Drop for Transmission {
     }
 }
 // Written by tools/derive.py: end
-
-impl Transmission {
-    /// Returns an object by which no light is transmitted.
-    #[tactic(auto, unfolding(crate::specs::MaterialExtension::transmission_rows, crate::specs::MaterialExtension::transmission_members))]
-    pub fn new() -> Transmission
-        ensures { transmission_members result ≡ defaults transmission_rows }
-    {
-        Transmission {
-            transmission_factor: TransmissionFactor(None),
-            transmission_texture: None,
-            extras: None,
-        }
-    }
-}
 
 /// The fraction of light that is transmitted, from 0 to 1; `None` means 0.
 #[derive(Clone, Debug, Default, Drop)]

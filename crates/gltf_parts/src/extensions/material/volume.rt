@@ -1,8 +1,6 @@
 //! The body that a surface bounds (`KHR_materials_volume`).
 
 ghost use Rattle.std.specs.Prelude.{◌≡◌, option_map};
-ghost use Rattle.gltf_schema.specs.Defaults.{defaults};
-ghost use Rattle.gltf_parts.specs.MaterialExtension.{volume_rows, volume_members};
 ghost use Rattle.gltf_schema.specs.Floats.{real_float};
 
 use crate::extras::Extras;
@@ -38,22 +36,6 @@ impl Drop for Volume {
     }
 }
 // Written by tools/derive.py: end
-
-impl Volume {
-    /// Returns an object for a thin-walled surface.
-    #[tactic(auto, unfolding(crate::specs::MaterialExtension::volume_rows, crate::specs::MaterialExtension::volume_members))]
-    pub fn new() -> Volume
-        ensures { volume_members result ≡ defaults volume_rows }
-    {
-        Volume {
-            thickness_factor: ThicknessFactor(None),
-            thickness_texture: None,
-            attenuation_distance: AttenuationDistance(None),
-            attenuation_color: AttenuationColor(None),
-            extras: None,
-        }
-    }
-}
 
 /// The thickness of a volume, in the mesh's coordinate space; `None` means 0, a thin-walled
 /// surface.

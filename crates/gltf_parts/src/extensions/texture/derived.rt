@@ -3,6 +3,7 @@
 
 ghost use Rattle.gltf_parts.specs.Texture.{info_extension_members, info_extension_rows, texture_transform_members, texture_transform_rows};
 ghost use Rattle.gltf_parts.specs.TextureDerived.{info_extension_height, info_extension_sound, texture_transform_height, texture_transform_sound};
+ghost use Rattle.gltf_schema.specs.Defaults.{defaults};
 ghost use Rattle.gltf_schema.specs.Fields.{real_tree, reals_tree};
 ghost use Rattle.gltf_schema.specs.Floats.{float_or, floats_or};
 ghost use Rattle.gltf_schema.specs.Kind.{Number, Numbers};
@@ -18,6 +19,22 @@ use super::{
 use gltf_schema::{Object, ReadRows, StrictObject, StrictRows, Tabled, WriteRows};
 use serde_json::Map;
 use std::alloc::Global;
+
+impl TextureTransform {
+    /// Returns the identity transform.
+    #[tactic(auto, unfolding(crate::specs::Texture::texture_transform_rows, crate::specs::Texture::texture_transform_members))]
+    pub fn new() -> TextureTransform
+        ensures { texture_transform_members result ≡ defaults texture_transform_rows }
+    {
+        TextureTransform {
+            offset: TextureTransformOffset(None),
+            rotation: TextureTransformRotation(None),
+            scale: TextureTransformScale(None),
+            tex_coord: None,
+            extras: None,
+        }
+    }
+}
 
 impl Object for TextureTransform {
     ghost rows = { texture_transform_rows };
@@ -74,6 +91,20 @@ impl StrictObject for TextureTransform {
         to.optional("rotation", &self.rotation.0);
         to.optional("scale", &self.scale.0);
         to.optional("texCoord", &self.tex_coord);
+    }
+}
+
+impl Info {
+    /// Returns an empty extension object.
+    #[tactic(auto, unfolding(crate::specs::Texture::info_extension_rows, crate::specs::Texture::info_extension_members))]
+    pub fn new(alloc: Global) -> Info
+        ensures known { info_extension_members result ≡ defaults info_extension_rows }
+        ensures unknown { members_view result.others.entries ≡ no_members }
+    {
+        Info {
+            texture_transform: None,
+            others: Map::new(alloc),
+        }
     }
 }
 

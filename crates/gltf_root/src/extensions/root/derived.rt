@@ -3,10 +3,11 @@
 
 ghost use Rattle.gltf_root.specs.RootExtension.{lights_members, lights_rows, root_extension_members, root_extension_rows, variants_members, variants_rows};
 ghost use Rattle.gltf_root.specs.RootExtensionDerived.{lights_height, lights_sound, root_extension_height, root_extension_sound, variants_height, variants_sound};
+ghost use Rattle.gltf_schema.specs.Defaults.{defaults};
 ghost use Rattle.serde_json.specs.Data.{no_members};
 ghost use Rattle.serde_json.specs.View.{members_view};
 ghost use Rattle.std.proofs.Common.{lit≤};
-ghost use Rattle.std.specs.Prelude.{false, true};
+ghost use Rattle.std.specs.Prelude.{false, true, ◌≡◌};
 
 use super::{KhrLightsPunctual, KhrMaterialsVariants, Root};
 use gltf_schema::{Object, ReadRows, WriteRows};
@@ -82,6 +83,21 @@ impl Object for KhrMaterialsVariants {
 
     fn write_members<W: WriteRows>(&self, to: &mut W) {
         to.always("variants", &self.variants);
+    }
+}
+
+impl Root {
+    /// Returns an empty extension object.
+    #[tactic(auto, unfolding(crate::specs::RootExtension::root_extension_rows, crate::specs::RootExtension::root_extension_members))]
+    pub fn new(alloc: Global) -> Root
+        ensures known { root_extension_members result ≡ defaults root_extension_rows }
+        ensures unknown { members_view result.others.entries ≡ no_members }
+    {
+        Root {
+            khr_lights_punctual: None,
+            khr_materials_variants: None,
+            others: Map::new(alloc),
+        }
     }
 }
 

@@ -3,10 +3,11 @@
 
 ghost use Rattle.gltf_scene.specs.Mesh.{primitive_extension_members, primitive_extension_rows, variant_mapping_members, variant_mapping_rows, variant_mappings_members, variant_mappings_rows};
 ghost use Rattle.gltf_scene.specs.MeshDerived.{primitive_extension_height, primitive_extension_sound, variant_mapping_height, variant_mapping_sound, variant_mappings_height, variant_mappings_sound};
+ghost use Rattle.gltf_schema.specs.Defaults.{defaults};
 ghost use Rattle.serde_json.specs.Data.{no_members};
 ghost use Rattle.serde_json.specs.View.{members_view};
 ghost use Rattle.std.proofs.Common.{lit≤};
-ghost use Rattle.std.specs.Prelude.{false, true};
+ghost use Rattle.std.specs.Prelude.{false, true, ◌≡◌};
 
 use super::{KhrMaterialsVariants, Mapping, Primitive};
 use gltf_schema::{Object, ReadRows, WriteRows};
@@ -85,6 +86,20 @@ impl Object for KhrMaterialsVariants {
 
     fn write_members<W: WriteRows>(&self, to: &mut W) {
         to.always("mappings", &self.mappings);
+    }
+}
+
+impl Primitive {
+    /// Returns an empty extension object.
+    #[tactic(auto, unfolding(crate::specs::Mesh::primitive_extension_rows, crate::specs::Mesh::primitive_extension_members))]
+    pub fn new(alloc: Global) -> Primitive
+        ensures known { primitive_extension_members result ≡ defaults primitive_extension_rows }
+        ensures unknown { members_view result.others.entries ≡ no_members }
+    {
+        Primitive {
+            khr_materials_variants: None,
+            others: Map::new(alloc),
+        }
     }
 }
 

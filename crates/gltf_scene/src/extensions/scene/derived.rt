@@ -3,14 +3,30 @@
 
 ghost use Rattle.gltf_scene.specs.Scene.{node_extension_members, node_extension_rows};
 ghost use Rattle.gltf_scene.specs.SceneDerived.{node_extension_height, node_extension_sound};
+ghost use Rattle.gltf_schema.specs.Defaults.{defaults};
+ghost use Rattle.serde_json.specs.Data.{no_members};
 ghost use Rattle.serde_json.specs.View.{members_view};
 ghost use Rattle.std.proofs.Common.{lit≤};
-ghost use Rattle.std.specs.Prelude.{true};
+ghost use Rattle.std.specs.Prelude.{true, ◌≡◌};
 
 use super::Node;
 use gltf_schema::{Object, ReadRows, WriteRows};
 use serde_json::Map;
 use std::alloc::Global;
+
+impl Node {
+    /// Returns an empty extension object.
+    #[tactic(auto, unfolding(crate::specs::Scene::node_extension_rows, crate::specs::Scene::node_extension_members))]
+    pub fn new(alloc: Global) -> Node
+        ensures known { node_extension_members result ≡ defaults node_extension_rows }
+        ensures unknown { members_view result.others.entries ≡ no_members }
+    {
+        Node {
+            khr_lights_punctual: None,
+            others: Map::new(alloc),
+        }
+    }
+}
 
 impl Object for Node {
     ghost rows = { node_extension_rows };

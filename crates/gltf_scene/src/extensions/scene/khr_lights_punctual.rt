@@ -2,12 +2,11 @@
 
 ghost use Rattle.std.specs.Prelude.{◌≡◌, [], ◌∷◌, codes};
 ghost use Rattle.gltf_base.specs.Lists.{lights};
-ghost use Rattle.gltf_schema.specs.Defaults.{defaults};
 ghost use Rattle.gltf_base.specs.SceneChoices.{light_type_spelling};
 ghost use Rattle.gltf_schema.specs.Tree.{chosen};
 ghost use Rattle.gltf_schema.specs.WithDefaults.{with_defaults};
 ghost use Rattle.gltf_schema.specs.Fields.{index_tree};
-ghost use Rattle.gltf_scene.specs.Light.{light_of_node_rows, light_rows, spot_rows, light_of_node_members, light_members, spot_members};
+ghost use Rattle.gltf_scene.specs.Light.{light_of_node_rows, light_rows, light_of_node_members, light_members};
 
 pub use gltf_base::extensions::scene::khr_lights_punctual::{LightType, Type, VALID_TYPES};
 use gltf_base::validation::Checked;
@@ -115,17 +114,6 @@ pub struct Spot {
 }
 
 impl Spot {
-    /// Returns a cone with every member at its default.
-    #[tactic(auto, unfolding(crate::specs::Light::spot_rows, crate::specs::Light::spot_members))]
-    pub fn new() -> Spot
-        ensures { spot_members result ≡ defaults spot_rows }
-    {
-        Spot {
-            inner_cone_angle: None,
-            outer_cone_angle: None,
-        }
-    }
-
     /// The number that an absent `inner_cone_angle` means.
     pub const DEFAULT_INNER_CONE_ANGLE: f64 = 0.0;
 

@@ -3,6 +3,7 @@
 
 ghost use Rattle.gltf_parts.specs.MaterialExtension.{emissive_strength_members, emissive_strength_rows};
 ghost use Rattle.gltf_parts.specs.MaterialExtensionDerived.{emissive_strength_height, emissive_strength_sound};
+ghost use Rattle.gltf_schema.specs.Defaults.{defaults};
 ghost use Rattle.gltf_schema.specs.Fields.{real_tree};
 ghost use Rattle.gltf_schema.specs.Floats.{float_or};
 ghost use Rattle.gltf_schema.specs.Kind.{Number};
@@ -14,6 +15,18 @@ ghost use Rattle.std.specs.Prelude.{false, ◌≡◌};
 use super::{EmissiveStrength, EmissiveStrengthFactor};
 use gltf_schema::{Object, ReadRows, Tabled, WriteRows};
 use std::alloc::Global;
+
+impl EmissiveStrength {
+    /// Returns the default strength.
+    #[tactic(auto, unfolding(crate::specs::MaterialExtension::emissive_strength_rows, crate::specs::MaterialExtension::emissive_strength_members))]
+    pub fn new() -> EmissiveStrength
+        ensures { emissive_strength_members result ≡ defaults emissive_strength_rows }
+    {
+        EmissiveStrength {
+            emissive_strength: EmissiveStrengthFactor(None),
+        }
+    }
+}
 
 impl Object for EmissiveStrength {
     ghost rows = { emissive_strength_rows };

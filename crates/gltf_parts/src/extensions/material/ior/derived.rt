@@ -3,6 +3,7 @@
 
 ghost use Rattle.gltf_parts.specs.MaterialExtension.{ior_members, ior_rows};
 ghost use Rattle.gltf_parts.specs.MaterialExtensionDerived.{ior_height, ior_sound};
+ghost use Rattle.gltf_schema.specs.Defaults.{defaults};
 ghost use Rattle.gltf_schema.specs.Fields.{real_tree};
 ghost use Rattle.gltf_schema.specs.Floats.{float_or};
 ghost use Rattle.gltf_schema.specs.Kind.{Number};
@@ -14,6 +15,19 @@ ghost use Rattle.std.specs.Prelude.{false, ◌≡◌};
 use super::{IndexOfRefraction, Ior};
 use gltf_schema::{Object, ReadRows, Tabled, WriteRows};
 use std::alloc::Global;
+
+impl Ior {
+    /// Returns the default index of refraction.
+    #[tactic(auto, unfolding(crate::specs::MaterialExtension::ior_rows, crate::specs::MaterialExtension::ior_members))]
+    pub fn new() -> Ior
+        ensures { ior_members result ≡ defaults ior_rows }
+    {
+        Ior {
+            ior: IndexOfRefraction(None),
+            extras: None,
+        }
+    }
+}
 
 impl Object for Ior {
     ghost rows = { ior_rows };

@@ -4,10 +4,12 @@
 
 ghost use Rattle.gltf_parts.specs.MaterialExtension.{pbr_specular_glossiness_members, pbr_specular_glossiness_rows};
 ghost use Rattle.gltf_parts.specs.MaterialExtensionDerived.{pbr_specular_glossiness_height, pbr_specular_glossiness_sound};
+ghost use Rattle.gltf_schema.specs.Defaults.{defaults};
 ghost use Rattle.gltf_schema.specs.Fields.{reals_tree};
 ghost use Rattle.gltf_schema.specs.Floats.{floats_or};
 ghost use Rattle.gltf_schema.specs.Kind.{Numbers};
 ghost use Rattle.gltf_schema.specs.Tree.{tree_or_absent};
+ghost use Rattle.serde_json.specs.Data.{no_members};
 ghost use Rattle.serde_json.specs.View.{members_view};
 ghost use Rattle.std.proofs.Common.{lit≤};
 ghost use Rattle.std.specs.Prelude.{true, ◌≡◌};
@@ -17,6 +19,25 @@ use crate::material::StrengthFactor;
 use gltf_schema::{Object, ReadRows, StrictObject, StrictRows, Tabled, WriteRows};
 use serde_json::Map;
 use std::alloc::Global;
+
+impl PbrSpecularGlossiness {
+    /// Returns parameters with every member at its default.
+    #[tactic(auto, unfolding(crate::specs::MaterialExtension::pbr_specular_glossiness_rows, crate::specs::MaterialExtension::pbr_specular_glossiness_members))]
+    pub fn new(alloc: Global) -> PbrSpecularGlossiness
+        ensures known { pbr_specular_glossiness_members result ≡ defaults pbr_specular_glossiness_rows }
+        ensures unknown { members_view result.others.entries ≡ no_members }
+    {
+        PbrSpecularGlossiness {
+            diffuse_factor: PbrDiffuseFactor(None),
+            diffuse_texture: None,
+            specular_factor: PbrSpecularFactor(None),
+            glossiness_factor: StrengthFactor(None),
+            specular_glossiness_texture: None,
+            extras: None,
+            others: Map::new(alloc),
+        }
+    }
+}
 
 impl Object for PbrSpecularGlossiness {
     ghost rows = { pbr_specular_glossiness_rows };

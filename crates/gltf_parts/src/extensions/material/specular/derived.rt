@@ -3,6 +3,7 @@
 
 ghost use Rattle.gltf_parts.specs.MaterialExtension.{specular_members, specular_rows};
 ghost use Rattle.gltf_parts.specs.MaterialExtensionDerived.{specular_height, specular_sound};
+ghost use Rattle.gltf_schema.specs.Defaults.{defaults};
 ghost use Rattle.gltf_schema.specs.Fields.{real_tree, reals_tree};
 ghost use Rattle.gltf_schema.specs.Floats.{float_or, floats_or};
 ghost use Rattle.gltf_schema.specs.Kind.{Number, Numbers};
@@ -14,6 +15,22 @@ ghost use Rattle.std.specs.Prelude.{false, ◌≡◌};
 use super::{Specular, SpecularColorFactor, SpecularFactor};
 use gltf_schema::{Object, ReadRows, StrictObject, StrictRows, Tabled, WriteRows};
 use std::alloc::Global;
+
+impl Specular {
+    /// Returns an object with every member at its default.
+    #[tactic(auto, unfolding(crate::specs::MaterialExtension::specular_rows, crate::specs::MaterialExtension::specular_members))]
+    pub fn new() -> Specular
+        ensures { specular_members result ≡ defaults specular_rows }
+    {
+        Specular {
+            specular_factor: SpecularFactor(None),
+            specular_texture: None,
+            specular_color_factor: SpecularColorFactor(None),
+            specular_color_texture: None,
+            extras: None,
+        }
+    }
+}
 
 impl Object for Specular {
     ghost rows = { specular_rows };

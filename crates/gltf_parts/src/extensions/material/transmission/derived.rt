@@ -3,6 +3,7 @@
 
 ghost use Rattle.gltf_parts.specs.MaterialExtension.{transmission_members, transmission_rows};
 ghost use Rattle.gltf_parts.specs.MaterialExtensionDerived.{transmission_height, transmission_sound};
+ghost use Rattle.gltf_schema.specs.Defaults.{defaults};
 ghost use Rattle.gltf_schema.specs.Fields.{real_tree};
 ghost use Rattle.gltf_schema.specs.Floats.{float_or};
 ghost use Rattle.gltf_schema.specs.Kind.{Number};
@@ -14,6 +15,20 @@ ghost use Rattle.std.specs.Prelude.{false, ◌≡◌};
 use super::{Transmission, TransmissionFactor};
 use gltf_schema::{Object, ReadRows, StrictObject, StrictRows, Tabled, WriteRows};
 use std::alloc::Global;
+
+impl Transmission {
+    /// Returns an object by which no light is transmitted.
+    #[tactic(auto, unfolding(crate::specs::MaterialExtension::transmission_rows, crate::specs::MaterialExtension::transmission_members))]
+    pub fn new() -> Transmission
+        ensures { transmission_members result ≡ defaults transmission_rows }
+    {
+        Transmission {
+            transmission_factor: TransmissionFactor(None),
+            transmission_texture: None,
+            extras: None,
+        }
+    }
+}
 
 impl Object for Transmission {
     ghost rows = { transmission_rows };

@@ -3,6 +3,7 @@
 
 ghost use Rattle.gltf_parts.specs.MaterialExtension.{volume_members, volume_rows};
 ghost use Rattle.gltf_parts.specs.MaterialExtensionDerived.{volume_height, volume_sound};
+ghost use Rattle.gltf_schema.specs.Defaults.{defaults};
 ghost use Rattle.gltf_schema.specs.Fields.{real_tree, reals_tree};
 ghost use Rattle.gltf_schema.specs.Floats.{float_or, floats_or};
 ghost use Rattle.gltf_schema.specs.Kind.{Number, Numbers};
@@ -14,6 +15,22 @@ ghost use Rattle.std.specs.Prelude.{false, ◌≡◌};
 use super::{AttenuationColor, AttenuationDistance, ThicknessFactor, Volume};
 use gltf_schema::{Object, ReadRows, StrictObject, StrictRows, Tabled, WriteRows};
 use std::alloc::Global;
+
+impl Volume {
+    /// Returns an object for a thin-walled surface.
+    #[tactic(auto, unfolding(crate::specs::MaterialExtension::volume_rows, crate::specs::MaterialExtension::volume_members))]
+    pub fn new() -> Volume
+        ensures { volume_members result ≡ defaults volume_rows }
+    {
+        Volume {
+            thickness_factor: ThicknessFactor(None),
+            thickness_texture: None,
+            attenuation_distance: AttenuationDistance(None),
+            attenuation_color: AttenuationColor(None),
+            extras: None,
+        }
+    }
+}
 
 impl Object for Volume {
     ghost rows = { volume_rows };

@@ -3,6 +3,7 @@
 
 ghost use Rattle.gltf_scene.specs.Light.{light_members, light_of_node_members, light_of_node_rows, light_rows, spot_members, spot_rows};
 ghost use Rattle.gltf_scene.specs.LightDerived.{light_height, light_of_node_height, light_of_node_sound, light_sound, spot_height, spot_sound};
+ghost use Rattle.gltf_schema.specs.Defaults.{defaults};
 ghost use Rattle.gltf_schema.specs.Floats.{float_or, floats_or};
 ghost use Rattle.gltf_schema.specs.Kind.{needs_cone};
 ghost use Rattle.serde_json.specs.Data.{no_members};
@@ -48,6 +49,19 @@ impl Object for KhrLightsPunctual {
 
     fn write_members<W: WriteRows>(&self, to: &mut W) {
         to.always("light", &self.light);
+    }
+}
+
+impl Spot {
+    /// Returns a cone with every member at its default.
+    #[tactic(auto, unfolding(crate::specs::Light::spot_rows, crate::specs::Light::spot_members))]
+    pub fn new() -> Spot
+        ensures { spot_members result ≡ defaults spot_rows }
+    {
+        Spot {
+            inner_cone_angle: None,
+            outer_cone_angle: None,
+        }
     }
 }
 

@@ -1,0 +1,49 @@
+-- How the parts of what is found are put together.
+use Rattle.std.proofs.Common.{◌≡◌, ℕ, List, [], map, Option, Some, None, Ok, sym, subst, refl}
+use Rattle.gltf_root.specs.Answer.{answer, document, no_json, no_document}
+use Rattle.gltf_root.specs.Root.{root_tree}
+use Rattle.gltf_root.specs.declared.root.Root.{Root}
+use Rattle.gltf_schema.specs.declared.outline.Outline.{Outline}
+use Rattle.gltf_findings_codes.specs.declared.finding.Finding.{Finding}
+use Rattle.gltf_findings_glb.specs.declared.finding.GlbFinding.{GlbFinding}
+use Rattle.gltf_findings_members.specs.Noted.{Noted, noted}
+use Rattle.gltf_findings_lines.specs.Checked.{AreDocumentFindings, AreMembers, IsFound, IsFoundBy, IsFoundIn, IsPrinted}
+use Rattle.gltf_findings_lines.specs.Parts.{FileParts, container_findings, file_parts}
+use Rattle.gltf_findings_lines.specs.Sources.{all_located}
+use Rattle.gltf_findings_lines.specs.declared.check.Found.{Found}
+use Rattle.gltf_findings_lines.specs.declared.check.Unread.TheVariants.{NoJson, NoDocument}
+use Rattle.gltf_findings_lines.specs.declared.file.File.{File}
+use Rattle.gltf_findings_lines.specs.declared.options.FindingOptions.{FindingOptions}
+use Rattle.gltf_findings_lines.specs.declared.sources.Sources.{Sources}
+
+module _ {o : FindingOptions} {file : File} {s : Sources} {parts : FileParts} {found : Found} where
+  -- by a document
+  pub document_found : (r : Root) (all : List Finding) → answer parts.0 ≡ document (root_tree r) → AreDocumentFindings r parts.1 all
+      → IsPrinted o file (all_located s.container.now (map noted s.members.now) all) (Some r) None found → IsFoundIn o file s parts found
+  document_found r all due are printed = record { root = Some r; findings = all; unread = None; is_document = (due, are); printed = printed }
+
+  -- by what is no JSON
+  pub no_json_found : answer parts.0 ≡ no_json → IsPrinted o file (all_located s.container.now (map noted s.members.now) []) None (Some NoJson) found
+      → IsFoundIn o file s parts found
+  no_json_found due printed = record { root = None; findings = []; unread = Some NoJson; is_document = (due, refl); printed = printed }
+
+  -- by JSON that is no document
+  pub no_document_found : answer parts.0 ≡ no_document → IsPrinted o file (all_located s.container.now (map noted s.members.now) []) None (Some NoDocument) found
+      → IsFoundIn o file s parts found
+  no_document_found due printed = record { root = None; findings = []; unread = Some NoDocument; is_document = (due, refl); printed = printed }
+
+  -- by the parts of a file
+  pub parts_found : (outline : Outline) (ms : List Noted) → file_parts file ≡ Ok parts → s.container.now ≡ container_findings file
+      → map noted s.members.now ≡ ms → AreMembers outline parts.0 ms → IsFoundIn o file s parts found → IsFound outline o file found
+  parts_found outline ms read container members are h =
+      let with_container : (xs : List GlbFinding) → Type 0 = λ (xs : List GlbFinding). IsPrinted o file (all_located xs (map noted s.members.now) h.findings) h.root h.unread found in
+      let with_members : (xs : List Noted) → Type 0 = λ (xs : List Noted). IsPrinted o file (all_located (container_findings file) xs h.findings) h.root h.unread found in
+      subst (λ r. IsFoundBy outline o file r found) (sym read) (record {
+        members = ms;
+        are_members = are;
+        root = h.root;
+        findings = h.findings;
+        unread = h.unread;
+        is_document = h.is_document;
+        printed = subst with_members members (subst with_container container h.printed);
+      })

@@ -1,0 +1,7 @@
+pub mod AllNames
+pub mod Built
+pub mod EachCode
+pub mod InfoMembers
+pub mod Listed
+pub mod NoFloats
+pub mod Unsaid

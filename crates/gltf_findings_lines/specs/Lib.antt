@@ -1,0 +1,12 @@
+pub mod Checked
+pub mod Chosen
+pub mod Counted
+pub mod FindingLines
+pub mod Geometry
+pub mod Info
+pub mod Khronos
+pub mod Located
+pub mod Members
+pub mod Named
+pub mod Parts
+pub mod Sources

@@ -1,0 +1,24 @@
+//! How findings are chosen and printed.
+
+use crate::choices::Choices;
+use gltf_lint_lines::Format;
+
+/// What is printed for a file.
+#[derive(Clone, Copy, Debug, PartialEq, Eq)]
+pub enum Style {
+    /// A line for each finding.
+    Lines(Format),
+    /// A line with a report in the form of the Khronos glTF-Validator.
+    Khronos,
+}
+
+/// How findings are chosen and printed.
+#[derive(Clone, Copy)]
+pub struct FindingOptions<'a> {
+    /// Which findings are printed, and how severe they are.
+    pub choices: Choices<'a>,
+    /// What is printed.
+    pub style: Style,
+    /// The most findings that are printed for a file.
+    pub most: u64,
+}

@@ -1,0 +1,159 @@
+//! The findings of a file from all sources, in one list.
+
+ghost use Rattle.std.specs.Prelude.{◌≡◌, ◌++◌, ◌||◌, ℕ, List, IfOk, OnOk, map, string_bytes};
+ghost use Rattle.std.specs.BTreeSet.{contains_text};
+ghost use Rattle.gltf_findings_members.specs.Noted.{noted};
+ghost use Rattle.gltf_base.specs.Pointers.{pointer_text};
+ghost use Rattle.gltf_findings_codes.specs.Places.{place_steps};
+ghost use Rattle.gltf_findings_lines.specs.Located.{located};
+ghost use Rattle.gltf_findings_lines.specs.Sources.{gathered, is_said, located_glb, located_noted, pointed, said, says, unsaid_in, unsaid_one};
+
+use crate::finding::{FileFinding, Location};
+use gltf_findings_codes::{Code, Finding};
+use gltf_findings_glb::GlbFinding;
+use gltf_findings_members::Notice;
+use std::alloc::{AllocError, Global};
+use std::collections::BTreeSet;
+use std::fmt::Write;
+
+/// What is wrong with a file, by its source.
+#[derive(Clone, Copy)]
+pub(crate) struct Sources<'a> {
+    /// What is wrong with the container.
+    pub(crate) container: &'a [GlbFinding],
+    /// What is wrong with the members of the JSON.
+    pub(crate) members: &'a [Notice],
+    /// What is wrong with the document.
+    pub(crate) document: &'a [Finding],
+}
+
+impl<'a> Sources<'a> {
+    /// All findings in order. What the members have too is left out of those of the document.
+    pub(crate) fn gathered(&self, alloc: Global) -> Result<Vec<FileFinding<'a>>, AllocError>
+        ensures { IfOk result (λ all. map located all.items ≡ gathered self.now) }
+    {
+        let said = said_by(alloc, self.members)?;
+        let mut all = Vec::new(alloc);
+        add_container(&mut all, self.container)?;
+        add_members(&mut all, self.members)?;
+        add_document(alloc, &mut all, &said, self.document)?;
+        Ok(all)
+    }
+}
+
+/// Adds the findings of a container. This and the calls below fail only if out of memory.
+fn add_container(to: &mut Vec<FileFinding<'_>>, findings: &[GlbFinding]) -> Result<(), AllocError>
+    ensures { OnOk result (map located to.new.items
+        ≡ map located to.old.items ++ map located_glb findings.now) }
+{
+    for finding in findings {
+        to.push(FileFinding {
+            code: finding.code,
+            location: Location::Byte(finding.offset),
+        })?;
+    }
+    Ok(())
+}
+
+/// Adds the findings of members.
+fn add_members<'a>(to: &mut Vec<FileFinding<'a>>, notices: &'a [Notice]) -> Result<(), AllocError>
+    ensures { OnOk result (map located to.new.items
+        ≡ map located to.old.items ++ map located_noted (map noted notices.now)) }
+{
+    for notice in notices {
+        to.push(FileFinding {
+            code: notice.code,
+            location: Location::Pointer(&notice.pointer),
+        })?;
+    }
+    Ok(())
+}
+
+/// Adds the findings of a document that are not said before.
+fn add_document(
+    alloc: Global,
+    to: &mut Vec<FileFinding<'_>>,
+    said: &BTreeSet<String>,
+    findings: &[Finding],
+) -> Result<(), AllocError>
+    ensures { OnOk result (map located to.new.items
+        ≡ map located to.old.items ++ unsaid_in said.now findings.now) }
+{
+    for finding in findings {
+        add_unsaid(alloc, to, said, finding)?;
+    }
+    Ok(())
+}
+
+/// Adds a finding of a document, unless it is said before.
+fn add_unsaid(
+    alloc: Global,
+    to: &mut Vec<FileFinding<'_>>,
+    said: &BTreeSet<String>,
+    finding: &Finding,
+) -> Result<(), AllocError>
+    ensures { OnOk result (map located to.new.items
+        ≡ map located to.old.items ++ unsaid_one (contains_text said.now) finding.now) }
+{
+    let text = finding_text(alloc, finding)?;
+    if said.contains(text.as_str()) {
+        return Ok(());
+    }
+    to.push(FileFinding {
+        code: finding.code,
+        location: Location::Place(finding.place),
+    })?;
+    Ok(())
+}
+
+/// What notices say, as texts.
+fn said_by(alloc: Global, notices: &[Notice]) -> Result<BTreeSet<String>, AllocError>
+    ensures { IfOk result (λ found. (q : List ℕ)
+        → contains_text found q ≡ is_said (map noted notices.now) q) }
+{
+    let mut found = BTreeSet::new(alloc);
+    for notice in notices {
+        add_said(alloc, &mut found, notice)?;
+    }
+    Ok(found)
+}
+
+/// Adds what a notice says.
+fn add_said(alloc: Global, to: &mut BTreeSet<String>, notice: &Notice) -> Result<(), AllocError>
+    ensures { OnOk result ((q : List ℕ) → contains_text to.new q
+        ≡ (contains_text to.old q || says notice.now q)) }
+{
+    to.insert(said(alloc, notice.code, &notice.pointer)?)?;
+    Ok(())
+}
+
+/// What a finding of the document says, as a text.
+fn finding_text(alloc: Global, finding: &Finding) -> Result<String, AllocError>
+    ensures { IfOk result (λ text. string_bytes text
+        ≡ said finding.now.code (pointer_text (place_steps finding.now.place))) }
+{
+    let pointer = finding.place.pointer(alloc)?;
+    said(alloc, finding.code, &pointer)
+}
+
+/// What is said of a place, as a text.
+fn said(alloc: Global, code: Code, pointer: &str) -> Result<String, AllocError>
+    ensures { IfOk result (λ text. string_bytes text ≡ said code pointer.now) }
+{
+    let mut text = String::new(alloc);
+    match code {
+        // A `Root` keeps no name of an attribute without a meaning, and so the places differ.
+        Code::MeshPrimitiveInvalidAttribute => text.push_str(code.name())?,
+        _ => push_said(&mut text, code, pointer)?,
+    }
+    Ok(text)
+}
+
+/// Appends a pointer and a code.
+fn push_said(text: &mut String, code: Code, pointer: &str) -> Result<(), AllocError>
+    ensures { OnOk result (string_bytes text.new
+        ≡ string_bytes text.old ++ pointed code pointer.now) }
+{
+    let name = code.name();
+    write!(text, "{pointer}: {name}")
+}

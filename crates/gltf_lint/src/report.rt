@@ -1,0 +1,78 @@
+//! The report of a file that is refused, in the form of the Khronos glTF-Validator.
+
+use crate::files::has_extension;
+use crate::refusal::Refusal;
+use gltf_findings_lines::{File, refusal_report};
+use gltf_glb::Error as GlbError;
+use gltf_root::root::Found;
+use std::alloc::{AllocError, Global};
+
+/// The code of the validator for a refusal. It has none for a lack of memory.
+fn code_of(refusal: &Refusal) -> &'static str {
+    match refusal {
+        Refusal::Unreadable(_)
+        | Refusal::Unread(_)
+        | Refusal::Argument
+        | Refusal::EntryName
+        | Refusal::Empty => "IO_ERROR",
+        Refusal::Container(error) => container_code(error),
+        Refusal::Json(_)
+        | Refusal::Text {
+            fault: _,
+            line: _,
+            column: _,
+        } => "INVALID_JSON",
+        Refusal::Version1(_) => "UNKNOWN_ASSET_MAJOR_VERSION",
+        Refusal::Schema => "TYPE_MISMATCH",
+        Refusal::Member(mismatch) => match mismatch.found {
+            Found::Missing => "UNDEFINED_PROPERTY",
+            _ => "TYPE_MISMATCH",
+        },
+        Refusal::Memory => "OUT_OF_MEMORY",
+    }
+}
+
+/// The code of the validator for the fault of a container.
+fn container_code(error: &GlbError) -> &'static str {
+    match error {
+        GlbError::HeaderCutOff => "GLB_UNEXPECTED_END_OF_HEADER",
+        GlbError::NoMagic => "GLB_INVALID_MAGIC",
+        GlbError::Version(_) => "GLB_INVALID_VERSION",
+        GlbError::Length(_) => "GLB_LENGTH_MISMATCH",
+        GlbError::ChunkHeaderCutOff => "GLB_UNEXPECTED_END_OF_CHUNK_HEADER",
+        GlbError::ChunkUnaligned(_) => "GLB_CHUNK_LENGTH_UNALIGNED",
+        GlbError::ChunkCutOff(_) => "GLB_UNEXPECTED_END_OF_CHUNK_DATA",
+        GlbError::FirstChunk(_) => "GLB_UNEXPECTED_FIRST_CHUNK",
+        GlbError::JsonPadding => "INVALID_JSON",
+        GlbError::SecondJson => "GLB_DUPLICATE_CHUNK",
+        GlbError::MisplacedBin => "GLB_UNEXPECTED_BIN_CHUNK",
+    }
+}
+
+/// The JSON pointer of the place that a refusal is about, if it is known.
+fn pointer_of(refusal: &Refusal) -> Option<&str> {
+    match refusal {
+        Refusal::Version1(_) => Some("/asset/version"),
+        _ => match refusal.place() {
+            Some(place) => Some(place.pointer.as_str()),
+            None => None,
+        },
+    }
+}
+
+/// The report of a file that is refused. It says nothing of what a document holds.
+pub fn report_of(alloc: Global, name: &str, refusal: &Refusal) -> Result<String, AllocError> {
+    let file = File {
+        name,
+        bytes: &[],
+        is_container: has_extension(name, ".glb"),
+    };
+    let message = refusal.to_string(alloc)?;
+    refusal_report(
+        alloc,
+        &file,
+        code_of(refusal),
+        &message,
+        pointer_of(refusal),
+    )
+}

@@ -1,5 +1,5 @@
 -- What remains of the outlines of frames.
-use Rattle.std.specs.Prelude.{◌≡◌, ℕ, List, [], ◌∷◌, map, Option, Some, None, MatchOption, ⊤}
+use Rattle.std.specs.Prelude.{◌≡◌, ℕ, List, [], ◌∷◌, ◌++◌, map, Option, Some, None, MatchOption}
 use Rattle.std.specs.Borrow.{Bor}
 use Rattle.std.specs.List.{filter}
 use Rattle.std.specs.Ordering.{is_lt}
@@ -13,9 +13,11 @@ use Rattle.gltf_base.specs.Lists.{ListName}
 use Rattle.gltf_schema.specs.Fields.{entry_of}
 use Rattle.gltf_root.specs.Lists.{count_in}
 use Rattle.gltf_validation_rules.specs.Context.{Context}
-use Rattle.gltf_validation_objects.specs.ValueRefs.{outline_of, IsNumbered}
-use Rattle.gltf_validation_objects.specs.Outline.{Outline, place, rest_after}
+use Rattle.gltf_validation_objects.specs.ValueRefs.{outline_of}
+use Rattle.gltf_validation_objects.specs.Moves.{move_of, IsMore}
+use Rattle.gltf_validation_objects.specs.Outline.{Outline, place, first_move, rest_after}
 use Rattle.gltf_validation_objects.specs.OutlineOf.{entry_outlines}
+use Rattle.gltf_validation_objects.specs.declared.event.Event.{Event}
 use Rattle.gltf_validation_objects.specs.declared.value_ref.ValueRef.{ValueRef}
 use Rattle.gltf_validation_objects.specs.declared.value_ref.ValueRef.TheVariants as value_ref
 use Rattle.gltf_validation_walk.specs.declared.frame.Frame.{Frame}
@@ -52,3 +54,7 @@ outline_left context f = value_left context f.value f.number f.behind
 
 abbrev pub outlines_left : Context → List Frame → List Outline
 outlines_left context fs = map (outline_left context) fs
+
+-- the event is the first move of the last frame, which is behind it then; the frames below stay
+abbrev pub IsNextOfLast : Context → List Frame → Event → List Frame → Type 0
+IsNextOfLast context fs e gs = (front : List Frame) × (f : Frame) × (g : Frame) × (fs ≡ front ++ f ∷ []) × (gs ≡ front ++ g ∷ []) × (move_of context e ≡ first_move (outline_left context f)) × (IsMore e → outline_left context g ≡ rest_after (outline_left context f) 1)

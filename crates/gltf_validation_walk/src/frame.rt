@@ -1,10 +1,10 @@
 //! Where a walk is in one value of a document, and what comes next there.
 
-ghost use Rattle.std.specs.Prelude.{◌≡◌, ◌∷◌, []};
+ghost use Rattle.std.specs.Prelude.{◌≡◌, ◌<◌, ◌∷◌, [], length};
 ghost use Rattle.gltf_validation_rules.specs.Context.{context_of};
 ghost use Rattle.gltf_validation_objects.specs.Moves.{move_of, IsMore};
 ghost use Rattle.gltf_validation_objects.specs.Outline.{first_move, rest_after};
-ghost use Rattle.gltf_validation_walk.specs.Rest.{first_frame, outline_left};
+ghost use Rattle.gltf_validation_walk.specs.Rest.{first_frame, outline_left, IsNextOfLast};
 
 use crate::attributes::next_attribute;
 use arrayvec::ArrayVec;
@@ -53,8 +53,21 @@ pub(crate) fn begun_in(value: ValueRef<'_>) -> ArrayVec<Frame<'_>, 16>
     frames
 }
 
+/// The next event of the last frame, which is behind that event then.
+// The frame stays where it is: it has several words.
+pub(crate) fn next_of_last<'a>(
+    frames: &mut ArrayVec<Frame<'a>, 16>,
+    context: &Context<'_>,
+) -> Event<'a>
+    requires { 0 < length frames.old.items }
+    ensures { IsNextOfLast (context_of context.now) frames.old.items result frames.new.items }
+{
+    let last = frames.len() - 1;
+    next_event(&mut frames[last], context)
+}
+
 /// The next event of a frame, which is behind that event then.
-pub(crate) fn next_event<'a>(frame: &mut Frame<'a>, context: &Context<'_>) -> Event<'a>
+fn next_event<'a>(frame: &mut Frame<'a>, context: &Context<'_>) -> Event<'a>
     ensures comes { move_of (context_of context.now) result
         ≡ first_move (outline_left (context_of context.now) frame.old) }
     ensures rest { IsMore result

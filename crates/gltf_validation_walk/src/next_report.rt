@@ -10,12 +10,12 @@ ghost use Rattle.gltf_schema.specs.Height.{kind_height};
 ghost use Rattle.gltf_validation_objects.specs.Outline.{leaf};
 ghost use Rattle.gltf_validation_walk.specs.ToCome.{base_count, depth_in, to_come_in, path_in, to_come, path_of, IsNext, IsNextOf};
 
-use crate::frame::{Frame, begun_in, next_event};
+use crate::frame::{Frame, begun_in, next_of_last};
 use crate::walk::{ValueWalk, Walk};
 use gltf_base::Steps;
 use gltf_base::validation::Error;
 use gltf_root::root::Root;
-use gltf_validation_objects::{Event, Visitable};
+use gltf_validation_objects::{Event, ValueRef, Visitable};
 use gltf_validation_rules::{Context, Rules};
 use gltf_validation_values::is_quiet;
 
@@ -60,21 +60,28 @@ impl<'a> ValueWalk<'a> {
         ensures depth { depth_in self.new ≤ depth_in self.old }
         ensures full { OnErr result (16 < base_count self.old + depth_in self.old) }
     {
-        while let Some(mut frame) = self.frames.pop() {
+        while !self.frames.is_empty() {
             let context = Context {
                 rules: &self.rules,
                 root: self.root,
             };
-            match next_event(&mut frame, &context) {
+            match next_of_last(&mut self.frames, &context) {
                 Event::End => {
+                    let _ = self.frames.pop();
                     let _ = self.steps.pop();
                 }
-                Event::Fault(error) => {
-                    self.frames.push(frame);
+                Event::Fault(error) => return Ok(Some(error)),
+                Event::Enter(_, ValueRef::Leaf(None)) => {}
+                // Nothing comes behind its fault.
+                Event::Enter(step, ValueRef::Leaf(Some(error))) => {
+                    if self.steps.is_full() {
+                        return Err(StepsFull);
+                    }
+                    self.frames.push(Frame::at_start(ValueRef::Leaf(None)));
+                    self.steps.push(step);
                     return Ok(Some(error));
                 }
                 Event::Enter(step, value) => {
-                    self.frames.push(frame);
                     // Most of what a walk comes to has nothing wrong in it.
                     if !is_quiet(&value, &context) {
                         if self.steps.is_full() {

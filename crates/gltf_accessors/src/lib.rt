@@ -12,8 +12,6 @@ mod outputs;
 mod part;
 mod primitive_indices;
 mod reading;
-#[cfg(test)]
-mod tests;
 mod vectors;
 
 pub use attributes::{Colors, Joints};

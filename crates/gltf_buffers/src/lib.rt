@@ -10,8 +10,6 @@ mod folder;
 mod list;
 mod path;
 mod resolve;
-#[cfg(test)]
-mod tests;
 
 pub use buffers::Buffers;
 pub use data::{DataError, DataFault, decode_data_uri, is_data_uri};

@@ -15,8 +15,6 @@ mod nodes;
 mod place;
 mod scene;
 mod skin;
-#[cfg(test)]
-mod tests;
 
 pub use document::Document;
 pub use fault::LayoutFault;

@@ -15,8 +15,6 @@ mod iter;
 pub mod laws;
 mod normalized;
 mod sparse;
-#[cfg(test)]
-mod tests;
 
 pub use accessor::Accessor;
 pub use component::Component;

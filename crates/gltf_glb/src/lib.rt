@@ -3,8 +3,6 @@
 
 mod error;
 mod glb;
-#[cfg(test)]
-mod tests;
 mod write;
 
 pub use error::Error;

@@ -15,8 +15,6 @@ mod hierarchy;
 mod joints;
 mod parents;
 mod sorter;
-#[cfg(test)]
-mod tests;
 
 pub use fault::{HierarchyFault, JointFault};
 pub use forest::Forest;

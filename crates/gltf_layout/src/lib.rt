@@ -11,8 +11,6 @@ mod place;
 mod size;
 mod span;
 mod storage;
-#[cfg(test)]
-mod tests;
 mod view;
 
 pub use fault::{AccessorFault, LayoutError, PlaceFault, SparseFault, StorageFault, ViewFault};

@@ -14,8 +14,6 @@ mod accessors;
 mod attribute;
 mod fault;
 mod reader;
-#[cfg(test)]
-mod tests;
 mod transform;
 
 pub use accessors::Accessors;

@@ -7,8 +7,6 @@ mod numbers;
 mod roots;
 mod shares;
 mod subtrees;
-#[cfg(test)]
-mod tests;
 
 pub use gltf_hierarchy::{Hierarchy, HierarchyFault};
 pub use subtrees::Subtrees;

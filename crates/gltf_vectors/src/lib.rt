@@ -16,8 +16,6 @@ mod errors;
 #[cfg(test)]
 mod lines;
 #[cfg(test)]
-mod loading;
-#[cfg(test)]
 mod reading;
 #[cfg(test)]
 mod shown;

@@ -3,7 +3,7 @@
 ghost use Rattle.std.specs.Prelude.{⊤};
 ghost use Rattle.gltf_buffers.specs.Sources.{buffer_of};
 
-use crate::{
+use gltf_accessors::{
     AccessFault, AccessorData, AccessorDataFault, Colors, DeviatingFault, Format, FormatFault,
     PartFault, SparseFault, Usage,
 };

@@ -5,10 +5,10 @@ mod held_memory;
 mod hostile;
 mod refused_growths;
 
-use crate::{LayoutFault, forest_of, is_scene_of, span_of};
 use gltf_base::Index;
 use gltf_base::accessor::{AccessorType, ComponentType};
 use gltf_base::validation::Checked;
+use gltf_document::{LayoutFault, forest_of, is_scene_of, span_of};
 use gltf_hierarchy::HierarchyFault;
 use gltf_layout::{Misfit, Span};
 use gltf_parts::accessor::Accessor;

@@ -1,30 +1,10 @@
 //! Subtrees that are worked by hand.
 
-ghost use Rattle.std.specs.Prelude.{map};
-
-use crate::{Hierarchy, HierarchyFault, Subtrees};
+use crate::child_lists::ChildLists;
+use gltf_hierarchy::HierarchyFault;
+use gltf_subtrees::Subtrees;
 use std::alloc::AllocError;
 use std::test::Fail;
-
-/// The children of each node.
-#[derive(Clone, Copy)]
-struct ChildLists<'a>(&'a [Vec<u32>]);
-
-impl Hierarchy for ChildLists<'_> {
-    ghost children = { λ s. map (λ v. v.items) s.0.now };
-
-    fn node_count(&self) -> usize {
-        self.0.len()
-    }
-
-    fn child_count(&self, node: u32) -> usize {
-        self.0[node as usize].len()
-    }
-
-    fn child(&self, node: u32, place: usize) -> u32 {
-        self.0[node as usize][place]
-    }
-}
 
 // Nodes 1 and 2 are roots. Below node 1 are 0 and 3, and below node 3 are 4 and 5.
 #[test]

@@ -3,7 +3,7 @@
 ghost use Rattle.std.specs.Prelude.{⊤};
 ghost use Rattle.gltf_buffers.specs.Sources.{buffer_of};
 
-use crate::{
+use gltf_buffers::{
     BufferFault, BufferList, Buffers, DataError, DataFault, FileFault, Folder, Resolve,
     StoredBuffer, decode_data_uri, decode_path, is_data_uri,
 };

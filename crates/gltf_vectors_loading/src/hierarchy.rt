@@ -1,30 +1,9 @@
 //! Forests and faults that are worked by hand.
 
-ghost use Rattle.std.specs.Prelude.{map};
-
-use crate::{Forest, Hierarchy, HierarchyFault, JointFault};
+use crate::child_lists::ChildLists;
+use gltf_hierarchy::{Forest, HierarchyFault, JointFault};
 use std::alloc::{AllocError, Global};
 use std::test::Fail;
-
-/// The children of each node.
-#[derive(Clone, Copy)]
-struct ChildLists<'a>(&'a [Vec<u32>]);
-
-impl Hierarchy for ChildLists<'_> {
-    ghost children = { λ s. map (λ v. v.items) s.0.now };
-
-    fn node_count(&self) -> usize {
-        self.0.len()
-    }
-
-    fn child_count(&self, node: u32) -> usize {
-        self.0[node as usize].len()
-    }
-
-    fn child(&self, node: u32, place: usize) -> u32 {
-        self.0[node as usize][place]
-    }
-}
 
 #[test]
 fn trees_are_a_forest(rt: HostRuntime) -> Result<(), Fail> {

@@ -2,11 +2,11 @@
 
 mod accessor;
 
-use crate::{
+use gltf_base::accessor::ComponentType;
+use gltf_elements::{
     Components, ComponentsFault, Elements, Floats, IndexType, Indices, IndicesFault, Integers,
     Normalized, VertexFault, indices_are_vertices,
 };
-use gltf_base::accessor::ComponentType;
 use gltf_layout::Span;
 use std::test::Fail;
 

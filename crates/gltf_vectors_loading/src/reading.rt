@@ -2,12 +2,12 @@
 
 ghost use Rattle.std.specs.Prelude.{⊤};
 
-use crate::{
+use gltf_base::accessor::{AccessorType, ComponentType};
+use gltf_base::animation::Property;
+use gltf_load::{
     AccessFault, Accessors, Buffers, Document, Format, FormatFault, Layout, ReadFault, Reader,
     Resolve, Usage, element_size_of, local_matrix,
 };
-use gltf_base::accessor::{AccessorType, ComponentType};
-use gltf_base::animation::Property;
 use gltf_root::root::Root;
 use gltf_scene::animation::Sampler;
 use gltf_scene::mesh::{MorphTarget, Primitive};

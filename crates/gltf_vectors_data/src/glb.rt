@@ -1,6 +1,6 @@
 //! A file that is worked by hand.
 
-use crate::{Glb, WriteError};
+use gltf_glb::{Glb, WriteError};
 use std::test::Fail;
 
 /// The document `{}` and five bytes of data, each with what pads it.

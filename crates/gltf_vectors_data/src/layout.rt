@@ -3,12 +3,12 @@
 ghost use Rattle.std.specs.Prelude.{ℕ};
 ghost use Rattle.gltf_layout.specs.Stored.{Stored};
 
-use crate::{
+use gltf_base::accessor::{AccessorType, ComponentType};
+use gltf_layout::{
     AccessorFault, Layout, LayoutError, LayoutFaults, Location, Misfit, Place, PlaceFault, Span,
     SparseFault, SparsePart, SparsePlace, Storage, StorageFault, StoredAccessor, StoredSparse,
     StoredView, ViewFault, ViewLayout,
 };
-use gltf_base::accessor::{AccessorType, ComponentType};
 use std::alloc::Global;
 use std::test::Fail;
 

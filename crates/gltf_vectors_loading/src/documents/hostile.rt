@@ -1,10 +1,10 @@
 //! Documents with the greatest numbers, and long chains and rings of nodes.
 
 use super::{chain, over};
-use crate::{Document, LayoutFault, forest_of, joints_of, span_of};
 use gltf_base::Index;
 use gltf_base::accessor::{AccessorType, ComponentType};
 use gltf_base::validation::USize64;
+use gltf_document::{Document, LayoutFault, forest_of, joints_of, span_of};
 use gltf_hierarchy::{Forest, HierarchyFault, JointFault};
 use gltf_layout::{
     AccessorFault, LayoutFaults, Misfit, PlaceFault, Span, SparseFault, StorageFault, ViewFault,

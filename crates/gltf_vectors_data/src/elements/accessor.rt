@@ -1,8 +1,8 @@
 //! Accessors and faults that are worked by hand.
 
 use super::span;
-use crate::{Accessor, AccessorFault, Components, Elements, Indices, Sparse, SparseFault};
 use gltf_base::accessor::ComponentType;
+use gltf_elements::{Accessor, AccessorFault, Components, Elements, Indices, Sparse, SparseFault};
 use std::test::Fail;
 
 /// Two indices of 16 bits, and two values.

@@ -1,9 +1,9 @@
 //! Layouts, forests and faults of documents.
 
-use crate::{Document, glb_fits, joints_of};
 use gltf_base::Index;
 use gltf_base::accessor::{AccessorType, ComponentType};
 use gltf_base::validation::{Checked, USize64};
+use gltf_document::{Document, glb_fits, joints_of};
 use gltf_glb::Glb;
 use gltf_hierarchy::Forest;
 use gltf_layout::{

@@ -4,7 +4,6 @@ use Rattle.std.proofs.lemmas.Bool.{true≢false}
 use Rattle.std.proofs.lemmas.Slice.Eq.{bytes_eq-Decides}
 use Rattle.gltf_findings_codes.specs.Codes.{severity_name}
 use Rattle.gltf_findings_codes.specs.CodeNames.{code_name}
-use Rattle.gltf_findings_codes.specs.declared.code.Code.{Code}
 use Rattle.gltf_findings_codes.specs.declared.code.Severity.{Severity}
 use Rattle.gltf_findings_codes.specs.declared.code.Severity.TheVariants.{Error, Warning, Information, Hint}
 use Rattle.gltf_findings_lines.specs.Named.{named_in, IsNoCode, IsNoSeverity}

@@ -1,19 +1,21 @@
 -- How the parts of what is found are put together.
-use Rattle.std.proofs.Common.{◌≡◌, ℕ, List, [], map, Option, Some, None, Ok, sym, subst, refl}
-use Rattle.gltf_root.specs.Answer.{answer, document, no_json, no_document}
-use Rattle.gltf_root.specs.Root.{root_tree}
+use Rattle.std.proofs.Common.{◌≡◌, ◌-◌, ◌^◌, List, [], map, Some, None, Ok, sym, subst}
+use Rattle.gltf_root.specs.Answer.{answer, document}
+use Rattle.gltf_root.specs.Root.{root_kind, root_tree}
 use Rattle.gltf_root.specs.declared.root.Root.{Root}
+use Rattle.gltf_schema.specs.Outline.{IsShapeOf}
 use Rattle.gltf_schema.specs.declared.outline.Outline.{Outline}
+use Rattle.gltf_lint_lines.specs.declared.format.Format.TheVariants.{Json}
 use Rattle.gltf_findings_codes.specs.declared.finding.Finding.{Finding}
 use Rattle.gltf_findings_glb.specs.declared.finding.GlbFinding.{GlbFinding}
 use Rattle.gltf_findings_members.specs.Noted.{Noted, noted}
-use Rattle.gltf_findings_lines.specs.Checked.{AreDocumentFindings, AreMembers, IsFound, IsFoundBy, IsFoundIn, IsPrinted}
+use Rattle.gltf_findings_lines.specs.Checked.{AreDocumentFindings, AreMembers, IsFound, IsFoundBy, IsFoundIn, IsJsonOf, IsPrinted}
 use Rattle.gltf_findings_lines.specs.Parts.{FileParts, container_findings, file_parts}
 use Rattle.gltf_findings_lines.specs.Sources.{all_located}
 use Rattle.gltf_findings_lines.specs.declared.check.Found.{Found}
-use Rattle.gltf_findings_lines.specs.declared.check.Unread.TheVariants.{NoJson, NoDocument}
 use Rattle.gltf_findings_lines.specs.declared.file.File.{File}
 use Rattle.gltf_findings_lines.specs.declared.options.FindingOptions.{FindingOptions}
+use Rattle.gltf_findings_lines.specs.declared.options.Style.TheVariants.{Lines}
 use Rattle.gltf_findings_lines.specs.declared.sources.Sources.{Sources}
 
 module _ {o : FindingOptions} {file : File} {s : Sources} {parts : FileParts} {found : Found} where
@@ -21,16 +23,6 @@ module _ {o : FindingOptions} {file : File} {s : Sources} {parts : FileParts} {f
   pub document_found : (r : Root) (all : List Finding) → answer parts.0 ≡ document (root_tree r) → AreDocumentFindings r parts.1 all
       → IsPrinted o file (all_located s.container.now (map noted s.members.now) all) (Some r) None found → IsFoundIn o file s parts found
   document_found r all due are printed = record { root = Some r; findings = all; unread = None; is_document = (due, are); printed = printed }
-
-  -- by what is no JSON
-  pub no_json_found : answer parts.0 ≡ no_json → IsPrinted o file (all_located s.container.now (map noted s.members.now) []) None (Some NoJson) found
-      → IsFoundIn o file s parts found
-  no_json_found due printed = record { root = None; findings = []; unread = Some NoJson; is_document = (due, refl); printed = printed }
-
-  -- by JSON that is no document
-  pub no_document_found : answer parts.0 ≡ no_document → IsPrinted o file (all_located s.container.now (map noted s.members.now) []) None (Some NoDocument) found
-      → IsFoundIn o file s parts found
-  no_document_found due printed = record { root = None; findings = []; unread = Some NoDocument; is_document = (due, refl); printed = printed }
 
   -- by the parts of a file
   pub parts_found : (outline : Outline) (ms : List Noted) → file_parts file ≡ Ok parts → s.container.now ≡ container_findings file
@@ -47,3 +39,17 @@ module _ {o : FindingOptions} {file : File} {s : Sources} {parts : FileParts} {f
         is_document = h.is_document;
         printed = subst with_members members (subst with_container container h.printed);
       })
+
+-- by choices that let all pass
+pub json_found : (outline : Outline) (o : FindingOptions) {file : File} {found : Found} → IsFound outline o file found → IsShapeOf outline.nodes.items outline.root root_kind
+    → o.style ≡ Lines Json → o.most ≡ 2 ^ 64 - 1 → o.choices.severities.now ≡ [] → o.choices.ignored.now ≡ [] → IsJsonOf file found
+json_found outline o h shape style most severities ignored = record {
+  outline = outline;
+  is_outline = shape;
+  options = o;
+  style = style;
+  most = most;
+  severities = severities;
+  ignored = ignored;
+  each = h;
+}

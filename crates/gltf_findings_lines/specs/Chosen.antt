@@ -1,7 +1,6 @@
 -- Which findings of a file are printed, and how severe each of them is there.
-use Rattle.std.specs.Prelude.{ℕ, List, [], ◌∷◌, Bool, true, false, ◌&&◌, ◌||◌, ◌==◌, if◌then◌else◌, bytes_eq, length, slice_index, Option, Some, None}
+use Rattle.std.specs.Prelude.{ℕ, List, [], ◌∷◌, Bool, false, ◌&&◌, ◌||◌, ◌==◌, if◌then◌else◌, bytes_eq, length, slice_index, Option, Some, None}
 use Rattle.gltf_base.specs.Names.{behind}
-use Rattle.gltf_findings_codes.specs.declared.code.Code.{Code}
 use Rattle.gltf_findings_codes.specs.declared.code.Severity.{Severity}
 use Rattle.gltf_findings_codes.specs.Codes.{code_severity}
 use Rattle.gltf_findings_codes.specs.CodeNames.{code_name}

@@ -1,5 +1,5 @@
 -- The parts of a file: what is wrong with its container, and where its document is (glTF 2.0, section 4.4).
-use Rattle.std.specs.Prelude.{ℕ, List, [], length, option_map, if◌then◌else◌, Option, Result, Ok, Some, None}
+use Rattle.std.specs.Prelude.{ℕ, List, [], length, if◌then◌else◌, Option, Result, Ok, Some, None}
 use Rattle.gltf_glb.specs.declared.error.Error.{Error}
 use Rattle.gltf_glb.specs.Reading.{◌>>=◌, glb_of}
 use Rattle.gltf_findings_glb.specs.declared.finding.GlbFinding.{GlbFinding}

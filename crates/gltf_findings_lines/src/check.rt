@@ -125,43 +125,29 @@ fn check_json(
     sources: &Sources<'_>,
     parts: &Parts<'_>,
 ) -> Result<Found, AllocError>
+    requires { sources.now.document.now ≡ [] }
     ensures { IfOk result (IsFoundIn options.now file.now sources.now (parts_in parts.now)) }
 {
     match Root::from_slice(alloc, parts.json) {
         Ok(root) => {
             let document = document_findings(alloc, &root, parts.container)?;
             let sources = Sources {
-                container: sources.container,
-                members: sources.members,
                 document: &document,
+                ..*sources
             };
             let found = found_in(alloc, options, file, &sources, Some(&root), None)?;
             Ok(found)
         }
-        Err(Error::Json) => {
-            let sources = Sources {
-                container: sources.container,
-                members: sources.members,
-                document: &[],
-            };
-            let found = found_in(alloc, options, file, &sources, None, Some(Unread::NoJson))?;
-            Ok(found)
-        }
+        Err(Error::Json) => found_in(alloc, options, file, sources, None, Some(Unread::NoJson)),
         Err(Error::Schema) => {
-            let sources = Sources {
-                container: sources.container,
-                members: sources.members,
-                document: &[],
-            };
-            let found = found_in(
+            found_in(
                 alloc,
                 options,
                 file,
-                &sources,
+                sources,
                 None,
                 Some(Unread::NoDocument),
-            )?;
-            Ok(found)
+            )
         }
         Err(_) => Err(AllocError),
     }
@@ -265,22 +251,7 @@ pub fn json_lines(alloc: Global, file: &File<'_>) -> Result<Found, AllocError>
         style: Style::Lines(Format::Json),
         most: u64::MAX,
     };
-    json_by(alloc, &options, file)
-}
-
-/// The same by its options.
-fn json_by(
-    alloc: Global,
-    options: &FindingOptions<'_>,
-    file: &File<'_>,
-) -> Result<Found, AllocError>
-    requires style { options.now.style ≡ Style.Lines Format.Json }
-    requires most { options.now.most ≡ 2 ^ 64 - 1 }
-    requires severities { options.now.choices.severities.now ≡ [] }
-    requires ignored { options.now.choices.ignored.now ≡ [] }
-    ensures { IfOk result (IsJsonOf file.now) }
-{
     let checker = Checker::new(alloc)?;
-    let found = checker.check(alloc, options, file)?;
+    let found = checker.check(alloc, &options, file)?;
     Ok(found)
 }

@@ -15,6 +15,7 @@ The commands of "Build and link" run in a clean folder without `--dist` too, exc
 The script ends with status 1 if a program could not be built or one result differs.
 """
 import ctypes
+import json
 import os
 import re
 import shutil
@@ -62,6 +63,45 @@ def as_json(file):
         for code, message, member in reports)
 
 
+def finding(code, file, message, section, severity, pointer=None, offset=None):
+    """The line of a finding as JSON."""
+    members = {"code": code, "file": file, "kind": "finding", "message": message,
+               "offset": offset, "pointer": pointer, "section": section, "severity": severity}
+    return json.dumps(members, separators=(",", ":")) + "\n"
+
+
+# A camera that looks the wrong way, with a misspelt member, and what the specification says of it.
+CAMERA = '''{"asset":{"version":"2.0"},"cameras":[{"type":"perspective",
+"perspective":{"yfov":-1,"znear":1,"zfarr":2}}]}'''
+CAMERA_AT = "/cameras/0"
+CAMERA_FINDINGS = [
+    ("UNEXPECTED_PROPERTY", "the format has no member of this name", "5", "warning",
+     f"{CAMERA_AT}/perspective/zfarr"),
+    ("VALUE_NOT_IN_RANGE", "a number is out of its range", "5", "error",
+     f"{CAMERA_AT}/perspective/yfov"),
+    ("UNUSED_OBJECT", "nothing refers to the object", "5", "information", CAMERA_AT),
+]
+
+
+def camera_found(file):
+    """The findings of the camera, for a file of this name."""
+    return "".join(finding(code, file, *rest) for code, *rest in CAMERA_FINDINGS)
+
+
+def cut_found():
+    """The finding of a .glb file that lacks its last 4 bytes: it ends within a chunk."""
+    end = len(glb_of((EXAMPLES / "clean.gltf").read_bytes())) - 4
+    return finding("GLB_UNEXPECTED_END_OF_CHUNK_DATA", "cut.glb",
+                   "the file ends within the data of a chunk", "4.4.3", "error", offset=end)
+
+
+def glb_of(text):
+    """The bytes of a .glb file with this JSON and no other chunk (glTF 2.0, section 4.4)."""
+    text += b" " * (-len(text) % 4)
+    chunk = struct.pack("<I4s", len(text), b"JSON") + text
+    return struct.pack("<4sII", b"glTF", 2, 12 + len(chunk)) + chunk
+
+
 # The words after a program's name, its exit status and its output. `write_files` makes the files.
 CASES = [
     (["clean.gltf"], 0, "clean\n"),
@@ -77,6 +117,10 @@ CASES = [
     (["-j", "first.gltf"], 1, as_json("first.gltf")),
     (["-j", os.devnull], 2, ""),
     (["-j", "refused.gltf"], 3, ""),
+    (["-f", os.devnull], 2, ""),
+    (["-f", "camera.gltf"], 1, camera_found("camera.gltf")),
+    (["-f", "camera.glb"], 1, camera_found("camera.glb")),
+    (["-f", "cut.glb"], 1, cut_found()),
     (["clean.glb"], 0, "clean\n"),
     (["first.glb"], 1, FIRST),
     (["cut.glb"], 7, REFUSED_GLB),
@@ -91,19 +135,14 @@ CASES = [
 ]
 
 
-def glb_of(json):
-    """The bytes of a .glb file with this JSON and no other chunk (glTF 2.0, section 4.4)."""
-    json += b" " * (-len(json) % 4)
-    chunk = struct.pack("<I4s", len(json), b"JSON") + json
-    return struct.pack("<4sII", b"glTF", 2, 12 + len(chunk)) + chunk
-
-
 def write_files(folder):
-    """Copies examples/ into a folder and adds .glb files: two of documents, and one cut off."""
+    """Copies examples/ into a folder and adds a camera and .glb files, one of them cut off."""
     shutil.copytree(EXAMPLES, folder)
     for name in ("clean", "first"):
         (folder / f"{name}.glb").write_bytes(glb_of((EXAMPLES / f"{name}.gltf").read_bytes()))
     (folder / "cut.glb").write_bytes((folder / "clean.glb").read_bytes()[:-4])
+    (folder / "camera.gltf").write_text(CAMERA)
+    (folder / "camera.glb").write_bytes(glb_of(CAMERA.encode()))
 
 
 CMAKE = """\
@@ -186,7 +225,7 @@ class Library:
             _fields_ = [("status", ctypes.c_uint8), ("needed", ctypes.c_size_t)]
 
         self.loaded = ctypes.CDLL(str(path))
-        for name in ("check", "check_by", "check_json", "rewrite", "version"):
+        for name in ("check", "check_by", "check_json", "findings", "rewrite", "version"):
             getattr(self.loaded, f"gltf_c_{name}").restype = Returned
 
     def call(self, name, inputs, output, room):
@@ -214,6 +253,10 @@ def edge_faults(library):
         ("check_json", [first, None], 1, as_json("").encode()),
         ("check_json", [first, b"\xff"], 6, b""),
         ("check_json", [None, None], 2, b""),
+        ("findings", [CAMERA.encode(), b"a"], 1, camera_found("a").encode()),
+        ("findings", [CAMERA.encode(), None], 1, camera_found("").encode()),
+        ("findings", [None, b"\xff"], 6, b""),
+        ("findings", [None, None], 2, b""),
         ("rewrite", [clean], 0, CLEAN_ANEW.encode()),
         ("rewrite", [None], 2, b""),
         ("version", [], 0, version),

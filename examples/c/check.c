@@ -3,6 +3,7 @@
  *   check FILE          prints what is wrong in a document
  *   check FILE NAMES    the same, if it may require the extensions NAMES alone, one a line
  *   check -j FILE       the same as JSON, an object a line
+ *   check -f FILE       prints what the specification requires and the file doesn't have
  *   check -w FILE       writes the document anew
  *
  * The exit status is that of the call. tools/run_c.py builds and runs this program. */
@@ -18,21 +19,28 @@
 /* The exit status if the arguments are wrong, or a file can't be read. */
 #define FAILED 9
 
+/* The call: check, or as the first argument says. */
+typedef enum { CHECK, CHECK_JSON = 'j', FINDINGS = 'f', REWRITE = 'w' } Call;
+
 typedef struct {
+    Call call;
     uint8_t *document;
     size_t len;
+    const char *file;
     const char *names; /* NULL for the standard rules */
-    const char *file;  /* NULL for lines of text */
-    bool rewrites;
 } Request;
 
 static gltf_c_returned ask(const Request *request, uint8_t *output, size_t room)
 {
-    if (request->rewrites)
+    const uint8_t *file = (const uint8_t *)request->file;
+    size_t file_len = strlen(request->file);
+
+    if (request->call == REWRITE)
         return gltf_c_rewrite(request->document, request->len, output, room);
-    if (request->file)
-        return gltf_c_check_json(request->document, request->len, (const uint8_t *)request->file,
-                                 strlen(request->file), output, room);
+    if (request->call == CHECK_JSON)
+        return gltf_c_check_json(request->document, request->len, file, file_len, output, room);
+    if (request->call == FINDINGS)
+        return gltf_c_findings(request->document, request->len, file, file_len, output, room);
     if (request->names)
         return gltf_c_check_by(request->document, request->len, (const uint8_t *)request->names,
                                strlen(request->names), false, output, room);
@@ -64,18 +72,26 @@ static uint8_t *read_file(const char *path, size_t *len)
     return bytes;
 }
 
+/* The call that an argument asks for: CHECK if it is a file. */
+static Call call_of(const char *argument)
+{
+    static const Call calls[] = { CHECK_JSON, FINDINGS, REWRITE };
+    for (size_t k = 0; k < sizeof calls / sizeof *calls; k++)
+        if (argument[0] == '-' && argument[1] == (char)calls[k] && argument[2] == 0)
+            return calls[k];
+    return CHECK;
+}
+
 int main(int argc, char **argv)
 {
     if (argc < 2 || argc > 3) {
-        fputs("check FILE, check FILE NAMES, check -j FILE or check -w FILE\n", stderr);
+        fputs("check FILE, check FILE NAMES, or check with -j, -f or -w and FILE\n", stderr);
         return FAILED;
     }
-    Request request = { .rewrites = argc == 3 && strcmp(argv[1], "-w") == 0 };
-    bool as_json = argc == 3 && strcmp(argv[1], "-j") == 0;
-    const char *path = argv[request.rewrites || as_json ? 2 : 1];
-    request.file = as_json ? path : NULL;
-    request.names = argc == 3 && !request.rewrites && !as_json ? argv[2] : NULL;
-    request.document = read_file(path, &request.len);
+    Request request = { .call = argc == 3 ? call_of(argv[1]) : CHECK };
+    request.file = argv[request.call == CHECK ? 1 : 2];
+    request.names = argc == 3 && request.call == CHECK ? argv[2] : NULL;
+    request.document = read_file(request.file, &request.len);
 
     uint8_t first[ROOM];
     uint8_t *output = first;

@@ -4,6 +4,7 @@
 //! check FILE          prints what is wrong in a document
 //! check FILE NAMES    the same, if it may require the extensions NAMES alone, one a line
 //! check -j FILE       the same as JSON, an object a line
+//! check -f FILE       prints what the specification requires and the file doesn't have
 //! check -w FILE       writes the document anew
 //! ```
 //!
@@ -45,6 +46,15 @@ mod gltf {
         ) -> Returned;
 
         fn gltf_c_check_json(
+            document: *const u8,
+            document_len: usize,
+            file: *const u8,
+            file_len: usize,
+            output: *mut u8,
+            output_len: usize,
+        ) -> Returned;
+
+        fn gltf_c_findings(
             document: *const u8,
             document_len: usize,
             file: *const u8,
@@ -109,6 +119,20 @@ mod gltf {
         })
     }
 
+    pub fn findings(document: &[u8], file: &str) -> (u8, Vec<u8>) {
+        // SAFETY: as in `check`.
+        ask(|output, room| unsafe {
+            gltf_c_findings(
+                document.as_ptr(),
+                document.len(),
+                file.as_ptr(),
+                file.len(),
+                output,
+                room,
+            )
+        })
+    }
+
     pub fn rewrite(document: &[u8]) -> (u8, Vec<u8>) {
         // SAFETY: as in `check`.
         ask(|output, room| unsafe {
@@ -122,11 +146,12 @@ fn main() -> io::Result<ExitCode> {
     let words: Vec<&str> = words.iter().map(String::as_str).collect();
     let (status, output) = match words[..] {
         ["-w", file] => gltf::rewrite(&fs::read(file)?),
+        ["-f", file] => gltf::findings(&fs::read(file)?, file),
         ["-j", file] => gltf::check_json(&fs::read(file)?, file),
         [file, names] => gltf::check_by(&fs::read(file)?, names, false),
         [file] => gltf::check(&fs::read(file)?),
         _ => {
-            eprintln!("check FILE, check FILE NAMES, check -j FILE or check -w FILE");
+            eprintln!("check FILE, check FILE NAMES, or check with -j, -f or -w and FILE");
             return Ok(ExitCode::from(9));
         }
     };

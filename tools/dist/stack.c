@@ -56,6 +56,7 @@ static void *call_all(void *nothing)
         gltf_c_check(text, len, output, ROOM);
         gltf_c_check_by(text, len, names, sizeof names - 1, true, output, ROOM);
         gltf_c_check_json(text, len, names, sizeof names - 1, output, ROOM);
+        gltf_c_findings(text, len, names, sizeof names - 1, output, ROOM);
         gltf_c_rewrite(text, len, output, ROOM);
         gltf_c_rewrite(text, len, NULL, 0);
     }

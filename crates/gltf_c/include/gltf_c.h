@@ -21,7 +21,7 @@ extern "C" {
 /* The statuses. Each call says which of them it returns. */
 enum {
     GLTF_C_OK = 0,           /* no report, or written */
-    GLTF_C_REPORTS = 1,      /* the document has reports */
+    GLTF_C_REPORTS = 1,      /* the document has reports, or the file has findings */
     GLTF_C_NOT_JSON = 2,     /* the bytes are no JSON */
     GLTF_C_NOT_GLTF = 3,     /* the JSON is no glTF document */
     GLTF_C_NO_MEMORY = 4,    /* memory was refused */
@@ -58,6 +58,14 @@ gltf_c_returned gltf_c_check_by(const uint8_t *document, size_t document_len,
 gltf_c_returned gltf_c_check_json(const uint8_t *document, size_t document_len,
                                   const uint8_t *file, size_t file_len,
                                   uint8_t *output, size_t output_len);
+
+/* Finds what the glTF 2.0 specification requires and a file doesn't have: JSON, or the bytes of a
+ * .glb file. The output is a line for each finding (status 1), also with the statuses 2, 3 and 7:
+ * a JSON object, with the members `code`, `file`, `kind`, `message`, `severity`, and `pointer` or
+ * `offset`. `file` is as above. Without output the status is 0 (no finding), 2, 3, 4, 6 or 7. */
+gltf_c_returned gltf_c_findings(const uint8_t *document, size_t document_len,
+                                const uint8_t *file, size_t file_len,
+                                uint8_t *output, size_t output_len);
 
 /* Puts out the version of the library (status 0), without a newline at its end. */
 gltf_c_returned gltf_c_version(uint8_t *output, size_t output_len);

@@ -1,1 +1,2 @@
+mod Findings
 mod Statuses

@@ -1,5 +1,6 @@
 -- What the calls return.
-use Rattle.std.specs.Prelude.{◌≡◌, ◌⊎◌, true, ℕ, Bool, List, [], ◌∷◌, Result, Ok, Err, ⊤, if◌then◌else◌, codes, String, string_bytes}
+use Rattle.std.specs.Prelude.{◌≡◌, ◌⊎◌, true, ℕ, Bool, List, [], ◌∷◌, Option, Some, None, Result, Ok, Err, ⊤, nat_eq, if◌then◌else◌, codes, String, string_bytes}
+use Rattle.std.specs.List.{starts_with}
 use Rattle.std.specs.Str.Lines.{lines}
 use Rattle.std.specs.Global.{Global, Vec}
 use Rattle.gltf_schema.specs.Invalid.{holds_invalid}
@@ -19,6 +20,11 @@ use Rattle.gltf_report_lines.specs.Output.{Output, line, output, refusal}
 use Rattle.gltf_lint_lines.specs.Bytes.{json_of}
 use Rattle.gltf_lint_lines.specs.Lines.{report_lines}
 use Rattle.gltf_lint_lines.specs.declared.format.Format.TheVariants.{Json as AsJson}
+use Rattle.gltf_findings_lines.specs.Checked.{IsJsonOf, refusal_of}
+use Rattle.gltf_findings_lines.specs.declared.check.Found.{Found}
+use Rattle.gltf_findings_lines.specs.declared.check.Unread.{Unread}
+use Rattle.gltf_findings_lines.specs.declared.check.Unread.TheVariants.{Container, NoJson, NoDocument}
+use Rattle.gltf_findings_lines.specs.declared.file.File.{File}
 use Rattle.gltf_c.specs.Filled.{IsFilled}
 use Rattle.gltf_c.specs.declared.returned.Returned.{Returned}
 
@@ -76,6 +82,31 @@ IsListing rules file due (Err errors.Json) = due ≡ no_json
 IsListing rules file due (Err errors.Schema) = due ≡ no_document
 IsListing rules file due (Err (errors.Memory e)) = ⊤
 IsListing rules file due (Err _) = ⊥
+
+-- all findings of a file, which is a container if its bytes begin as one
+pub record AreFoundIn (named bytes : List ℕ) (found : Found) : Type 0 where
+  pub file : File
+  pub is_named : file.name.now ≡ named
+  pub is_made_of : file.bytes.now ≡ bytes
+  pub is_sorted : file.is_container ≡ starts_with nat_eq bytes (codes "glTF")
+  pub each : IsJsonOf file found
+
+-- the status of findings: why the file is refused, else whether there is a finding
+abbrev pub findings_status : Option Unread → List ℕ → ℕ
+findings_status (Some NoJson) text = 2
+findings_status (Some NoDocument) text = 3
+findings_status (Some (Container e)) text = 7
+findings_status None [] = 0
+findings_status None (b ∷ bs) = 1
+
+abbrev pub findings_output : Found → Output
+findings_output found = record { text = string_bytes found.lines; status = findings_status (refusal_of found) (string_bytes found.lines) }
+
+-- a call listed the findings of a file, or memory was refused
+abbrev pub AreFindingsListed : List ℕ → List ℕ → List ℕ → List ℕ → Returned → Type 0
+AreFindingsListed named bytes old new returned =
+    ((found : Found) × AreFoundIn named bytes found × IsGiven (findings_output found) old new returned)
+    ⊎ IsGiven (nothing 4) old new returned
 
 -- one line, without nulls where the format allows none
 abbrev pub rewrite_style : Style

@@ -9,7 +9,7 @@
 ghost use Rattle.std.specs.Prelude.{◌≡◌, ◌≢◌, ◌≤◌, ◌⊎◌, [], IsUtf8};
 ghost use Rattle.gltf_root.specs.Answer.{answer, no_json, no_document};
 ghost use Rattle.gltf_validation_rules.specs.Context.{standard_rules};
-ghost use Rattle.gltf_c.specs.Calls.{IsChecked, IsGiven, IsListed, given_rules, IsRewritten, IsUnwritable, rewrite_status, version_output};
+ghost use Rattle.gltf_c.specs.Calls.{AreFindingsListed, IsChecked, IsGiven, IsListed, given_rules, IsRewritten, IsUnwritable, rewrite_status, version_output};
 ghost use Rattle.gltf_c.specs.Filled.{IsFilled};
 
 use gltf_report_lines::Outcome;
@@ -25,7 +25,7 @@ mod work;
 
 pub use returned::Returned;
 use returned::{fill, refuse, tell};
-use work::{check, lines_in, list, rewritten};
+use work::{check, find, lines_in, list, rewritten};
 
 const VERSION: &str = "1.4.1+1";
 
@@ -125,6 +125,40 @@ pub extern "C" fn gltf_c_check_json(
 {
     match from_utf8(file) {
         Ok(file) => list(alloc, &Rules::new(), file, document, output),
+        Err(_) => refuse(NOT_TEXT),
+    }
+}
+
+/// Finds what the glTF 2.0 specification requires and a file doesn't have (`docs/FINDINGS.md`), and
+/// puts out a line for each finding: a JSON object, as `gltf_lint --json` prints it. If the bytes
+/// begin with `glTF`, they are those of a `.glb` file. `file` is the name that the lines give to the
+/// file. The status 6 and no output come if and only if that name is no UTF-8.
+///
+/// | Status | Meaning |
+/// |---|---|
+/// | 0 | no finding |
+/// | 1 | a line for each finding, in order |
+/// | 2 | the bytes are no JSON |
+/// | 3 | the JSON is no glTF document, and no finding of severity error says why |
+/// | 4 | out of memory, without output |
+/// | 6 | the name of the file is no UTF-8 |
+/// | 7 | the file can't be read as a `.glb` file, and no finding of severity error says why |
+///
+/// With the statuses 2, 3 and 7 the output is a line for each finding too, if there is one.
+#[unsafe(no_mangle)]
+pub extern "C" fn gltf_c_findings(
+    alloc: Global,
+    document: &[u8],
+    file: &[u8],
+    output: &mut [u8],
+) -> Returned
+    ensures listed { IsUtf8 file.now
+        → AreFindingsListed file.now document.now output.old output.new result }
+    ensures no_name { ¬ (IsUtf8 file.now) → (result.status ≡ 6)
+        × IsFilled [] output.old output.new result.needed }
+{
+    match from_utf8(file) {
+        Ok(file) => find(alloc, file, document, output),
         Err(_) => refuse(NOT_TEXT),
     }
 }

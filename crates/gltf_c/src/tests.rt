@@ -1,7 +1,10 @@
 //! That the calls succeed with ample memory, and what buffers with little room hold then.
 
 use crate::returned::Returned;
-use crate::{gltf_c_check, gltf_c_check_by, gltf_c_check_json, gltf_c_rewrite, gltf_c_version};
+use crate::{
+    gltf_c_check, gltf_c_check_by, gltf_c_check_json, gltf_c_findings, gltf_c_rewrite,
+    gltf_c_version,
+};
 use std::alloc::Global;
 
 const CLEAN: &[u8] = b"{\"asset\": {\"version\": \"2.0\"}, \"nodes\": []}\n";
@@ -25,13 +28,27 @@ const LINES: &str = "\
     {\"code\":\"missing\",\"file\":\"a.gltf\",\"kind\":\"report\",\"message\":\"Missing data\",\
     \"path\":\"accessors[0].bufferView\",\"pointer\":\"/accessors/0/bufferView\"}\n";
 
+/// A camera that looks the wrong way.
+const CAMERA: &[u8] = b"{\"asset\":{\"version\":\"2.0\"},\"cameras\":[{\"type\":\"perspective\",\
+    \"perspective\":{\"yfov\":-1,\"znear\":1}}]}";
+
+const FINDINGS: &str = "\
+    {\"code\":\"VALUE_NOT_IN_RANGE\",\"file\":\"a.gltf\",\"kind\":\"finding\",\
+    \"message\":\"a number is out of its range\",\
+    \"offset\":null,\"pointer\":\"/cameras/0/perspective/yfov\",\"section\":\"5\",\
+    \"severity\":\"error\"}\n\
+    {\"code\":\"UNUSED_OBJECT\",\"file\":\"a.gltf\",\"kind\":\"finding\",\
+    \"message\":\"nothing refers to the object\",\
+    \"offset\":null,\"pointer\":\"/cameras/0\",\"section\":\"5\",\
+    \"severity\":\"information\"}\n";
+
 /// A `.glb` file of 48 bytes: the header, and a JSON chunk with 28 bytes of data.
 const GLB: &[u8] = b"glTF\x02\0\0\0\x30\0\0\0\x1c\0\0\0JSON{\"asset\":{\"version\":\"2.0\"}} ";
 
 /// The same without its last 4 bytes.
 const CUT: &[u8] = b"glTF\x02\0\0\0\x30\0\0\0\x1c\0\0\0JSON{\"asset\":{\"version\":\"2.0";
 
-const ROOM: usize = 300;
+const ROOM: usize = 500;
 
 /// Whether a call returned a status and the length of a text, and wrote the text to the front of a
 /// buffer of points, as far as there is room.
@@ -72,6 +89,22 @@ fn lists_as(
         return false;
     };
     let returned = gltf_c_check_json(alloc, document, file, output);
+    is_put(returned, status, output, text)
+}
+
+fn finds_in(
+    alloc: Global,
+    document: &[u8],
+    file: &[u8],
+    room: usize,
+    status: u8,
+    text: &str,
+) -> bool {
+    let mut buffer = [b'.'; ROOM];
+    let Some(output) = buffer.get_mut(..room) else {
+        return false;
+    };
+    let returned = gltf_c_findings(alloc, document, file, output);
     is_put(returned, status, output, text)
 }
 
@@ -129,6 +162,30 @@ fn reports_are_listed_as_json(rt: HostRuntime) {
     for room in [0, 1, LINES.len() - 1, LINES.len(), ROOM] {
         assert!(rt;
             lists_as(alloc, INVALID, b"a.gltf", room, 1, LINES),
+            "{room}"
+        );
+    }
+}
+
+#[test]
+fn findings_are_listed_as_json(rt: HostRuntime) {
+    let alloc = rt.alloc();
+    assert!(rt;
+        finds_in(
+            alloc,
+            b"{\"asset\":{\"version\":\"2.0\"}}",
+            b"a",
+            ROOM,
+            0,
+            ""
+        )
+    );
+    assert!(rt; finds_in(alloc, GLB, b"a", ROOM, 0, ""));
+    assert!(rt; finds_in(alloc, b"", b"a", ROOM, 2, ""));
+    assert!(rt; finds_in(alloc, CAMERA, b"\xff", ROOM, 6, ""));
+    for room in [0, 1, FINDINGS.len() - 1, FINDINGS.len(), ROOM] {
+        assert!(rt;
+            finds_in(alloc, CAMERA, b"a.gltf", room, 1, FINDINGS),
             "{room}"
         );
     }

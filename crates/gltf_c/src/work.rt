@@ -1,13 +1,15 @@
 //! What the calls do, before an output is written.
 
-ghost use Rattle.std.specs.Prelude.{◌≡◌, map, IfOk};
+ghost use Rattle.std.specs.Prelude.{◌≡◌, map, IfOk, string_bytes};
 ghost use Rattle.std.specs.Str.Lines.{lines};
 ghost use Rattle.gltf_root.specs.Answer.{answer};
 ghost use Rattle.gltf_validation_rules.specs.Context.{rules_of};
-ghost use Rattle.gltf_c.specs.Calls.{IsChecked, IsListed, IsListing, IsRewriting};
+ghost use Rattle.gltf_findings_lines.specs.Checked.{refusal_of};
+ghost use Rattle.gltf_c.specs.Calls.{AreFindingsListed, IsChecked, IsListed, IsListing, IsRewriting, findings_status};
 
 use crate::returned::{Returned, give, refuse, tell};
 use crate::{NO_MEMORY, NO_REPORT, NOT_DOCUMENT, NOT_GLB, NOT_JSON, REPORTS};
+use gltf_findings_lines::{File, Found, Unread, json_lines};
 use gltf_lint_lines::{Format, all_lines, json_of};
 use gltf_report_lines::Outcome;
 use gltf_root::root::{Nulls, Root, Spacing, Style};
@@ -58,6 +60,34 @@ fn listing(alloc: Global, rules: &Rules<'_>, file: &str, json: &[u8]) -> Result<
 {
     let root = Root::from_slice(alloc, json)?;
     Ok(all_lines(alloc, rules, Format::Json, file, &root)?)
+}
+
+/// Finds what is wrong with a file, and writes the lines of its findings to a buffer.
+pub(crate) fn find(alloc: Global, name: &str, bytes: &[u8], output: &mut [u8]) -> Returned
+    ensures { AreFindingsListed name.now bytes.now output.old output.new result }
+{
+    let file = File {
+        name,
+        bytes,
+        is_container: bytes.starts_with(b"glTF"),
+    };
+    match json_lines(alloc, &file) {
+        Ok(found) => give(findings_status(&found), &found.lines, output),
+        Err(_) => refuse(NO_MEMORY),
+    }
+}
+
+/// The status for what was found.
+fn findings_status(found: &Found) -> u8
+    ensures { result ≡ findings_status (refusal_of found.now) (string_bytes found.now.lines) }
+{
+    match found.refusal() {
+        Some(Unread::NoJson) => NOT_JSON,
+        Some(Unread::NoDocument) => NOT_DOCUMENT,
+        Some(Unread::Container(_)) => NOT_GLB,
+        None if found.lines.is_empty() => NO_REPORT,
+        None => REPORTS,
+    }
 }
 
 /// The lines of a text.

@@ -4,7 +4,8 @@ Each call takes the bytes of a document, and returns a status and the bytes of i
 
     status, lines = gltf_c.check(Path("model.gltf").read_bytes())
 
-Checks also take the bytes of .glb files. `reports` returns a dict for each report.
+Checks also take the bytes of .glb files. `reports` returns a dict for each report, `findings` one for
+each finding by the glTF 2.0 specification.
 
 The statuses are those of gltf_c.h. The library is the file that GLTF_C names, else the one in this
 package.
@@ -40,6 +41,7 @@ def _loaded():
         "gltf_c_check": slice_of + slice_of,
         "gltf_c_check_by": slice_of + slice_of + [ctypes.c_bool] + slice_of,
         "gltf_c_check_json": slice_of + slice_of + slice_of,
+        "gltf_c_findings": slice_of + slice_of + slice_of,
         "gltf_c_rewrite": slice_of + slice_of,
         "gltf_c_version": slice_of,
     }.items():
@@ -84,6 +86,19 @@ def check_json(document, file):
 def reports(document, file):
     """The status, and the reports of a document as dicts: the objects of `check_json`."""
     status, lines = check_json(document, file)
+    return status, [json.loads(line) for line in lines.decode().split("\n") if line]
+
+
+def findings_json(document, file):
+    """The lines that `gltf_lint --json` prints for what the specification requires and a file
+    doesn't have. `file` is the name that they give to the file, as a text or a path."""
+    name = os.fsdecode(file).encode("utf-8", "replace")
+    return _ask(_library.gltf_c_findings, document, len(document), name, len(name))
+
+
+def findings(document, file):
+    """The status, and the findings of a file as dicts: the objects of `findings_json`."""
+    status, lines = findings_json(document, file)
     return status, [json.loads(line) for line in lines.decode().split("\n") if line]
 
 

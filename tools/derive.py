@@ -3,11 +3,12 @@
 Writes what follows from the struct, the rows, the kind and the members of each object of the table,
 in files of their own: derive_crate.py says what of its own crate, derive_walk.py and
 derive_values.py what of the crates above, derive_reported.py what a law depends on,
-derive_defaults.py which constants the corpus compares, derive_choices.py what follows from a choice of
-gltf_base, and derive_codes.py the list of the codes of findings. `Drop` has to stand beside the struct: it is between two marks. What can't be
-derived is in derive_exceptions.py, and the names of crates are in derive_names.py. With `--check`
-it writes nothing, prints what differs, and ends with status 1 if a file has another text. With
-`--report` it only prints how many lines of each object are derived."""
+derive_defaults.py which constants the corpus compares, derive_choices.py what follows from a
+choice of gltf_base, and derive_codes.py the list of the codes of findings. `Drop` has to stand
+beside the struct: it is between two marks. What can't be derived is in derive_exceptions.py, and
+the names of crates are in derive_names.py. With `--check` it writes nothing, prints what differs,
+and ends with status 1 if a file has another text. With `--report` it only prints how many lines of
+each object are derived."""
 import re
 import sys
 

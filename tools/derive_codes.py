@@ -27,4 +27,3 @@ def write_codes(files):
         "use Rattle.gltf_findings_lines.specs.declared.codes.all.TheConstants.{ALL}", "",
         "pub listed_code : (c : Code) → IsListed ALL.now c",
         *(f"listed_code {name} = ({number}, refl)" for number, name in enumerate(names))])
-

@@ -1,7 +1,8 @@
 """What an object's own crate has of it: `Drop` beside the struct, and in files of their own
-`new` without a given member, `Object`, the answers of `read_rows` and of `write_members`, the values of factors, and in `specs/`
-that its kind is sound and how high it is. An object with rows that are written as null, in itself
-or below it, also has `StrictObject`, and the objects beside those rows a lemma."""
+`new` without a given member, `Object`, the answers of `read_rows` and of `write_members`, the
+values of factors, and in `specs/` that its kind is sound and how high it is. An object with rows
+that are written as null, in itself or below it, also has `StrictObject`, and the objects beside
+those rows a lemma."""
 from derive_exceptions import BY_HAND, FACTS, NEW, Fact
 from derive_factors import Factor, object_values
 from derive_layout import block, call, ghosts, header, indented, struct

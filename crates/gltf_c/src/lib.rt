@@ -131,8 +131,8 @@ pub extern "C" fn gltf_c_check_json(
 
 /// Finds what the glTF 2.0 specification requires and a file doesn't have (`docs/FINDINGS.md`), and
 /// puts out a line for each finding: a JSON object, as `gltf_lint --json` prints it. If the bytes
-/// begin with `glTF`, they are those of a `.glb` file. `file` is the name that the lines give to the
-/// file. The status 6 and no output come if and only if that name is no UTF-8.
+/// begin with `glTF`, they are those of a `.glb` file. `file` is the name that the lines give to
+/// the file. The status 6 and no output come if and only if that name is no UTF-8.
 ///
 /// | Status | Meaning |
 /// |---|---|

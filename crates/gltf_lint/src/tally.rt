@@ -7,8 +7,8 @@ ghost use Rattle.gltf_lint.specs.Status.{status_of};
 /// The exit status if a file was refused.
 pub const REFUSED: u8 = 2;
 
-/// How many files were checked or refused, and how many faults there were: reports, or findings that
-/// decide the exit status. A number stops at the largest of 64 bits.
+/// How many files were checked or refused, and how many faults there were: reports, or findings
+/// that decide the exit status. A number stops at the largest of 64 bits.
 #[derive(Clone, Copy)]
 pub struct Tally {
     pub files: u64,

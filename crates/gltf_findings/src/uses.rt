@@ -9,9 +9,10 @@ ghost use Rattle.gltf_findings_uses.specs.Usage.{view_usage_findings};
 use crate::names::are_supported;
 use gltf_findings_codes::{Finding, Name, add_all};
 use gltf_findings_uses::{
-    OfAttributes, OfBuffers, OfCameras, OfDefaultWeights, OfImages, OfIndices, OfKeyframes,
-    OfMaterials, OfMatrices, OfMeshes, OfSamplers, OfSkins, OfTargets, OfTextures, OfViews,
-    UnusedRules, UsageRules, ViewUsageRules, WeightRules, mark_items, shared_views, views_of,
+    Marking, OfAttributes, OfBuffers, OfCameras, OfDefaultWeights, OfImages, OfIndices,
+    OfKeyframes, OfMaterials, OfMatrices, OfMeshes, OfSamplers, OfSkins, OfTargets, OfTextures,
+    OfViews, UnusedRules, UsageRules, ViewUsageRules, WeightRules, mark_items, shared_views,
+    views_of,
 };
 use gltf_root::root::Root;
 use std::alloc::{AllocError, Global};
@@ -231,44 +232,49 @@ fn texture_marks(alloc: Global, root: &Root) -> Result<Vec<bool>, AllocError>
 fn add_placed_uses(to: &mut Vec<Finding>, root: &Root) -> Result<(), AllocError>
     ensures { OnOk result (to.new.items ≡ to.old.items ++ placed_use_findings root.now) }
 {
-    add_camera_uses(to, root)?;
-    add_mesh_uses(to, root)?;
-    add_skin_uses(to, root)
+    let marks = node_marks(*to.allocator(), root)?;
+    add_camera_uses(to, root, &marks.cameras)?;
+    add_mesh_uses(to, root, &marks.meshes, &marks.defaults)?;
+    add_skin_uses(to, root, &marks.skins)
 }
 
-/// Adds the findings of cameras that no node uses.
-fn add_camera_uses(to: &mut Vec<Finding>, root: &Root) -> Result<(), AllocError>
+/// Adds the findings of cameras that no node uses, by their marks.
+fn add_camera_uses(to: &mut Vec<Finding>, root: &Root, cameras: &[bool]) -> Result<(), AllocError>
+    requires { cameras.now ≡ camera_marks root.now }
     ensures { OnOk result (to.new.items ≡ to.old.items
         ++ findings_from (λ n x. unused_findings Name.Cameras (camera_marks root.now) n) 0
         root.now.cameras.items) }
 {
-    let cameras = camera_marks(*to.allocator(), root)?;
-    add_all(to, &unused(Name::Cameras, &cameras), &root.cameras)
+    add_all(to, &unused(Name::Cameras, cameras), &root.cameras)
 }
 
-/// Adds the findings of meshes that no node uses, and of weights that none uses.
-fn add_mesh_uses(to: &mut Vec<Finding>, root: &Root) -> Result<(), AllocError>
+/// Adds the findings of meshes that no node uses, and of weights that none uses, by their marks.
+fn add_mesh_uses(
+    to: &mut Vec<Finding>,
+    root: &Root,
+    meshes: &[bool],
+    defaults: &[bool],
+) -> Result<(), AllocError>
+    requires meshes { meshes.now ≡ mesh_marks root.now }
+    requires defaults { defaults.now ≡ default_marks root.now }
     ensures { OnOk result (to.new.items ≡ to.old.items
         ++ findings_from (λ n x. unused_findings Name.Meshes (mesh_marks root.now) n) 0
         root.now.meshes.items
         ++ findings_from (weight_findings (mesh_marks root.now) (default_marks root.now)) 0
         root.now.meshes.items) }
 {
-    let alloc = *to.allocator();
-    let meshes = mesh_marks(alloc, root)?;
-    let defaults = default_marks(alloc, root)?;
-    add_all(to, &unused(Name::Meshes, &meshes), &root.meshes)?;
-    add_all(to, &weights(&meshes, &defaults), &root.meshes)
+    add_all(to, &unused(Name::Meshes, meshes), &root.meshes)?;
+    add_all(to, &weights(meshes, defaults), &root.meshes)
 }
 
-/// Adds the findings of skins that no node uses.
-fn add_skin_uses(to: &mut Vec<Finding>, root: &Root) -> Result<(), AllocError>
+/// Adds the findings of skins that no node uses, by their marks.
+fn add_skin_uses(to: &mut Vec<Finding>, root: &Root, skins: &[bool]) -> Result<(), AllocError>
+    requires { skins.now ≡ skin_marks root.now }
     ensures { OnOk result (to.new.items ≡ to.old.items
         ++ findings_from (λ n x. unused_findings Name.Skins (skin_marks root.now) n) 0
         root.now.skins.items) }
 {
-    let skins = skin_marks(*to.allocator(), root)?;
-    add_all(to, &unused(Name::Skins, &skins), &root.skins)
+    add_all(to, &unused(Name::Skins, skins), &root.skins)
 }
 
 /// The rule for the weights of meshes.
@@ -279,38 +285,40 @@ fn weights<'a>(used: &'a [bool], defaults: &'a [bool]) -> WeightRules<'a>
     WeightRules { used, defaults }
 }
 
-/// Marks the cameras that nodes name.
-fn camera_marks(alloc: Global, root: &Root) -> Result<Vec<bool>, AllocError>
-    ensures { IfOk result (λ marks. marks.items ≡ camera_marks root.now) }
-{
-    let mut marks = vec![in alloc; false; root.cameras.len()]?;
-    mark_items(&mut marks, &OfCameras, &root.nodes);
-    Ok(marks)
+/// What nodes name.
+#[derive(Drop)]
+struct NodeMarks {
+    /// The cameras.
+    cameras: Vec<bool>,
+    /// The meshes.
+    meshes: Vec<bool>,
+    /// The meshes that nodes without weights name.
+    defaults: Vec<bool>,
+    /// The skins.
+    skins: Vec<bool>,
 }
 
-/// Marks the meshes that nodes name.
-fn mesh_marks(alloc: Global, root: &Root) -> Result<Vec<bool>, AllocError>
-    ensures { IfOk result (λ marks. marks.items ≡ mesh_marks root.now) }
+/// Marks what nodes name, in one pass.
+fn node_marks(alloc: Global, root: &Root) -> Result<NodeMarks, AllocError>
+    ensures cameras { IfOk result (λ marks. marks.cameras.items ≡ camera_marks root.now) }
+    ensures meshes { IfOk result (λ marks. marks.meshes.items ≡ mesh_marks root.now) }
+    ensures defaults { IfOk result (λ marks. marks.defaults.items ≡ default_marks root.now) }
+    ensures skins { IfOk result (λ marks. marks.skins.items ≡ skin_marks root.now) }
 {
-    let mut marks = vec![in alloc; false; root.meshes.len()]?;
-    mark_items(&mut marks, &OfMeshes, &root.nodes);
-    Ok(marks)
-}
-
-/// Marks the meshes that nodes without weights name.
-fn default_marks(alloc: Global, root: &Root) -> Result<Vec<bool>, AllocError>
-    ensures { IfOk result (λ marks. marks.items ≡ default_marks root.now) }
-{
-    let mut marks = vec![in alloc; false; root.meshes.len()]?;
-    mark_items(&mut marks, &OfDefaultWeights, &root.nodes);
-    Ok(marks)
-}
-
-/// Marks the skins that nodes name.
-fn skin_marks(alloc: Global, root: &Root) -> Result<Vec<bool>, AllocError>
-    ensures { IfOk result (λ marks. marks.items ≡ skin_marks root.now) }
-{
-    let mut marks = vec![in alloc; false; root.skins.len()]?;
-    mark_items(&mut marks, &OfSkins, &root.nodes);
-    Ok(marks)
+    let mut cameras = vec![in alloc; false; root.cameras.len()]?;
+    let mut meshes = vec![in alloc; false; root.meshes.len()]?;
+    let mut defaults = vec![in alloc; false; root.meshes.len()]?;
+    let mut skins = vec![in alloc; false; root.skins.len()]?;
+    for node in &root.nodes {
+        OfCameras.mark(node, &mut cameras);
+        OfMeshes.mark(node, &mut meshes);
+        OfDefaultWeights.mark(node, &mut defaults);
+        OfSkins.mark(node, &mut skins);
+    }
+    Ok(NodeMarks {
+        cameras,
+        meshes,
+        defaults,
+        skins,
+    })
 }

@@ -11,7 +11,7 @@ pub use marking::{
     Marking, OfAttributes, OfBuffers, OfCameras, OfDefaultWeights, OfIndices, OfKeyframes,
     OfMaterials, OfMatrices, OfMeshes, OfSkins, OfTargets, OfViews, mark_items,
 };
-pub use sharing::{shared_views, views_of};
+pub use sharing::{ViewUses, shared_views, view_uses, views_of};
 pub use surfaces::{OfImages, OfSamplers, OfTextures};
 pub use unused::{UnusedRules, WeightRules};
 pub use usage::{UsageRules, ViewUsageRules};

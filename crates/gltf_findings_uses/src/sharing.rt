@@ -48,6 +48,51 @@ pub fn shared_views(
     Ok(twice)
 }
 
+/// Which buffer views accessors use for attributes and for indices.
+#[derive(Drop)]
+pub struct ViewUses {
+    /// Which are used for attributes.
+    pub attributes: Vec<bool>,
+    /// Which are used for indices.
+    pub indices: Vec<bool>,
+    /// Which several accessors use for attributes.
+    pub shared: Vec<bool>,
+}
+
+/// Marks the buffer views, of so many, that the accessors of attributes and those of indices name,
+/// in one pass. Fails only if out of memory.
+pub fn view_uses(
+    alloc: Global,
+    count: usize,
+    accessors: &[Accessor],
+    attributes: &[bool],
+    indices: &[bool],
+) -> Result<ViewUses, AllocError>
+    ensures attributes { IfOk result (λ marks. marks.attributes.items
+        ≡ views_of attributes.now 0 accessors.now (replicate count false)) }
+    ensures indices { IfOk result (λ marks. marks.indices.items
+        ≡ views_of indices.now 0 accessors.now (replicate count false)) }
+    ensures shared { IfOk result (λ marks. marks.shared.items
+        ≡ shared_views attributes.now 0 accessors.now (replicate count false)
+        (replicate count false)) }
+{
+    let mut once = vec![in alloc; false; count]?;
+    let mut twice = vec![in alloc; false; count]?;
+    let mut others = vec![in alloc; false; count]?;
+    for number in 0..accessors.len() {
+        let view = accessors[number].buffer_view;
+        let is_chosen = is_marked(attributes, number);
+        mark_twice(is_chosen, &once, &mut twice, view);
+        mark_if(is_chosen, &mut once, view);
+        mark_if(is_marked(indices, number), &mut others, view);
+    }
+    Ok(ViewUses {
+        attributes: once,
+        indices: others,
+        shared: twice,
+    })
+}
+
 /// Marks the view that an index names, if the accessor is chosen.
 fn mark_if(is_chosen: bool, marks: &mut Vec<bool>, view: Option<Index<View>>)
     ensures { marks.new.items ≡ mark_if is_chosen marks.old.items view }

@@ -11,8 +11,7 @@ use gltf_findings_codes::{Finding, Name, add_all};
 use gltf_findings_uses::{
     Marking, OfAttributes, OfBuffers, OfCameras, OfDefaultWeights, OfImages, OfIndices,
     OfKeyframes, OfMaterials, OfMatrices, OfMeshes, OfSamplers, OfSkins, OfTargets, OfTextures,
-    OfViews, UnusedRules, UsageRules, ViewUsageRules, WeightRules, mark_items, shared_views,
-    views_of,
+    OfViews, UnusedRules, UsageRules, ViewUsageRules, WeightRules, mark_items, view_uses,
 };
 use gltf_root::root::Root;
 use std::alloc::{AllocError, Global};
@@ -68,10 +67,8 @@ fn add_view_usages(
 {
     let alloc = *to.allocator();
     let count = root.buffer_views.len();
-    let attribute_views = views_of(alloc, count, &root.accessors, attributes)?;
-    let index_views = views_of(alloc, count, &root.accessors, indices)?;
-    let shared = shared_views(alloc, count, &root.accessors, attributes)?;
-    let views = view_usage(&attribute_views, &index_views, &shared);
+    let uses = view_uses(alloc, count, &root.accessors, attributes, indices)?;
+    let views = view_usage(&uses.attributes, &uses.indices, &uses.shared);
     add_all(to, &views, &root.buffer_views)
 }
 

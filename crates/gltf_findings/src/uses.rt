@@ -23,34 +23,36 @@ use std::alloc::{AllocError, Global};
 pub fn add_uses(to: &mut Vec<Finding>, root: &Root) -> Result<(), AllocError>
     ensures { OnOk result (to.new.items ≡ to.old.items ++ use_findings root.now) }
 {
-    add_usages(to, root)?;
+    let attributes = attribute_marks(*to.allocator(), root)?;
+    add_usages(to, root, &attributes)?;
     if are_supported(&root.extensions_used) {
-        add_unused(to, root)
+        add_unused(to, root, &attributes)
     } else {
         Ok(())
     }
 }
 
-/// Adds the findings of unused items.
+/// Adds the findings of unused items, by the marks of attributes.
 #[tactic(auto, using(std::proofs::lemmas::List::append_assoc))]
-fn add_unused(to: &mut Vec<Finding>, root: &Root) -> Result<(), AllocError>
+fn add_unused(to: &mut Vec<Finding>, root: &Root, attributes: &[bool]) -> Result<(), AllocError>
+    requires { attributes.now ≡ attribute_marks root.now }
     ensures { OnOk result (to.new.items ≡ to.old.items ++ unused_in root.now) }
 {
-    add_stored_uses(to, root)?;
+    add_stored_uses(to, root, attributes)?;
     add_shown_uses(to, root)?;
     add_placed_uses(to, root)
 }
 
-/// Adds the findings of accessors and buffer views that are used in two ways.
+/// Adds the findings of accessors and buffer views that are used in two ways, by the marks of
+/// attributes.
 #[tactic(auto, using(std::proofs::lemmas::List::append_assoc))]
-fn add_usages(to: &mut Vec<Finding>, root: &Root) -> Result<(), AllocError>
+fn add_usages(to: &mut Vec<Finding>, root: &Root, attributes: &[bool]) -> Result<(), AllocError>
+    requires { attributes.now ≡ attribute_marks root.now }
     ensures { OnOk result (to.new.items ≡ to.old.items ++ usage_findings root.now) }
 {
-    let alloc = *to.allocator();
-    let attributes = attribute_marks(alloc, root)?;
-    let indices = index_marks(alloc, root)?;
-    add_all(to, &usage(&attributes, &indices), &root.accessors)?;
-    add_view_usages(to, root, &attributes, &indices)
+    let indices = index_marks(*to.allocator(), root)?;
+    add_all(to, &usage(attributes, &indices), &root.accessors)?;
+    add_view_usages(to, root, attributes, &indices)
 }
 
 /// Adds the findings of buffer views by the accessors that are used for attributes and for indices.
@@ -118,13 +120,19 @@ fn index_marks(alloc: Global, root: &Root) -> Result<Vec<bool>, AllocError>
     Ok(marks)
 }
 
-/// Adds the findings of accessors, buffers and buffer views that nothing uses.
+/// Adds the findings of accessors, buffers and buffer views that nothing uses, by the marks of
+/// attributes.
 #[tactic(auto, using(std::proofs::lemmas::List::append_assoc))]
-fn add_stored_uses(to: &mut Vec<Finding>, root: &Root) -> Result<(), AllocError>
+fn add_stored_uses(
+    to: &mut Vec<Finding>,
+    root: &Root,
+    attributes: &[bool],
+) -> Result<(), AllocError>
+    requires { attributes.now ≡ attribute_marks root.now }
     ensures { OnOk result (to.new.items ≡ to.old.items ++ stored_use_findings root.now) }
 {
     let alloc = *to.allocator();
-    let accessors = accessor_marks(alloc, root)?;
+    let accessors = accessor_marks(alloc, root, attributes)?;
     let views = view_marks(alloc, root)?;
     let buffers = buffer_marks(alloc, root)?;
     add_all(to, &unused(Name::Accessors, &accessors), &root.accessors)?;
@@ -140,12 +148,12 @@ fn unused(list: Name, marks: &[bool]) -> UnusedRules<'_>
     UnusedRules { list, marks }
 }
 
-/// Marks the accessors that something names.
-fn accessor_marks(alloc: Global, root: &Root) -> Result<Vec<bool>, AllocError>
+/// Marks the accessors that something names, in a copy of the marks of attributes.
+fn accessor_marks(alloc: Global, root: &Root, attributes: &[bool]) -> Result<Vec<bool>, AllocError>
+    requires { attributes.now ≡ attribute_marks root.now }
     ensures { IfOk result (λ marks. marks.items ≡ accessor_marks root.now) }
 {
-    let mut marks = vec![in alloc; false; root.accessors.len()]?;
-    mark_items(&mut marks, &OfAttributes, &root.meshes);
+    let mut marks = attributes.to_vec(alloc)?;
     mark_items(&mut marks, &OfTargets, &root.meshes);
     mark_items(&mut marks, &OfIndices, &root.meshes);
     mark_items(&mut marks, &OfMatrices, &root.skins);

@@ -23,10 +23,10 @@ use std::alloc::{AllocError, Global};
 pub fn add_uses(to: &mut Vec<Finding>, root: &Root) -> Result<(), AllocError>
     ensures { OnOk result (to.new.items ≡ to.old.items ++ use_findings root.now) }
 {
-    let attributes = attribute_marks(*to.allocator(), root)?;
-    add_usages(to, root, &attributes)?;
+    let marks = usage_marks(*to.allocator(), root)?;
+    add_usages(to, root, &marks.attributes, &marks.indices)?;
     if are_supported(&root.extensions_used) {
-        add_unused(to, root, &attributes)
+        add_unused(to, root, &marks.attributes)
     } else {
         Ok(())
     }
@@ -44,15 +44,20 @@ fn add_unused(to: &mut Vec<Finding>, root: &Root, attributes: &[bool]) -> Result
 }
 
 /// Adds the findings of accessors and buffer views that are used in two ways, by the marks of
-/// attributes.
+/// attributes and of indices.
 #[tactic(auto, using(std::proofs::lemmas::List::append_assoc))]
-fn add_usages(to: &mut Vec<Finding>, root: &Root, attributes: &[bool]) -> Result<(), AllocError>
-    requires { attributes.now ≡ attribute_marks root.now }
+fn add_usages(
+    to: &mut Vec<Finding>,
+    root: &Root,
+    attributes: &[bool],
+    indices: &[bool],
+) -> Result<(), AllocError>
+    requires attributes { attributes.now ≡ attribute_marks root.now }
+    requires indices { indices.now ≡ index_marks root.now }
     ensures { OnOk result (to.new.items ≡ to.old.items ++ usage_findings root.now) }
 {
-    let indices = index_marks(*to.allocator(), root)?;
-    add_all(to, &usage(attributes, &indices), &root.accessors)?;
-    add_view_usages(to, root, attributes, &indices)
+    add_all(to, &usage(attributes, indices), &root.accessors)?;
+    add_view_usages(to, root, attributes, indices)
 }
 
 /// Adds the findings of buffer views by the accessors that are used for attributes and for indices.
@@ -102,22 +107,30 @@ fn view_usage<'a>(
     }
 }
 
-/// Marks the accessors of attributes.
-fn attribute_marks(alloc: Global, root: &Root) -> Result<Vec<bool>, AllocError>
-    ensures { IfOk result (λ marks. marks.items ≡ attribute_marks root.now) }
-{
-    let mut marks = vec![in alloc; false; root.accessors.len()]?;
-    mark_items(&mut marks, &OfAttributes, &root.meshes);
-    Ok(marks)
+/// Which accessors meshes use.
+#[derive(Drop)]
+struct UsageMarks {
+    /// Those of attributes.
+    attributes: Vec<bool>,
+    /// Those of indices.
+    indices: Vec<bool>,
 }
 
-/// Marks the accessors of indices.
-fn index_marks(alloc: Global, root: &Root) -> Result<Vec<bool>, AllocError>
-    ensures { IfOk result (λ marks. marks.items ≡ index_marks root.now) }
+/// Marks the accessors of attributes and those of indices, in one pass.
+fn usage_marks(alloc: Global, root: &Root) -> Result<UsageMarks, AllocError>
+    ensures attributes { IfOk result (λ marks. marks.attributes.items ≡ attribute_marks root.now) }
+    ensures indices { IfOk result (λ marks. marks.indices.items ≡ index_marks root.now) }
 {
-    let mut marks = vec![in alloc; false; root.accessors.len()]?;
-    mark_items(&mut marks, &OfIndices, &root.meshes);
-    Ok(marks)
+    let mut attributes = vec![in alloc; false; root.accessors.len()]?;
+    let mut indices = vec![in alloc; false; root.accessors.len()]?;
+    for mesh in &root.meshes {
+        OfAttributes.mark(mesh, &mut attributes);
+        OfIndices.mark(mesh, &mut indices);
+    }
+    Ok(UsageMarks {
+        attributes,
+        indices,
+    })
 }
 
 /// Adds the findings of accessors, buffers and buffer views that nothing uses, by the marks of

@@ -1,1 +1,4 @@
+pub mod NoneInObjects
+pub mod NoneInValues
+pub mod NoneNoted
 pub mod Stepping

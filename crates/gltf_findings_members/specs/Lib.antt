@@ -6,6 +6,7 @@ pub mod Members
 pub mod Misfits
 pub mod Noted
 pub mod Notices
+pub mod Quiet
 pub mod Required
 pub mod Rows
 pub mod Steps

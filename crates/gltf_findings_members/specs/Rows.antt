@@ -32,8 +32,11 @@ reads_null_as_absent m d = or_null m.presence && is_some (as_null d)
 abbrev pub is_left_open : List ℕ → Bool
 is_left_open n = bytes_eq n (codes "node")
 
+abbrev pub is_needed : Member → Bool
+is_needed m = is_required m.presence && not (is_left_open m.name.now)
+
 abbrev pub is_missing : Data → Member → Option Code
-is_missing d m = if is_required m.presence && not (is_left_open m.name.now) && is_none (get m.name.now d) then Some UndefinedProperty else None
+is_missing d m = if is_needed m && is_none (get m.name.now d) then Some UndefinedProperty else None
 
 -- the members of an object that have to be there and are missing, in the order of rows
 abbrev pub missing_notices : List Step → Data → List Member → List Noted

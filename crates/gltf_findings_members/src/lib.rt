@@ -15,11 +15,13 @@ mod members;
 mod misfit;
 mod notice;
 mod notices;
+mod quiet;
 mod required;
 mod rows;
 mod table;
 mod uses;
 mod walk;
+mod whole;
 
 pub use gltf_findings_codes::{Code as NoticeCode, Severity as NoticeSeverity};
 pub use notice::Notice;

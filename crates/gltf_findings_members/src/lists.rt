@@ -1,8 +1,10 @@
 //! Lists: indexes that are listed twice, empty lists, and lists of a fixed length.
 
-ghost use Rattle.std.specs.Prelude.{◌≡◌, [], option_map, IfOk, OnOk};
+ghost use Rattle.std.specs.Prelude.{◌≡◌, [], not, option_map, IfOk, OnOk};
+ghost use Rattle.std.specs.BTreeSet.{insert_key};
+ghost use Rattle.std.specs.Ordering.{nat_cmp};
 ghost use Rattle.serde_json.specs.View.{view, items_view};
-ghost use Rattle.gltf_findings_members.specs.Lists.{repeats_from, repeat_code, with_index, empty_code, length_code, repeat_notices};
+ghost use Rattle.gltf_findings_members.specs.Lists.{is_among, repeats_from, repeat_code, with_index, empty_code, length_code, repeat_notices};
 ghost use Rattle.gltf_findings_members.specs.Noted.{steps_in, Adds};
 
 use crate::notice::Noticing;
@@ -49,11 +51,20 @@ fn repeat_code(before: &mut BTreeSet<u64>, value: &Value) -> Result<Option<Code>
     let Some(number) = value.as_u64() else {
         return Ok(None);
     };
-    if before.insert(number)? {
+    if is_new(before, number)? {
         Ok(None)
     } else {
         Ok(Some(Code::DuplicateElements))
     }
+}
+
+/// Whether a number is none of those before, and adds it to them.
+pub(crate) fn is_new(before: &mut BTreeSet<u64>, number: u64) -> Result<bool, AllocError>
+    ensures new { IfOk result (λ new. new ≡ not (is_among before.old.keys number)) }
+    ensures after { OnOk result (before.new.keys ≡ insert_key nat_cmp before.old.keys number) }
+{
+    let is_new = before.insert(number)?;
+    Ok(is_new)
 }
 
 /// The code of a list that must not be empty and is.

@@ -2,7 +2,7 @@
 
 ghost use Rattle.std.specs.Prelude.{◌≡◌, option_map};
 ghost use Rattle.serde_json.specs.View.{view, members_view};
-ghost use Rattle.gltf_findings_members.specs.Rows.{row_named, reads_null_as_absent, is_missing, missing_notices, own_notices, empty_target_code, is_target, unknown_code};
+ghost use Rattle.gltf_findings_members.specs.Rows.{row_named, reads_null_as_absent, is_missing, is_needed, missing_notices, own_notices, empty_target_code, is_target, unknown_code};
 ghost use Rattle.gltf_findings_members.specs.Noted.{steps_in, Adds};
 
 use crate::attribute::is_attribute;
@@ -74,11 +74,18 @@ fn note_missing<'a>(
     Ok(())
 }
 
+/// Whether a row's member has to be there.
+pub(crate) fn is_needed(row: &Member) -> bool
+    ensures { result ≡ is_needed row.now }
+{
+    row.presence == Presence::Required && row.name != "node"
+}
+
 /// The code of a row whose member has to be there and is missing.
 fn is_missing(value: &Value, row: &Member) -> Option<Code>
     ensures { result ≡ is_missing (view value.now) row.now }
 {
-    if row.presence == Presence::Required && row.name != "node" && value.get(row.name).is_none() {
+    if is_needed(row) && value.get(row.name).is_none() {
         Some(Code::UndefinedProperty)
     } else {
         None
@@ -86,7 +93,7 @@ fn is_missing(value: &Value, row: &Member) -> Option<Code>
 }
 
 /// Whether the object displaces attributes: it has a row `POSITION`.
-fn is_target(rows: &[Member]) -> bool
+pub(crate) fn is_target(rows: &[Member]) -> bool
     ensures { result ≡ is_target rows.now }
 {
     row_named(rows, "POSITION").is_some()

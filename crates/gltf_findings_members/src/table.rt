@@ -15,6 +15,7 @@ use std::collections::BTreeSet;
 /// The outline of the document's type, and what is said of extensions.
 #[derive(Drop)]
 pub(crate) struct Table<'a> {
+    pub(crate) alloc: Global,
     pub(crate) nodes: &'a [Shape],
     /// The names in `extensionsUsed`.
     pub(crate) used: &'a BTreeSet<String>,
@@ -47,6 +48,13 @@ impl<'a> Table<'a> {
         } else {
             Some(Code::UndeclaredExtension)
         }
+    }
+
+    /// Whether some object has an extension.
+    pub(crate) fn knows(&self, name: &str) -> bool
+        ensures { result ≡ is_known (format_of self.now).known name.now }
+    {
+        is_known(self.known, name)
     }
 
     /// The code of an extension object that the object's rows don't name: the extension belongs to

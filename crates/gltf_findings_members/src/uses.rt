@@ -1,6 +1,6 @@
 //! The extensions that a document lists as used.
 
-ghost use Rattle.std.specs.Prelude.{◌≡◌, ◌||◌, ℕ, List, IfOk, OnOk, option_map};
+ghost use Rattle.std.specs.Prelude.{◌≡◌, ◌||◌, ℕ, List, IfOk, OnOk, bytes_eq, option_map};
 ghost use Rattle.std.specs.BTreeSet.{contains_text};
 ghost use Rattle.serde_json.specs.View.{view, items_view};
 ghost use Rattle.gltf_findings_members.specs.Uses.{items_at, uses, has_text, is_text};
@@ -37,18 +37,31 @@ fn texts_in(alloc: Global, items: &[Value]) -> Result<BTreeSet<String>, AllocErr
 {
     let mut used = BTreeSet::new(alloc);
     for item in items {
-        add_text(alloc, &mut used, item)?;
+        add_item(alloc, &mut used, item)?;
     }
     Ok(used)
 }
 
 /// Adds a value that is a text.
-fn add_text(alloc: Global, used: &mut BTreeSet<String>, item: &Value) -> Result<(), AllocError>
+fn add_item(alloc: Global, used: &mut BTreeSet<String>, item: &Value) -> Result<(), AllocError>
     ensures { OnOk result ((q : List ℕ) → contains_text used.new q
         ≡ (contains_text used.old q || is_text q (view item.now))) }
 {
-    if let Some(text) = item.as_str() {
-        used.insert(String::from_str(alloc, text)?)?;
+    match item.as_str() {
+        Some(text) => add_text(alloc, used, text),
+        None => Ok(()),
     }
+}
+
+/// Adds a text.
+pub(crate) fn add_text(
+    alloc: Global,
+    used: &mut BTreeSet<String>,
+    text: &str,
+) -> Result<(), AllocError>
+    ensures { OnOk result ((q : List ℕ) → contains_text used.new q
+        ≡ (contains_text used.old q || bytes_eq text.now q)) }
+{
+    used.insert(String::from_str(alloc, text)?)?;
     Ok(())
 }

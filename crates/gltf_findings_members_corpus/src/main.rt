@@ -28,14 +28,17 @@ fn lines_of(alloc: Global, outline: &Outline, document: &str) -> Result<String> 
     Ok(lines)
 }
 
-/// Whether a document has the notices that are expected. Prints the case if it doesn't.
+/// Whether a document has the notices that are expected, and the first look at its text finds that
+/// it has none if that is so. Prints the case if not.
 fn is_case_expected(rt: &HostRuntime, outline: &Outline, case: &Value) -> Result<bool> {
-    let found = lines_of(rt.alloc(), outline, text_of(case, "text")?)?;
+    let text = text_of(case, "text")?;
+    let found = lines_of(rt.alloc(), outline, text)?;
     let expected = text_of(case, "finds")?;
-    let well = found.as_str() == expected;
+    let is_none = Notices::are_none(rt.alloc(), outline, text);
+    let well = found.as_str() == expected && is_none == expected.is_empty();
     if !well {
         let name = text_of(case, "name")?;
-        println!(rt; "{name}:\nexpected\n{expected}found\n{found}")?;
+        println!(rt; "{name}: first look {is_none}\nexpected\n{expected}found\n{found}")?;
     }
     Ok(well)
 }

@@ -1,10 +1,8 @@
 -- The set has the text, and what it had before.
-use Rattle.std.proofs.Common.{◌≡◌, ◌∙◌, ℕ, List, Bool, true, false, Option, Some, cond, option_map, string_bytes, bytes_eq, refl, ap, sym}
+use Rattle.std.proofs.Common.{◌≡◌, ◌∙◌, ℕ, List, Bool, true, false, cond, string_bytes, bytes_eq, refl, ap}
 use Rattle.std.specs.Prelude.{◌||◌}
 use Rattle.std.specs.BTreeSet.{contains_text}
 use Rattle.std.proofs.lemmas.Map.Text.{btree_set_updates_text}
-use Rattle.serde_json.specs.View.{view}
-use Rattle.gltf_findings_members.specs.Uses.{is_text, is_bytes}
 use Rattle.gltf_findings_members.proofs.uses.add_text.Goals as goal
 
 either : (a b : Bool) → cond a true b ≡ (b || a)
@@ -13,12 +11,10 @@ either true false = refl
 either false true = refl
 either false false = refl
 
-pub returns-in_ok-insert : goal.returns-in_ok-insert
-returns-in_ok-insert c = λ q.
+pub returns : goal.returns
+returns c = λ q.
     let key = c.in_ok-from_str.field-0 in
     let old = c.args.used.now in
-    let found = ap (is_bytes q) (sym c.as_str.ensures ∙ ap (option_map (λ s. s.now)) c.in-Some.is) in
     btree_set_updates_text (string_bytes key) old c.insert.new.self true c.in_ok-insert.ensures.updates q
     ∙ either (bytes_eq (string_bytes key) q) (contains_text old q)
     ∙ ap (λ s. contains_text old q || bytes_eq s q) c.in_ok-from_str.ensures.ok
-    ∙ ap (λ b. contains_text old q || b) (sym found)

@@ -34,6 +34,9 @@ fn text_members(alloc: Global, outline: &Outline, text: &str) -> Result<Option<N
     ensures { IfOk result (λ found. held_in found
         ≡ value_members outline.now (read_json text.now)) }
 {
+    if Notices::are_none(alloc, outline, text) {
+        return Ok(None);
+    }
     match Value::from_str(alloc, text) {
         Ok(value) if is_version_1(&value) => Ok(None),
         Ok(value) => Ok(Some(Notices::of(alloc, outline, &value)?)),

@@ -1,12 +1,12 @@
 //! The findings of a file from all sources, in one list.
 
-ghost use Rattle.std.specs.Prelude.{◌≡◌, ◌++◌, ◌||◌, ℕ, List, IfOk, OnOk, map, string_bytes};
+ghost use Rattle.std.specs.Prelude.{◌≡◌, ◌++◌, ◌||◌, [], ℕ, List, IfOk, OnOk, map, string_bytes};
 ghost use Rattle.std.specs.BTreeSet.{contains_text};
 ghost use Rattle.gltf_findings_members.specs.Noted.{noted};
 ghost use Rattle.gltf_base.specs.Pointers.{pointer_text};
 ghost use Rattle.gltf_findings_codes.specs.Places.{place_steps};
 ghost use Rattle.gltf_findings_lines.specs.Located.{located};
-ghost use Rattle.gltf_findings_lines.specs.Sources.{gathered, is_said, located_glb, located_noted, pointed, said, says, unsaid_in, unsaid_one};
+ghost use Rattle.gltf_findings_lines.specs.Sources.{all_located, gathered, is_said, located_finding, located_glb, located_noted, pointed, said, says, unsaid_in, unsaid_one};
 
 use crate::finding::{FileFinding, Location};
 use gltf_findings_codes::{Code, Finding};
@@ -32,12 +32,23 @@ impl<'a> Sources<'a> {
     pub(crate) fn gathered(&self, alloc: Global) -> Result<Vec<FileFinding<'a>>, AllocError>
         ensures { IfOk result (λ all. map located all.items ≡ gathered self.now) }
     {
-        let said = said_by(alloc, self.members)?;
         let mut all = Vec::new(alloc);
         add_container(&mut all, self.container)?;
-        add_members(&mut all, self.members)?;
-        add_document(alloc, &mut all, &said, self.document)?;
+        self.add_behind(alloc, &mut all)?;
         Ok(all)
+    }
+
+    /// Adds the findings of the members, and those of the document that the members don't have.
+    fn add_behind(&self, alloc: Global, to: &mut Vec<FileFinding<'a>>) -> Result<(), AllocError>
+        ensures { OnOk result (map located to.new.items ≡ map located to.old.items
+            ++ all_located [] (map noted self.now.members.now) self.now.document.now) }
+    {
+        if self.members.is_empty() {
+            return add_all(to, self.document);
+        }
+        let said = said_by(alloc, self.members)?;
+        add_members(to, self.members)?;
+        add_document(alloc, to, &said, self.document)
     }
 }
 
@@ -64,6 +75,20 @@ fn add_members<'a>(to: &mut Vec<FileFinding<'a>>, notices: &'a [Notice]) -> Resu
         to.push(FileFinding {
             code: notice.code,
             location: Location::Pointer(&notice.pointer),
+        })?;
+    }
+    Ok(())
+}
+
+/// Adds the findings of a document.
+fn add_all(to: &mut Vec<FileFinding<'_>>, findings: &[Finding]) -> Result<(), AllocError>
+    ensures { OnOk result (map located to.new.items
+        ≡ map located to.old.items ++ map located_finding findings.now) }
+{
+    for finding in findings {
+        to.push(FileFinding {
+            code: finding.code,
+            location: Location::Place(finding.place),
         })?;
     }
     Ok(())

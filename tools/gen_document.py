@@ -1,11 +1,13 @@
 #!/usr/bin/env python3
-"""gen_document.py [--mb N] [--faults K] [--faulty items|leaves] [--seed S] [--shape NAME] > FILE.gltf
+"""gen_document.py [--mb N] [--faults K] [--faulty items|leaves] [--seed S] [--shape NAME] [--valid] > FILE.gltf
 
 A large document of everything that the format lists, of close to N million bytes of compact JSON, to measure with: a tree
 of nodes with transforms, meshes with indices and four attributes each, materials and textures, animations, skins, lights.
 It has no faults. --faults K breaks K indexes, spread evenly over the meshes of nodes. --faulty items breaks an index or a
 choice in each item of each list; --faulty leaves adds a morph target to each mesh and breaks its last index, which is the
-last leaf of the mesh. The same parameters give the same bytes.
+last leaf of the mesh. --valid obeys also the rules of the specification that reports say nothing of: joints differ, rotations
+have the length 1, matrices only move, and keyframes and matrices of skins have views without a stride. The same parameters
+give the same bytes.
 
 --shape NAME writes a document of N million bytes of one thing repeated instead, such as members of one name; shapes.py
 prints the names.
@@ -166,6 +168,26 @@ def break_leaves():
         made["primitives"][-1]["targets"] = [{"POSITION": 0, "NORMAL": 1, "TANGENT": NOTHING}]
 
 
+def obey():
+    for node in nodes:
+        if "rotation" in node:
+            length = sum(x * x for x in node["rotation"]) ** 0.5
+            node["rotation"] = [round(x / length, 6) for x in node["rotation"]]
+        if "matrix" in node:
+            node["matrix"] = [1, 0, 0, 0, 0, 1, 0, 0, 0, 0, 1, 0, *node["matrix"][:3], 1]
+    for made in skins:
+        made["joints"] = chance.sample(range(len(nodes)), min(16, len(nodes)))
+        views[accessors[made["inverseBindMatrices"]]["bufferView"]].pop("byteStride", None)
+    for made in animations:
+        for sampler in made["samplers"]:
+            for name in ("input", "output"):
+                views[accessors[sampler[name]]["bufferView"]].pop("byteStride", None)
+        for channel in made["channels"]:
+            channel["target"]["node"] -= channel["target"]["node"] % 2  # a node without a matrix
+
+
+if given.valid:
+    obey()
 if given.faulty == "items":
     break_items()
 elif given.faulty == "leaves":

@@ -2,10 +2,13 @@
 
 use crate::files::has_extension;
 use crate::refusal::Refusal;
-use gltf_findings_lines::{File, refusal_report};
+use gltf_findings_lines::{Code, File, refusal_report};
 use gltf_glb::Error as GlbError;
 use gltf_root::root::Found;
 use std::alloc::{AllocError, Global};
+
+/// The code of the validator for a text that is no JSON, which is no finding here.
+const INVALID_JSON: &str = "INVALID_JSON";
 
 /// The code of the validator for a refusal. It has none for a lack of memory.
 fn code_of(refusal: &Refusal) -> &'static str {
@@ -21,12 +24,12 @@ fn code_of(refusal: &Refusal) -> &'static str {
             fault: _,
             line: _,
             column: _,
-        } => "INVALID_JSON",
-        Refusal::Version1(_) => "UNKNOWN_ASSET_MAJOR_VERSION",
-        Refusal::Schema => "TYPE_MISMATCH",
+        } => INVALID_JSON,
+        Refusal::Version1(_) => Code::UnknownAssetMajorVersion.name(),
+        Refusal::Schema => Code::TypeMismatch.name(),
         Refusal::Member(mismatch) => match mismatch.found {
-            Found::Missing => "UNDEFINED_PROPERTY",
-            _ => "TYPE_MISMATCH",
+            Found::Missing => Code::UndefinedProperty.name(),
+            _ => Code::TypeMismatch.name(),
         },
         Refusal::Memory => "OUT_OF_MEMORY",
     }
@@ -35,17 +38,17 @@ fn code_of(refusal: &Refusal) -> &'static str {
 /// The code of the validator for the fault of a container.
 fn container_code(error: &GlbError) -> &'static str {
     match error {
-        GlbError::HeaderCutOff => "GLB_UNEXPECTED_END_OF_HEADER",
-        GlbError::NoMagic => "GLB_INVALID_MAGIC",
-        GlbError::Version(_) => "GLB_INVALID_VERSION",
-        GlbError::Length(_) => "GLB_LENGTH_MISMATCH",
-        GlbError::ChunkHeaderCutOff => "GLB_UNEXPECTED_END_OF_CHUNK_HEADER",
-        GlbError::ChunkUnaligned(_) => "GLB_CHUNK_LENGTH_UNALIGNED",
-        GlbError::ChunkCutOff(_) => "GLB_UNEXPECTED_END_OF_CHUNK_DATA",
-        GlbError::FirstChunk(_) => "GLB_UNEXPECTED_FIRST_CHUNK",
-        GlbError::JsonPadding => "INVALID_JSON",
-        GlbError::SecondJson => "GLB_DUPLICATE_CHUNK",
-        GlbError::MisplacedBin => "GLB_UNEXPECTED_BIN_CHUNK",
+        GlbError::HeaderCutOff => Code::GlbUnexpectedEndOfHeader.name(),
+        GlbError::NoMagic => Code::GlbInvalidMagic.name(),
+        GlbError::Version(_) => Code::GlbInvalidVersion.name(),
+        GlbError::Length(_) => Code::GlbLengthMismatch.name(),
+        GlbError::ChunkHeaderCutOff => Code::GlbUnexpectedEndOfChunkHeader.name(),
+        GlbError::ChunkUnaligned(_) => Code::GlbChunkLengthUnaligned.name(),
+        GlbError::ChunkCutOff(_) => Code::GlbUnexpectedEndOfChunkData.name(),
+        GlbError::FirstChunk(_) => Code::GlbUnexpectedFirstChunk.name(),
+        GlbError::JsonPadding => INVALID_JSON,
+        GlbError::SecondJson => Code::GlbDuplicateChunk.name(),
+        GlbError::MisplacedBin => Code::GlbUnexpectedBinChunk.name(),
     }
 }
 

@@ -51,8 +51,8 @@ impl Notices {
     /// Returns whether a text surely has no notices: `true` only if its value has none, or if it is
     /// no JSON. `false` says nothing: a text whose first look finds anything to look at more
     /// closely, or for which memory is refused, may have none all the same. It takes time in
-    /// proportion to the text, and n * log n for lists of n indexes. It allocates up to 16 bytes
-    /// for each byte of the text, and gives them back.
+    /// proportion to the text, and n * log n for lists of n indexes. Its tree takes about 8 bytes
+    /// for each byte of an ordinary text, and up to 75 if arrays nest. It gives them back.
     pub fn are_none(alloc: Global, outline: &Outline, text: &str) -> bool
         ensures { IsTrue result → (d : Data) → read text.now ≡ Some d
             → all_notices outline.now.nodes.items outline.now.root d ≡ [] }

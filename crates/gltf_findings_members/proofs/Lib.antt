@@ -1,4 +1,17 @@
+pub mod Excerpted
+pub mod Filled
+pub mod Having
+pub mod Keeping
+pub mod Leaves
+pub mod Listing
+pub mod Named
 pub mod NoneInObjects
 pub mod NoneInValues
 pub mod NoneNoted
+pub mod Numbered
+pub mod Passing
+pub mod Places
+pub mod Rooting
 pub mod Stepping
+pub mod Turning
+pub mod Viewing

@@ -8,7 +8,7 @@ use Rattle.std.proofs.lemmas.Slice.Eq.{bytes_eq-Decides}
 use Rattle.json.specs.Json as tree
 use Rattle.json.specs.Find as in_tree
 use Rattle.json.specs.Find.{later_or}
-use Rattle.serde_json.specs.Data.{Data, null, boolean, number, string, array, object, Members, no_members, member, put}
+use Rattle.serde_json.specs.Data.{Data, object, Members, no_members, member, put}
 use Rattle.serde_json.specs.Find.{get, get_member, as_object}
 use Rattle.serde_json.specs.Read.{of_json, of_members}
 use Rattle.serde_json.proofs.Views.{get_member-put, get_member-put_other}
@@ -20,7 +20,7 @@ use Rattle.gltf_findings_members.specs.Noted.{Noted}
 use Rattle.gltf_findings_members.specs.Quiet.{Reading, AreQuietBy}
 use Rattle.gltf_findings_members.specs.Required.{lacking_code}
 use Rattle.gltf_findings_members.specs.Rows.{is_missing, is_needed}
-use Rattle.gltf_findings_members.proofs.NoneNoted.{both, first_none, rest_none, number_reads, array_reads}
+use Rattle.gltf_findings_members.proofs.NoneNoted.{both, first_none, rest_none}
 
 alike : (k l : List ℕ) → slice_cmp nat_cmp k l ≡ Equal → k ≡ l
 alike k l is = (bytes_eq-Decides k l).0 (sym (is_eq-slice_cmp k l) ∙ ap is_eq is)
@@ -98,9 +98,6 @@ leads_in n js d read = by (of_members js no_members) refl read
 given_at : (n : List ℕ) (o : Option tree.Json) (j : tree.Json) (ms : Members) → o ≡ Some j → Leads n o None ms → (d : Data) × (of_json j ≡ Some d) × (get_member n ms ≡ Some d)
 given_at n o j ms is h = subst (λ x. Leads n x None ms) is h
 
-missing_at : (n : List ℕ) (o : Option tree.Json) (ms : Members) → o ≡ None → Leads n o None ms → get_member n ms ≡ None
-missing_at n o ms is h = subst (λ x. Leads n x None ms) is h
-
 -- what is found in a tree is found in the value
 pub found : (n : List ℕ) (j k : tree.Json) (d : Data) → of_json j ≡ Some d → in_tree.get n j ≡ Some k → (e : Data) × (of_json k ≡ Some e) × (get n d ≡ Some e)
 found n tree.null k d read is = absurd (cc)
@@ -112,17 +109,6 @@ found n (tree.object js) k d read is =
     let r = leads_in n js d read in
     let e = given_at n (in_tree.get_member n js) k r.0 is r.2 in
     (e.0, e.1, ap (get n) r.1 ∙ e.2)
-
--- and what isn't there isn't
-pub not_found : (n : List ℕ) (j : tree.Json) (d : Data) → of_json j ≡ Some d → in_tree.get n j ≡ None → get n d ≡ None
-not_found n tree.null d read is = let same : null ≡ d = cc in ap (get n) (sym same)
-not_found n (tree.boolean b) d read is = let same : boolean b ≡ d = cc in ap (get n) (sym same)
-not_found n (tree.number s) d read is = number_reads s (λ x. get n x ≡ None) (λ x e. refl) d read
-not_found n (tree.string s) d read is = let same : string s ≡ d = cc in ap (get n) (sym same)
-not_found n (tree.array js) d read is = array_reads js (λ x. get n x ≡ None) (λ x e. refl) d read
-not_found n (tree.object js) d read is =
-    let r = leads_in n js d read in
-    ap (get n) r.1 ∙ missing_at n (in_tree.get_member n js) r.0 is r.2
 
 -- ---- a member that is there
 
@@ -158,9 +144,3 @@ stays_filled (tree.member k j js) old ms filled read = stays_next k js old ms (o
 
 pub one_fills : (k : List ℕ) (j : tree.Json) (js : tree.Members) (ms : Members) → of_members (tree.member k j js) no_members ≡ Some ms → empty_object_code ms ≡ None
 one_fills k j js ms read = stays_next k js no_members ms (of_json j) (λ d h. stays_filled js (put k d no_members) ms (put_fills k d no_members) h) read
-
--- ---- what a look finds
-
-pub found_some : {X : Type 0} (view : X → tree.Json) (o : Option tree.Json) (r : Option X) → option_map view r ≡ o → is_some r ≡ true → (j : tree.Json) × (o ≡ Some j)
-found_some view o None same some = absurd (cc)
-found_some view o (Some x) same some = (view x, sym same)

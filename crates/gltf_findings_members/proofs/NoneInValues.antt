@@ -1,32 +1,25 @@
 -- Objects and lists without notices, by what is in them.
-use Rattle.std.proofs.Common.{◌≡◌, ℕ, ◌+◌, ◌==◌, List, [], ◌∷◌, ◌++◌, drop, get_or, length, zero, suc, ◌<◌, ◌≤◌, Bool, true, false, Option, Some, None, option_map, refl, sym, ap, ◌∙◌, subst, arith, Vec, Global}
-use Rattle.std.specs.Borrow.{Bor}
-use Rattle.std.proofs.lemmas.List.{drop_more}
-use Rattle.std.specs.Prelude.{if◌then◌else◌, option_and_then, slice_get}
+use Rattle.std.proofs.Common.{◌≡◌, ℕ, ◌+◌, List, [], ◌∷◌, ◌++◌, Bool, Option, Some, None, option_map, refl, ap, subst, Vec, Global}
+use Rattle.std.specs.Prelude.{option_and_then, slice_get}
 use Rattle.json.specs.Json as tree
-use Rattle.json.specs.Value.{value_view, items_view, members_view}
-use Rattle.json.specs.declared.value.Value.{Value}
-use Rattle.serde_json.specs.Data.{Data, array, object, Items, Members, no_members}
+use Rattle.serde_json.specs.Data.{Data, object, Items, Members, no_members}
 use Rattle.serde_json.specs.Data.{item as json_item}
-use Rattle.serde_json.specs.Events.{items_len}
 use Rattle.serde_json.specs.Read.{of_json, of_items, of_members}
 use Rattle.gltf_base.specs.Steps.{Step, field}
 use Rattle.gltf_base.specs.Steps.{item as to_item}
 use Rattle.gltf_schema.specs.declared.outline.Member.{Member}
-use Rattle.gltf_schema.specs.declared.outline.Shape.{Shape}
 use Rattle.gltf_schema.specs.declared.outline.Shape.TheVariants.{Numbers, Indexes, List as ListOf, Object}
-use Rattle.gltf_findings_codes.specs.declared.code.Code.TheVariants.{EmptyEntity}
 use Rattle.gltf_findings_members.specs.Empty.{empty_object_code}
 use Rattle.gltf_findings_members.specs.Format.{Format, undeclared_code}
 use Rattle.gltf_findings_members.specs.Lists.{empty_code, length_code, repeat_notices}
 use Rattle.gltf_findings_members.specs.Members.{attribute_code, attribute_notices}
 use Rattle.gltf_findings_members.specs.Misfits.{index_misfit}
-use Rattle.gltf_findings_members.specs.Noted.{Noted, maybe_note}
+use Rattle.gltf_findings_members.specs.Noted.{maybe_note}
 use Rattle.gltf_findings_members.specs.Quiet.{Reading, IsQuiet, AreQuietItems, AreQuietBy, HaveMember, HaveNoRepeats, LacksNone}
 use Rattle.gltf_findings_members.specs.Required.{lacking_code, lacking_notices}
 use Rattle.gltf_findings_members.specs.Rows.{empty_target_code, is_missing, missing_notices, own_notices}
 use Rattle.gltf_findings_members.specs.Walk.{notices, item_notices, member_notice, member_notices, extension_notice, extension_members_notices}
-use Rattle.gltf_findings_members.proofs.NoneNoted.{both, array_reads, object_reads, read_len}
+use Rattle.gltf_findings_members.proofs.NoneNoted.{both, array_reads, object_reads}
 use Rattle.gltf_findings_members.proofs.NoneInObjects.{quiet_member}
 
 -- ---- one member in front of others
@@ -82,9 +75,6 @@ quiet_numbers f n i js len quiet l at d read =
 pub lacks_row : (m : Member) (ms : List Member) (j : tree.Json) → Reading j (λ d. is_missing d m ≡ None) → LacksNone ms j → LacksNone (m ∷ ms) j
 lacks_row m ms j here more at d read = both (maybe_note (at ++ field m.name.now ∷ []) (is_missing d m)) (missing_notices at d ms) (ap (maybe_note (at ++ field m.name.now ∷ [])) (here d read)) (more at d read)
 
-pub next_row : (rows : List Member) (i : ℕ) (m : Member) (j : tree.Json) → i < length rows → Reading j (λ d. is_missing d (get_or rows i m) ≡ None) → LacksNone (drop (i + 1) rows) j → LacksNone (drop i rows) j
-next_row rows i m j less here more = subst (λ ms. LacksNone ms j) (sym (drop_more rows i m less)) (lacks_row (get_or rows i m) (drop (i + 1) rows) j here more)
-
 has_next : (n : List ℕ) (at : List Step) (i : ℕ) (ds : Items) (o : Option Data) (p : Option Items) → ((d : Data) → o ≡ Some d → lacking_code n d ≡ None) → ((es : Items) → p ≡ Some es → lacking_notices at n (i + 1) es ≡ [])
     → option_and_then (λ d. option_map (json_item d) p) o ≡ Some ds → lacking_notices at n i ds ≡ []
 has_next n at i ds None p here more h = absurd (cc)
@@ -96,30 +86,3 @@ has_next n at i ds (Some d) (Some es) here more h =
 
 pub item_has : (n : List ℕ) (j : tree.Json) (js : tree.Items) → Reading j (λ d. lacking_code n d ≡ None) → HaveMember n js → HaveMember n (tree.item j js)
 item_has n j js here more at i ds read = has_next n at i ds (of_json j) (of_items js) here (λ es e. more at (i + 1) es e) read
-
--- ---- what a look finds
-
--- a shape and a value, by what they are
-pub placed : (f : Format) (o : Option (Bor Shape)) (v : Value Global) (s : Shape) (j : tree.Json) → option_map (λ s. s.now) o ≡ Some s → value_view v ≡ j → IsQuiet f (Some s) j → IsQuiet f (option_map (λ s. s.now) o) (value_view v)
-placed f o v s j shape seen quiet = subst (λ x. IsQuiet f x (value_view v)) (sym shape) (subst (λ x. IsQuiet f (Some s) x) (sym seen) quiet)
-
-pub drop_past : {X : Type 0} (i : ℕ) (xs : List X) → length xs ≤ i → drop i xs ≡ []
-drop_past zero [] h = refl
-drop_past zero (x ∷ xs) h = absurd (omega arith)
-drop_past (suc i) [] h = refl
-drop_past (suc i) (x ∷ xs) h = drop_past i xs (omega arith)
-
-not_zero : (n m : ℕ) → n ≡ m + 1 → (if n == 0 then Some EmptyEntity else None) ≡ None
-not_zero n m is = let no : (n == 0) ≡ false = grind (arith, is) in ap (λ b. if b then Some EmptyEntity else None) no
-
--- a list with items, and one of so many
-pub not_empty : (vs : List (Value Global)) (ds : Items) → (vs ≡ [] → ⊥) → of_items (items_view vs) ≡ Some ds → empty_code ds ≡ None
-not_empty [] ds some read = absurd (some refl)
-not_empty (v ∷ vs) ds some read =
-    let len : items_len ds ≡ length vs + 1 = read_len (v ∷ vs) ds read ∙ omega arith in
-    not_zero (items_len ds) (length vs) len
-
-pub as_long : (vs : List (Value Global)) (ds : Items) (n : ℕ) → length vs ≡ n → of_items (items_view vs) ≡ Some ds → length_code n ds ≡ None
-as_long vs ds n long read =
-    let same : items_len ds ≡ n = read_len vs ds read ∙ long in
-    grind (arith, same)

@@ -1,17 +1,13 @@
 -- What has no notices, level by level: of a tree of JSON, and of the value that it is read as.
-use Rattle.std.proofs.Common.{◌≡◌, ℕ, ◌+◌, ◌==◌, List, [], ◌∷◌, ◌++◌, length, Bool, true, false, Option, Some, None, option_map, refl, sym, ap, ◌∙◌, subst, is_eq, bytes_eq, arith, Ordering, Less, Equal, Greater}
-use Rattle.std.specs.Prelude.{option_and_then, is_some, is_none, slice_get}
+use Rattle.std.proofs.Common.{◌≡◌, ℕ, ◌+◌, List, [], ◌∷◌, ◌++◌, true, Option, Some, None, option_map, refl, sym, ap, ◌∙◌, subst, arith}
+use Rattle.std.specs.Prelude.{option_and_then}
 use Rattle.json.specs.Json as tree
-use Rattle.json.specs.Value.{value_view, items_view}
-use Rattle.json.specs.declared.value.Value.{Value}
 use Rattle.serde_json.specs.Events.{items_len}
-use Rattle.serde_json.specs.Data.{Num, Data, null, boolean, number, string, array, object, Items, no_items, item, Members, no_members, member, put}
+use Rattle.serde_json.specs.Data.{Num, Data, number, array, object, Items, no_items, item, Members, no_members}
 use Rattle.serde_json.specs.Read.{number_of, of_json, of_items, of_members}
-use Rattle.gltf_base.specs.Steps.{Step}
 use Rattle.gltf_base.specs.Steps.{item as to_item}
 use Rattle.gltf_schema.specs.declared.outline.Shape.{Shape}
 use Rattle.gltf_findings_members.specs.Format.{Format}
-use Rattle.gltf_findings_members.specs.Noted.{Noted}
 use Rattle.gltf_findings_members.specs.Quiet.{Reading, IsQuiet, AreQuietItems}
 use Rattle.gltf_findings_members.specs.Walk.{notices, item_notices}
 
@@ -59,14 +55,10 @@ object_reads js Is is d read = by (of_members js no_members) refl read
 
 -- ---- the items of a list
 
-next_len : (n : ℕ) (o : Option Data) (p : Option Items) (ds : Items) → ((es : Items) → p ≡ Some es → items_len es ≡ n) → option_and_then (λ d. option_map (item d) p) o ≡ Some ds → items_len ds ≡ n + 1
+pub next_len : (n : ℕ) (o : Option Data) (p : Option Items) (ds : Items) → ((es : Items) → p ≡ Some es → items_len es ≡ n) → option_and_then (λ d. option_map (item d) p) o ≡ Some ds → items_len ds ≡ n + 1
 next_len n None p ds len h = absurd (cc)
 next_len n (Some d) None ds len h = absurd (cc)
 next_len n (Some d) (Some es) ds len h = let same : item d es ≡ ds = cc in ap items_len (sym same) ∙ omega (arith, len es refl)
-
-pub read_len : {A : Type 0} (vs : List (Value A)) (ds : Items) → of_items (items_view vs) ≡ Some ds → items_len ds ≡ length vs
-read_len [] ds read = let same : no_items ≡ ds = cc in ap items_len (sym same)
-read_len (v ∷ vs) ds read = next_len (length vs) (of_json (value_view v)) (of_items (items_view vs)) ds (λ es h. read_len vs es h) read ∙ omega arith
 
 module _ (f : Format) (s : Option Shape) where
   pub quiet_no_items : AreQuietItems f s tree.no_items

@@ -1,6 +1,6 @@
 -- A step down and a step up, and the notices of what is left.
-use Rattle.std.proofs.Common.{◌≡◌, ◌++◌, ◌<◌, map, length, ℕ, List, [], ◌∷◌, Bool, true, false, Option, Some, None, refl, ap, sym, ◌∙◌, arith, append_assoc}
-use Rattle.std.specs.Prelude.{⊤, ◌↔◌, IsSome, option_to_list}
+use Rattle.std.proofs.Common.{◌≡◌, ◌++◌, ◌<◌, map, length, List, [], ◌∷◌, true, false, Option, Some, None, refl, ap, sym, ◌∙◌, arith, append_assoc}
+use Rattle.std.specs.Prelude.{IsSome, option_to_list}
 use Rattle.gltf_base.specs.Steps.{Step}
 use Rattle.gltf_findings_members.specs.Noted.{Noted}
 use Rattle.gltf_findings_members.specs.Steps.{without_last}

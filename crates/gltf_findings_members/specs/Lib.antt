@@ -1,7 +1,12 @@
 pub mod Attributes
+pub mod Document
 pub mod Empty
+pub mod First
 pub mod Format
+pub mod Kept
+pub mod LeftOut
 pub mod Lists
+pub mod Look
 pub mod Members
 pub mod Misfits
 pub mod Noted
@@ -9,6 +14,7 @@ pub mod Notices
 pub mod Quiet
 pub mod Required
 pub mod Rows
+pub mod Seen
 pub mod Steps
 pub mod Uses
 pub mod Walk

@@ -9,12 +9,12 @@ use Rattle.gltf_base.specs.Steps.{Step}
 use Rattle.gltf_schema.specs.declared.outline.Member.{Member}
 use Rattle.gltf_schema.specs.Read.{whole_number}
 use Rattle.gltf_schema.specs.declared.outline.Shape.{Shape}
-use Rattle.gltf_schema.specs.declared.outline.Shape.TheVariants.{Any}
+use Rattle.gltf_schema.specs.declared.outline.Shape.TheVariants.{Any, Text, Truth}
 use Rattle.gltf_findings_members.specs.Noted.{Noted}
 use Rattle.gltf_findings_members.specs.Format.{Format}
 use Rattle.gltf_findings_members.specs.Lists.{is_among, repeats_from, repeat_notices}
 use Rattle.gltf_findings_members.specs.Required.{lacking_notices}
-use Rattle.gltf_findings_members.specs.Rows.{missing_notices, reads_null_as_absent}
+use Rattle.gltf_findings_members.specs.Rows.{missing_notices}
 use Rattle.gltf_findings_members.specs.Walk.{notices, item_notices}
 
 -- of the value that a tree is read as, this is so
@@ -51,9 +51,15 @@ wants_any None = true
 wants_any (Some Any) = true
 wants_any _ = false
 
--- a value is null, and the row reads it as if the member were missing
-abbrev pub IsAbsent : Member → tree.Json → Type 0
-IsAbsent row j = Reading j (λ d. reads_null_as_absent row d ≡ true)
+-- a text is wanted, or any JSON
+abbrev pub wants_text : Option Shape → Bool
+wants_text (Some Text) = true
+wants_text s = wants_any s
+
+-- a truth value is wanted, or any JSON
+abbrev pub wants_truth : Option Shape → Bool
+wants_truth (Some Truth) = true
+wants_truth s = wants_any s
 
 -- a number that is not among those before, and the numbers with it
 abbrev pub IsNewItem : List ℕ → tree.Json → List ℕ → Type 0

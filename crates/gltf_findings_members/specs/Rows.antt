@@ -5,7 +5,7 @@ use Rattle.serde_json.specs.Find.{get, as_null}
 use Rattle.gltf_findings_members.specs.Empty.{empty_object_code}
 use Rattle.gltf_base.specs.Steps.{Step, field}
 use Rattle.gltf_schema.specs.declared.outline.Presence.{Presence}
-use Rattle.gltf_schema.specs.declared.outline.Presence.TheVariants.{Required, OrNull, Optional}
+use Rattle.gltf_schema.specs.declared.outline.Presence.TheVariants.{Required, OrNull}
 use Rattle.gltf_schema.specs.declared.outline.Member.{Member}
 use Rattle.gltf_findings_codes.specs.declared.code.Code.{Code}
 use Rattle.gltf_findings_codes.specs.declared.code.Code.TheVariants.{UndefinedProperty, UnexpectedProperty, MeshPrimitiveInvalidAttribute}

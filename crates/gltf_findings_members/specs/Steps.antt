@@ -1,5 +1,5 @@
 -- The steps to what holds a value.
-use Rattle.std.specs.Prelude.{ℕ, List, [], ◌∷◌}
+use Rattle.std.specs.Prelude.{List, [], ◌∷◌}
 use Rattle.gltf_base.specs.Steps.{Step}
 
 -- the steps but for the last

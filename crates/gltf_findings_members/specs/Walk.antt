@@ -12,7 +12,7 @@ use Rattle.gltf_findings_members.specs.Misfits.{misfit_in}
 use Rattle.gltf_findings_members.specs.Lists.{empty_code, length_code, repeat_notices}
 use Rattle.gltf_findings_members.specs.Rows.{row_named, reads_null_as_absent, own_notices, unknown_code}
 use Rattle.gltf_findings_members.specs.Members.{attributes_notices, extension_row}
-use Rattle.gltf_findings_members.specs.Format.{Format, rows_of, extension_rows, undeclared_code, unknown_extension_code, extras_code}
+use Rattle.gltf_findings_members.specs.Format.{Format, extension_rows, undeclared_code, unknown_extension_code, extras_code}
 
 -- ---- one level, with what is noticed inside
 

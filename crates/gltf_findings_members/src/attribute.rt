@@ -1,6 +1,6 @@
 //! The names of attributes (glTF 2.0, section 3.7.2.1).
 
-ghost use Rattle.std.specs.Prelude.{◌≡◌, option_map};
+ghost use Rattle.std.specs.Prelude.{◌≡◌};
 ghost use Rattle.std.specs.Option.{option_copied};
 ghost use Rattle.gltf_base.specs.Names.{behind};
 ghost use Rattle.gltf_findings_members.specs.Attributes.{is_attribute, is_numbered, is_set_number, all_digits, is_digit};

@@ -10,19 +10,27 @@
 #![tactic(auto)]
 
 mod attribute;
+mod document;
+mod excerpt;
+mod first;
+mod listed;
 mod lists;
+mod look;
 mod members;
 mod misfit;
 mod notice;
 mod notices;
-mod quiet;
 mod required;
+mod root_lists;
 mod rows;
+mod seen;
 mod table;
 mod uses;
 mod walk;
+mod wanted;
 mod whole;
 
+pub use first::FirstLook;
 pub use gltf_findings_codes::{Code as NoticeCode, Severity as NoticeSeverity};
 pub use notice::Notice;
 pub use notices::Notices;

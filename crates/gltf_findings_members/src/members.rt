@@ -1,7 +1,7 @@
 //! Members that no row names: attributes and extension objects.
 
 ghost use Rattle.std.specs.Prelude.{◌≡◌, option_map};
-ghost use Rattle.serde_json.specs.View.{view, members_view};
+ghost use Rattle.serde_json.specs.View.{members_view};
 ghost use Rattle.gltf_findings_members.specs.Members.{attribute_code, attribute_notices, attributes_notices, extension_row};
 ghost use Rattle.gltf_findings_members.specs.Noted.{steps_in, Adds};
 ghost use Rattle.gltf_findings_members.specs.Empty.{empty_object_code};

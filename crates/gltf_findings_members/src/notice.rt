@@ -1,6 +1,6 @@
 //! Notices, and how a walk gathers them.
 
-ghost use Rattle.std.specs.Prelude.{◌≡◌, ◌++◌, [], ◌∷◌, OnOk, map};
+ghost use Rattle.std.specs.Prelude.{◌≡◌, ◌++◌, [], ◌∷◌, OnOk};
 ghost use Rattle.gltf_base.specs.Steps.{step_of};
 ghost use Rattle.gltf_findings_members.specs.Noted.{steps_in, noted_in, note, Adds, maybe_note};
 ghost use Rattle.gltf_findings_members.specs.Steps.{without_last};
@@ -59,7 +59,8 @@ impl<'a> Noticing<'a> {
 
     /// Goes a step down.
     pub(crate) fn enter(&mut self, step: Step<'a>) -> Result<(), AllocError>
-        ensures steps { OnOk result (steps_in self.new ≡ steps_in self.old ++ step_of step.entry ∷ []) }
+        ensures steps { OnOk result
+            (steps_in self.new ≡ steps_in self.old ++ step_of step.entry ∷ []) }
         ensures notices { OnOk result (noted_in self.new ≡ noted_in self.old) }
     {
         self.steps.push(step)?;

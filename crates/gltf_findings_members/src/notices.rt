@@ -1,23 +1,20 @@
 //! All notices of a value.
 
 ghost use Rattle.std.specs.Prelude.{◌≡◌, [], IfOk, IsTrue};
-ghost use Rattle.json.specs.Value.{value_view};
 ghost use Rattle.serde_json.specs.Data.{Data};
 ghost use Rattle.serde_json.specs.Read.{read};
 ghost use Rattle.serde_json.specs.View.{view};
 ghost use Rattle.gltf_findings_members.specs.Format.{format_of};
 ghost use Rattle.gltf_findings_members.specs.Noted.{steps_in, Adds};
-ghost use Rattle.gltf_findings_members.specs.Quiet.{Reading};
 ghost use Rattle.gltf_findings_members.specs.Notices.{found_in, notices_in, all_notices, notices_at};
 
+use crate::first::FirstLook;
 use crate::notice::{Notice, Noticing};
-use crate::quiet::{have_required, is_quiet, names_in, tree_of};
 use crate::required::note_required;
 use crate::table::{Table, extension_lists};
 use crate::uses::names_used;
 use crate::walk::note_value;
 use gltf_schema::Outline;
-use json::{Scratch, Value as Tree};
 use serde_json::Value;
 use std::alloc::{AllocError, Global};
 
@@ -50,18 +47,13 @@ impl Notices {
 
     /// Returns whether a text surely has no notices: `true` only if its value has none, or if it is
     /// no JSON. `false` says nothing: a text whose first look finds anything to look at more
-    /// closely, or for which memory is refused, may have none all the same. It takes time in
-    /// proportion to the text, and n * log n for lists of n indexes. Its tree takes about 8 bytes
-    /// for each byte of an ordinary text, and up to 75 if arrays nest. It gives them back.
+    /// closely, or for which memory is refused, may have none all the same. It costs what
+    /// [`FirstLook::of`] does.
     pub fn are_none(alloc: Global, outline: &Outline, text: &str) -> bool
         ensures { IsTrue result → (d : Data) → read text.now ≡ Some d
             → all_notices outline.now.nodes.items outline.now.root d ≡ [] }
     {
-        let mut scratch = Scratch::new(alloc);
-        match tree_of(alloc, text, &mut scratch) {
-            Some(tree) => has_none(alloc, outline, &tree),
-            None => false,
-        }
+        matches!(FirstLook::of(alloc, outline, text), FirstLook::Quiet)
     }
 
     /// Returns the notices in order.
@@ -70,36 +62,6 @@ impl Notices {
     {
         &self.found
     }
-}
-
-/// Whether the tree of a text has no notices.
-fn has_none(alloc: Global, outline: &Outline, tree: &Tree<'_>) -> bool
-    ensures { IsTrue result → Reading (value_view tree.now)
-        (λ d. all_notices outline.now.nodes.items outline.now.root d ≡ []) }
-{
-    match (
-        names_in(alloc, tree),
-        extension_lists(alloc, &outline.nodes),
-    ) {
-        (Some(used), Ok(known)) => {
-            let table = Table {
-                alloc,
-                nodes: &outline.nodes,
-                used: &used,
-                known: &known,
-            };
-            is_silent(tree, outline.root, &table)
-        }
-        _ => false,
-    }
-}
-
-/// Whether the tree of a text has no notices beside a table.
-fn is_silent(tree: &Tree<'_>, root: usize, table: &Table<'_>) -> bool
-    ensures { IsTrue result → Reading (value_view tree.now)
-        (λ d. notices_at (format_of table.now) root [] d ≡ []) }
-{
-    is_quiet(tree, table.shape(root), table) && have_required(tree)
 }
 
 /// What is wrong with a value.
@@ -125,7 +87,8 @@ fn note_all<'a>(
     table: &'a Table<'a>,
     to: &mut Noticing<'a>,
 ) -> Result<(), AllocError>
-    ensures { Adds to.old result to.new (notices_at (format_of table.now) root (steps_in to.old) (view value.now)) }
+    ensures { Adds to.old result to.new
+        (notices_at (format_of table.now) root (steps_in to.old) (view value.now)) }
 {
     note_value(value, false, table.shape(root), table, to)?;
     note_required(value, to)

@@ -1,6 +1,6 @@
 //! What a walk looks things up in.
 
-ghost use Rattle.std.specs.Prelude.{◌≡◌, ◌++◌, IfOk, OnOk, map, option_map, option_to_list, slice_get};
+ghost use Rattle.std.specs.Prelude.{◌≡◌, ◌++◌, IfOk, OnOk, option_map, option_to_list, slice_get};
 ghost use Rattle.serde_json.specs.View.{view};
 ghost use Rattle.gltf_findings_members.specs.Format.{format_of, undeclared_code, unknown_extension_code, extension_rows, extension_list, extension_lists, lists_in, is_known, extras_code, rows_of};
 

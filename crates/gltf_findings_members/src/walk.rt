@@ -1,6 +1,6 @@
 //! The walk through a value, beside the outline of its type.
 
-ghost use Rattle.std.specs.Prelude.{◌≡◌, option_map};
+ghost use Rattle.std.specs.Prelude.{option_map};
 ghost use Rattle.serde_json.specs.View.{view, items_view, members_view};
 ghost use Rattle.gltf_findings_members.specs.Noted.{steps_in, Adds};
 ghost use Rattle.gltf_findings_members.specs.Format.{format_of};

@@ -1,8 +1,6 @@
 -- A list is empty if its view is.
-use Rattle.std.proofs.Common.{◌≡◌, ◌∙◌, ap, sym, Some, None, Option, Bool, true, false, nat_eq, if◌then◌else◌, rules}
+use Rattle.std.proofs.Common.{rules}
 use Rattle.serde_json.proofs.Views.{items_len-items_view}
-use Rattle.gltf_findings_codes.specs.declared.code.Code.{Code}
-use Rattle.gltf_findings_codes.specs.declared.code.Code.TheVariants.{EmptyEntity}
 use Rattle.gltf_findings_members.proofs.lists.empty_code.Goals as goal
 
 pub returns-else-is_empty : goal.returns-else-is_empty

@@ -1,9 +1,8 @@
 -- An object with entries has members.
-use Rattle.std.proofs.Common.{◌≡◌, List, [], ◌∷◌, length, Bool, true, false, Option, None, refl, IsTrue}
+use Rattle.std.proofs.Common.{◌≡◌, List, [], ◌∷◌, length, Bool, true, false, None, refl, IsTrue}
 use Rattle.std.specs.Prelude.{◌↔◌}
 use Rattle.serde_json.specs.View.{members_view}
 use Rattle.serde_json.proofs.Views.{Entry}
-use Rattle.gltf_findings_codes.specs.declared.code.Code.{Code}
 use Rattle.gltf_findings_members.specs.Empty.{empty_object_code}
 use Rattle.gltf_findings_members.proofs.members.empty_object_code.Goals as goal
 

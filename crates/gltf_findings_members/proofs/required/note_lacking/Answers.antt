@@ -1,5 +1,5 @@
 -- Each turn of the loop goes a step down, notices what is missing, and goes up again.
-use Rattle.std.proofs.Common.{◌≡◌, ◌++◌, ◌+◌, ◌∙◌, [], ◌∷◌, List, ap, sym, drop, arith}
+use Rattle.std.proofs.Common.{◌≡◌, ◌++◌, ◌+◌, ◌∙◌, [], ◌∷◌, ap, sym, drop, arith}
 use Rattle.std.proofs.lemmas.List.{drop_more}
 use Rattle.serde_json.specs.View.{view, items_view}
 use Rattle.gltf_base.specs.Steps.{field, item}

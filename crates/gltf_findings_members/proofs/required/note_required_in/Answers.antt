@@ -1,5 +1,5 @@
 -- A step to the list, its items, and a step up.
-use Rattle.std.proofs.Common.{◌≡◌, ◌++◌, ◌∙◌, [], ◌∷◌, ap, sym, option_map}
+use Rattle.std.proofs.Common.{◌++◌, ◌∙◌, [], ◌∷◌, ap, sym, option_map}
 use Rattle.serde_json.specs.View.{items_view}
 use Rattle.gltf_base.specs.Steps.{field}
 use Rattle.gltf_findings_members.specs.Noted.{steps_in, noted_in}

@@ -1,0 +1,174 @@
+//! A look at the members of a document.
+
+ghost use Rattle.std.specs.Prelude.{◌≡◌, false, true, ℕ, List, IfOk, IsTrue, None, OnOk, Some, length, option_map};
+ghost use Rattle.std.specs.BTreeSet.{contains_text};
+ghost use Rattle.json.specs.Json as tree;
+ghost use Rattle.gltf_schema.specs.declared.outline.Member.{Member as Row};
+ghost use Rattle.json.specs.Json.{members};
+ghost use Rattle.gltf_findings_members.specs.Document.{IsQuietRoot, SeesMembers, UsedNext};
+ghost use Rattle.gltf_findings_members.specs.Look.{Looks};
+ghost use Rattle.gltf_findings_members.specs.Rows.{row_named};
+ghost use Rattle.gltf_findings_members.specs.Seen.{AreUsed, IsQuietRow};
+
+use crate::root_lists::{look_listed, look_used};
+use crate::rows::is_target;
+use crate::seen::{has_all, note_seen, place_of, row_at};
+use crate::table::Table;
+use crate::uses::add_text;
+use gltf_schema::Member;
+use json::{Invalid, Reader};
+use std::alloc::Global;
+use std::collections::BTreeSet;
+
+/// The most rows of a document whose members a look keeps in mind.
+const MOST_ROWS: usize = 64;
+
+/// What a look at the members of a document sees.
+#[derive(Drop)]
+pub(crate) struct Seen {
+    /// The names of members that may have notices.
+    pub(crate) loud: BTreeSet<String>,
+    /// The extensions that the document lists as used, if it has a list.
+    pub(crate) used: Option<BTreeSet<String>>,
+    /// Whether the document has all members that it has to have.
+    pub(crate) is_whole: bool,
+    /// Whether a member that may have notices came before the list of used extensions. No clause
+    /// says so: it is a reason to look once more.
+    pub(crate) is_late: bool,
+}
+
+/// Looks at the members of a document behind its brace. Until the list of used extensions comes,
+/// those of the table are taken to be used.
+pub(crate) fn look_document(
+    reader: &mut Reader<'_>,
+    depth: usize,
+    rows: &[Member],
+    table: &Table<'_>,
+) -> Result<Seen, Invalid>
+    ensures { IfOk result (λ seen. (js : tree.Members)
+        × (members (tree.value depth) (length reader.old) reader.old ≡ Some (js, reader.new))
+        × SeesMembers table.now rows.now seen js) }
+{
+    let mut loud = BTreeSet::new(table.alloc);
+    let mut used = None;
+    let mut seen = [false; MOST_ROWS];
+    let mut is_late = false;
+    'members: while let Some(name) = reader.next_key()? {
+        let place = place_of(rows, name);
+        note_seen(&mut seen, place);
+        let row = row_at(rows, place, name);
+        let is_quiet = look_root_member(reader, depth, name, row, rows, table, &mut used)?;
+        is_late = is_late | (!is_quiet & used.is_none());
+        note_loud(table.alloc, &mut loud, name, is_quiet)?;
+    }
+    let is_whole = has_all(rows, &seen, &[]) & !is_target(rows);
+    Ok(Seen {
+        loud,
+        used,
+        is_whole,
+        is_late,
+    })
+}
+
+/// Notes the name of a member that may have notices.
+fn note_loud(
+    alloc: Global,
+    loud: &mut BTreeSet<String>,
+    name: &str,
+    is_quiet: bool,
+) -> Result<(), Invalid>
+    ensures kept { OnOk result ((q : List ℕ) → contains_text loud.old q ≡ true
+        → contains_text loud.new q ≡ true) }
+    ensures noted { OnOk result (is_quiet ≡ false → contains_text loud.new name.now ≡ true) }
+{
+    if is_quiet {
+        return Ok(());
+    }
+    match add_text(alloc, loud, name) {
+        Ok(()) => Ok(()),
+        Err(_) => Err(Invalid),
+    }
+}
+
+/// Looks at a member of a document. If it is the list of used extensions, it is taken in.
+fn look_root_member(
+    reader: &mut Reader<'_>,
+    depth: usize,
+    name: &str,
+    row: Option<&Member>,
+    rows: &[Member],
+    table: &Table<'_>,
+    used: &mut Option<BTreeSet<String>>,
+) -> Result<bool, Invalid>
+    requires { option_map (λ m. m.now) row ≡ row_named name.now rows.now }
+    ensures { IfOk result (λ quiet. (j : tree.Json)
+        × (tree.value depth reader.old ≡ Some (j, reader.new))
+        × UsedNext name.now j used.old used.new
+        × (IsTrue quiet → IsQuietRoot table.now rows.now name.now used.new j)) }
+{
+    match name {
+        "extensionsUsed" => {
+            let texts = look_first_used(reader, depth, row, table, used)?;
+            *used = Some(texts);
+            Ok(true)
+        }
+        _ => {
+            let quiet = look_beside(reader, depth, name, row, rows, table, used)?;
+            Ok(quiet)
+        }
+    }
+}
+
+/// Looks at the list of used extensions. Fails if there was one before.
+fn look_first_used(
+    reader: &mut Reader<'_>,
+    depth: usize,
+    row: Option<&Member>,
+    table: &Table<'_>,
+    used: &Option<BTreeSet<String>>,
+) -> Result<BTreeSet<String>, Invalid>
+    ensures { IfOk result (λ texts. (used.now ≡ None) × ((m : Row)
+        × (option_map (λ m. m.now) row.entry ≡ Some m)
+        × (j : tree.Json) × (tree.value depth reader.old ≡ Some (j, reader.new))
+        × AreUsed texts j × IsQuietRow table.now m j)) }
+{
+    match used {
+        Some(_) => Err(Invalid),
+        None => {
+            let texts = look_used(reader, depth, row, table)?;
+            Ok(texts)
+        }
+    }
+}
+
+/// Looks at a member of a document beside the list of used extensions, if that came before.
+fn look_beside(
+    reader: &mut Reader<'_>,
+    depth: usize,
+    name: &str,
+    row: Option<&Member>,
+    rows: &[Member],
+    table: &Table<'_>,
+    used: &Option<BTreeSet<String>>,
+) -> Result<bool, Invalid>
+    requires { option_map (λ m. m.now) row ≡ row_named name.now rows.now }
+    ensures { IfOk result (λ quiet. Looks (IsQuietRoot table.now rows.now name.now used.now) depth
+        reader.old quiet reader.new) }
+{
+    match used {
+        Some(texts) => {
+            let listed = Table {
+                alloc: table.alloc,
+                nodes: table.nodes,
+                used: texts,
+                known: table.known,
+            };
+            let quiet = look_listed(reader, depth, name, row, rows, &listed)?;
+            Ok(quiet)
+        }
+        None => {
+            let quiet = look_listed(reader, depth, name, row, rows, table)?;
+            Ok(quiet)
+        }
+    }
+}

@@ -1,0 +1,74 @@
+//! The members of some names that a text has. Those of other names are passed, and no value is made
+//! of them.
+
+ghost use Rattle.std.specs.Prelude.{◌≡◌, Some, IfOk, IfSome, OnOk};
+ghost use Rattle.std.specs.BTreeSet.{contains_text};
+ghost use Rattle.serde_json.specs.Data.{Data};
+ghost use Rattle.serde_json.specs.Read.{read};
+ghost use Rattle.serde_json.specs.View.{view, members_view};
+ghost use Rattle.gltf_findings_members.specs.Kept.{excerpt, FindsKept, Takes};
+
+use gltf_schema::{Stream, Unread};
+use json::{Reader, Scratch, Token};
+use serde_json::{Map, Value};
+use std::alloc::Global;
+use std::collections::BTreeSet;
+
+/// How deep arrays and objects may nest in what `serde_json` reads.
+const MAX_DEPTH: usize = 127;
+
+/// The object that a text is, without the members whose names are not kept. `None` says nothing:
+/// the text may be another value or no JSON, or memory was refused.
+pub(crate) fn excerpt_of(alloc: Global, keep: &BTreeSet<String>, text: &str) -> Option<Value>
+    ensures { IfSome result (λ v. (d : Data) → read text.now ≡ Some d
+        → view v ≡ excerpt (contains_text keep.now) d) }
+{
+    let mut scratch = Scratch::new(alloc);
+    let reader = Reader::new(text, &mut scratch).ok()?;
+    let mut from = Stream::new(alloc, reader, MAX_DEPTH - 1);
+    match from.reader.next() {
+        Some(Token::BeginObject) => {
+            let found = kept_members(keep, &mut from).ok()?;
+            Some(Value::Object(found))
+        }
+        _ => None,
+    }
+}
+
+/// The members of an object whose brace was taken, without those whose names are not kept.
+fn kept_members<'a>(
+    keep: &BTreeSet<String>,
+    from: &mut Stream<'a>,
+) -> Result<Map<String, Value>, Unread>
+    ensures { IfOk result (λ found. FindsKept (contains_text keep.now) from.old.depth
+        from.old.reader (members_view found.entries)) }
+{
+    let mut found = Map::new(from.alloc);
+    'members: while let Some(name) = from.reader.next_key()? {
+        take_member(keep, name, from, &mut found)?;
+    }
+    Ok(found)
+}
+
+/// Takes the value that is next, and puts it under its name if that is kept.
+fn take_member<'a>(
+    keep: &BTreeSet<String>,
+    name: &str,
+    from: &mut Stream<'a>,
+    found: &mut Map<String, Value>,
+) -> Result<(), Unread>
+    ensures takes { OnOk result (Takes (contains_text keep.now name.now) from.old.depth name.now
+        from.old.reader from.new.reader (members_view found.old.entries)
+        (members_view found.new.entries)) }
+    ensures depth { OnOk result (from.new.depth ≡ from.old.depth) }
+{
+    if !keep.contains(name) {
+        from.reader.skip_value(from.depth)?;
+        return Ok(());
+    }
+    let token = from.reader.next().ok_or(Unread)?;
+    let value = from.value_after(token)?;
+    let key = String::from_str(from.alloc, name)?;
+    drop(found.insert(key, value)?);
+    Ok(())
+}

@@ -1,4 +1,5 @@
 pub mod AllNames
+pub mod Answered
 pub mod Built
 pub mod EachCode
 pub mod InfoMembers

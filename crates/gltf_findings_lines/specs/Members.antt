@@ -1,8 +1,9 @@
 -- What is wrong with the members of a document's JSON.
-use Rattle.std.specs.Prelude.{ℕ, List, [], Bool, false, map, nat_eq, if◌then◌else◌, Option, Some, None, option_and_then, codes}
+use Rattle.std.specs.Prelude.{◌≡◌, IsUtf8, ℕ, List, [], Bool, false, map, nat_eq, if◌then◌else◌, Option, Some, None, option_and_then, codes}
 use Rattle.std.specs.List.{starts_with}
 use Rattle.serde_json.specs.Data.{Data}
 use Rattle.serde_json.specs.Find.{get, as_str}
+use Rattle.serde_json.specs.Read.{read}
 use Rattle.gltf_schema.specs.declared.outline.Outline.{Outline}
 use Rattle.gltf_findings_members.specs.declared.notice.Notice.{Notice}
 use Rattle.gltf_findings_members.specs.declared.notices.Notices.{Notices}
@@ -31,3 +32,7 @@ is_version_1 d = says_1 (version_in d)
 abbrev pub value_members : Outline → Option Data → List Noted
 value_members o None = []
 value_members o (Some d) = if is_version_1 d then [] else all_notices o.nodes.items o.root d
+
+-- bytes that are a text, which is JSON
+abbrev pub IsJson : List ℕ → Type 0
+IsJson bytes = IsUtf8 bytes × ((d : Data) × (read bytes ≡ Some d))

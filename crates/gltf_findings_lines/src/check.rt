@@ -4,8 +4,10 @@ ghost use Rattle.std.specs.Prelude.{◌≡◌, ◌-◌, ◌^◌, ◌++◌, [], I
 ghost use Rattle.gltf_findings_codes.specs.Found.{findings_from};
 ghost use Rattle.gltf_findings_uris.specs.Objects.{buffer_findings, image_findings};
 ghost use Rattle.gltf_schema.specs.Outline.{IsShapeOf};
+ghost use Rattle.gltf_root.specs.Answer.{answer, IsAnswer};
 ghost use Rattle.gltf_root.specs.Root.{root_kind};
-ghost use Rattle.gltf_findings_lines.specs.Checked.{AreDocumentFindings, IsFound, IsFoundIn, IsJsonOf, IsPrinted, IsPrintedFor, IsReportOf, refusal_of};
+ghost use Rattle.gltf_findings_lines.specs.Members.{held_in};
+ghost use Rattle.gltf_findings_lines.specs.Checked.{AreDocumentFindings, AreMembers, IsFound, IsFoundIn, IsJsonOf, IsPrinted, IsPrintedFor, IsReportOf, refusal_of};
 ghost use Rattle.gltf_findings_lines.specs.Parts.{parts_in};
 ghost use Rattle.gltf_findings_lines.specs.Sources.{gathered};
 
@@ -20,6 +22,7 @@ use crate::options::{FindingOptions, Style};
 use crate::sources::Sources;
 use gltf_findings::Findings;
 use gltf_findings_codes::{Finding, add_all};
+use gltf_findings_members::Notices;
 use gltf_findings_uris::{BufferUriRules, Container, ImageUriRules};
 use gltf_glb::Error as GlbError;
 use gltf_lint_lines::Format;
@@ -94,13 +97,14 @@ impl Checker {
         let container = file.container_findings(alloc)?;
         match file.parts() {
             Ok(parts) => {
-                let notices = members_in(alloc, &self.outline, parts.json)?;
+                let read = Root::from_slice(alloc, parts.json);
+                let notices = self.members_of(alloc, &read, parts.json)?;
                 let sources = Sources {
                     container: &container,
                     members: notices_of(&notices),
                     document: &[],
                 };
-                let found = check_json(alloc, options, file, &sources, &parts)?;
+                let found = check_json(alloc, options, file, &sources, &parts, read)?;
                 Ok(found)
             }
             Err(error) => {
@@ -115,6 +119,30 @@ impl Checker {
             }
         }
     }
+
+    /// What is wrong with the members of bytes that were read, if they are JSON.
+    fn members_of(
+        &self,
+        alloc: Global,
+        read: &Result<Root, Error>,
+        json: &[u8],
+    ) -> Result<Option<Notices>, AllocError>
+        requires { IsAnswer (answer json.now) read.now }
+        ensures { IfOk result (λ found. AreMembers self.now.outline json.now (held_in found)) }
+    {
+        match read {
+            Ok(_root) => {
+                let found = members_in(alloc, &self.outline, json)?;
+                Ok(found)
+            }
+            Err(Error::Schema) => {
+                let found = members_in(alloc, &self.outline, json)?;
+                Ok(found)
+            }
+            Err(Error::Json) => Ok(None),
+            Err(_) => Err(AllocError),
+        }
+    }
 }
 
 /// What is wrong with a file, by what is wrong with its container and its members.
@@ -124,11 +152,13 @@ fn check_json(
     file: &File<'_>,
     sources: &Sources<'_>,
     parts: &Parts<'_>,
+    read: Result<Root, Error>,
 ) -> Result<Found, AllocError>
-    requires { sources.now.document.now ≡ [] }
+    requires sources { sources.now.document.now ≡ [] }
+    requires read { IsAnswer (answer parts.now.json.now) read }
     ensures { IfOk result (IsFoundIn options.now file.now sources.now (parts_in parts.now)) }
 {
-    match Root::from_slice(alloc, parts.json) {
+    match read {
         Ok(root) => {
             let document = document_findings(alloc, &root, parts.container)?;
             let sources = Sources {

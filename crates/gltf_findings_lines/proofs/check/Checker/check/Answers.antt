@@ -9,7 +9,7 @@ use Rattle.gltf_findings_lines.proofs.check.Checker.check.Goals as goal
 pub returns-in-Ok : goal.returns-in-Ok
 returns-in-Ok c =
     parts_found c.args.self.now.outline (held_in c.in_ok-notices-in-Ok.notices) c.in-Ok.ensures (c.deref.ensures.value ∙ c.in_ok-container.ensures)
-    (ap (map noted) c.notices_of.ensures) (record { text = c.in_ok-notices-in-Ok.ensures.text; no_text = c.in_ok-notices-in-Ok.ensures.no_text }) c.in_ok-found-in-Ok.ensures
+    (ap (map noted) c.notices_of.ensures) c.in_ok-notices-in-Ok.ensures c.in_ok-found-in-Ok.ensures
 
 pub returns : goal.returns
 returns c =

@@ -12,16 +12,13 @@ ghost use Rattle.gltf_findings_members.specs.Seen.{AreUsed, IsQuietRow};
 
 use crate::root_lists::{look_listed, look_used};
 use crate::rows::is_target;
-use crate::seen::{has_all, note_seen, place_of, row_at};
+use crate::seen::{MOST_ROWS, has_all, note_seen, place_of, row_at};
 use crate::table::Table;
 use crate::uses::add_text;
 use gltf_schema::Member;
 use json::{Invalid, Reader};
 use std::alloc::Global;
 use std::collections::BTreeSet;
-
-/// The most rows of a document whose members a look keeps in mind.
-const MOST_ROWS: usize = 64;
 
 /// What a look at the members of a document sees.
 #[derive(Drop)]

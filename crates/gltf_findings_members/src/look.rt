@@ -17,14 +17,11 @@ ghost use Rattle.gltf_findings_members.specs.Walk.{extension_members_notices, ex
 use crate::listed::{look_attributes, look_extras, look_indexes, look_unknown};
 use crate::members::extension_row;
 use crate::rows::{is_target, unknown_code};
-use crate::seen::{has_all, note_seen, place_of, row_at};
+use crate::seen::{MOST_ROWS, has_all, note_seen, place_of, row_at};
 use crate::table::Table;
 use crate::wanted::{may_be_any, may_be_number, may_be_text, may_be_truth};
 use gltf_schema::{Member, Presence, Shape};
 use json::{Invalid, Reader, Token};
-
-/// The most rows of an object whose members a look keeps in mind.
-const MOST_ROWS: usize = 64;
 
 /// Looks at the value that is next, which must have the members of some names if it is an object.
 #[cycle(look)]

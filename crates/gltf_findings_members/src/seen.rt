@@ -7,6 +7,9 @@ ghost use Rattle.gltf_findings_members.specs.Rows.{row_named};
 use crate::rows::is_needed;
 use gltf_schema::Member;
 
+/// The most rows of an object whose members a look keeps in mind.
+pub(crate) const MOST_ROWS: usize = 64;
+
 /// The number of the first row of a name.
 #[inline(always)]
 pub(crate) fn place_of(rows: &[Member], name: &str) -> Option<usize>

@@ -10,11 +10,10 @@ ghost use Rattle.gltf_findings_members.specs.Look.{Looks};
 ghost use Rattle.gltf_findings_members.specs.Rows.{row_named};
 ghost use Rattle.gltf_findings_members.specs.Seen.{AreUsed, IsQuietRow};
 
-use crate::root_lists::{look_listed, look_used};
+use crate::root_lists::{look_listed, look_used, take_text};
 use crate::rows::is_target;
 use crate::seen::{MOST_ROWS, has_all, note_seen, place_of, row_at};
 use crate::table::Table;
-use crate::uses::add_text;
 use gltf_schema::Member;
 use json::{Invalid, Reader};
 use std::alloc::Global;
@@ -81,10 +80,8 @@ fn note_loud(
     if is_quiet {
         return Ok(());
     }
-    match add_text(alloc, loud, name) {
-        Ok(()) => Ok(()),
-        Err(_) => Err(Invalid),
-    }
+    take_text(alloc, loud, name)?;
+    Ok(())
 }
 
 /// Looks at a member of a document. If it is the list of used extensions, it is taken in.

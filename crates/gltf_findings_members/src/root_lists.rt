@@ -142,7 +142,11 @@ fn next_text<'a>(reader: &mut Reader<'a>) -> Result<&'a str, Invalid>
 }
 
 /// Adds a text.
-fn take_text(alloc: Global, texts: &mut BTreeSet<String>, text: &str) -> Result<(), Invalid>
+pub(crate) fn take_text(
+    alloc: Global,
+    texts: &mut BTreeSet<String>,
+    text: &str,
+) -> Result<(), Invalid>
     ensures { OnOk result ((q : List ℕ) → contains_text texts.new q
         ≡ (contains_text texts.old q || bytes_eq text.now q)) }
 {

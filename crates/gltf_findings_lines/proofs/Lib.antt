@@ -1,5 +1,6 @@
 pub mod AllNames
 pub mod Answered
+pub mod Apart
 pub mod Built
 pub mod EachCode
 pub mod InfoMembers

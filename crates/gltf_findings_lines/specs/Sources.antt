@@ -1,5 +1,5 @@
 -- The findings of a file from all sources, in one list.
-use Rattle.std.specs.Prelude.{ℕ, List, [], ◌∷◌, ◌++◌, Bool, false, ◌||◌, map, bytes_eq, if◌then◌else◌, codes, String}
+use Rattle.std.specs.Prelude.{◌≡◌, ℕ, List, [], ◌∷◌, ◌++◌, Bool, false, ◌||◌, map, bytes_eq, if◌then◌else◌, codes, String}
 use Rattle.std.specs.declared.alloc.Global.{Global}
 use Rattle.std.specs.BTreeSet.{BTreeSet, contains_text}
 use Rattle.gltf_base.specs.Pointers.{pointer_text}
@@ -62,3 +62,23 @@ says n q = says_noted (noted n) q
 abbrev pub unsaid_in : BTreeSet (String Global) → List Finding → List Located
 unsaid_in before [] = []
 unsaid_in before (f ∷ fs) = unsaid_one (contains_text before) f ++ unsaid_in before fs
+
+-- what a finding of a document says
+abbrev pub said_finding : Finding → List ℕ
+said_finding f = said f.code (pointer_text (place_steps f.place))
+
+-- the codes of notices
+abbrev pub codes_in : List Notice → List Code
+codes_in notices = map (λ n. n.code) notices
+
+abbrev pub is_named : Code → Code → Bool
+is_named code known = bytes_eq (code_name known) (code_name code)
+
+-- one of the codes has the name of a code
+abbrev pub has_name : List Code → Code → Bool
+has_name [] code = false
+has_name (known ∷ others) code = is_named code known || has_name others code
+
+-- what is said in a set has one of the codes
+abbrev pub IsSaidBy : List Code → BTreeSet (String Global) → Type 0
+IsSaidBy known s = (code : Code) (pointer : List ℕ) → has_name known code ≡ false → contains_text s (said code pointer) ≡ false

@@ -3,10 +3,9 @@
 ghost use Rattle.std.specs.Prelude.{◌≡◌, ◌++◌, ◌||◌, [], ℕ, List, IfOk, OnOk, map, string_bytes};
 ghost use Rattle.std.specs.BTreeSet.{contains_text};
 ghost use Rattle.gltf_findings_members.specs.Noted.{noted};
-ghost use Rattle.gltf_base.specs.Pointers.{pointer_text};
-ghost use Rattle.gltf_findings_codes.specs.Places.{place_steps};
+ghost use Rattle.gltf_findings_codes.specs.declared.code.Code.{Code as OneCode};
 ghost use Rattle.gltf_findings_lines.specs.Located.{located};
-ghost use Rattle.gltf_findings_lines.specs.Sources.{all_located, gathered, is_said, located_finding, located_glb, located_noted, pointed, said, says, unsaid_in, unsaid_one};
+ghost use Rattle.gltf_findings_lines.specs.Sources.{IsSaidBy, all_located, codes_in, gathered, has_name, is_named, is_said, located_finding, located_glb, located_noted, pointed, said, said_finding, says, unsaid_in, unsaid_one};
 
 use crate::finding::{FileFinding, Location};
 use gltf_findings_codes::{Code, Finding};
@@ -47,8 +46,9 @@ impl<'a> Sources<'a> {
             return add_all(to, self.document);
         }
         let said = said_by(alloc, self.members)?;
+        let codes = codes_of(alloc, self.members)?;
         add_members(to, self.members)?;
-        add_document(alloc, to, &said, self.document)
+        add_document(alloc, to, &said, &codes, self.document)
     }
 }
 
@@ -94,18 +94,20 @@ fn add_all(to: &mut Vec<FileFinding<'_>>, findings: &[Finding]) -> Result<(), Al
     Ok(())
 }
 
-/// Adds the findings of a document that are not said before.
+/// Adds the findings of a document that are not said before. What is said has one of the codes.
 fn add_document(
     alloc: Global,
     to: &mut Vec<FileFinding<'_>>,
     said: &BTreeSet<String>,
+    codes: &[Code],
     findings: &[Finding],
 ) -> Result<(), AllocError>
+    requires { IsSaidBy codes.now said.now }
     ensures { OnOk result (map located to.new.items
         ≡ map located to.old.items ++ unsaid_in said.now findings.now) }
 {
     for finding in findings {
-        add_unsaid(alloc, to, said, finding)?;
+        add_unsaid(alloc, to, said, codes, finding)?;
     }
     Ok(())
 }
@@ -115,13 +117,14 @@ fn add_unsaid(
     alloc: Global,
     to: &mut Vec<FileFinding<'_>>,
     said: &BTreeSet<String>,
+    codes: &[Code],
     finding: &Finding,
 ) -> Result<(), AllocError>
+    requires { IsSaidBy codes.now said.now }
     ensures { OnOk result (map located to.new.items
         ≡ map located to.old.items ++ unsaid_one (contains_text said.now) finding.now) }
 {
-    let text = finding_text(alloc, finding)?;
-    if said.contains(text.as_str()) {
+    if is_said(alloc, said, codes, finding)? {
         return Ok(());
     }
     to.push(FileFinding {
@@ -129,6 +132,60 @@ fn add_unsaid(
         location: Location::Place(finding.place),
     })?;
     Ok(())
+}
+
+/// Whether a finding of a document is said before. Most findings have a code that no notice has,
+/// and no text is made of them.
+fn is_said(
+    alloc: Global,
+    said: &BTreeSet<String>,
+    codes: &[Code],
+    finding: &Finding,
+) -> Result<bool, AllocError>
+    requires { IsSaidBy codes.now said.now }
+    ensures { IfOk result (λ is. is ≡ contains_text said.now (said_finding finding.now)) }
+{
+    if !has_name(codes, finding.code) {
+        return Ok(false);
+    }
+    let text = finding_text(alloc, finding)?;
+    Ok(said.contains(text.as_str()))
+}
+
+/// The codes of notices, each once.
+fn codes_of(alloc: Global, notices: &[Notice]) -> Result<Vec<Code>, AllocError>
+    ensures { IfOk result (λ codes. (code : OneCode)
+        → has_name codes.items code ≡ has_name (codes_in notices.now) code) }
+{
+    let mut codes = Vec::new(alloc);
+    for notice in notices {
+        add_code(&mut codes, notice.code)?;
+    }
+    Ok(codes)
+}
+
+/// Adds a code, unless it is there.
+fn add_code(to: &mut Vec<Code>, code: Code) -> Result<(), AllocError>
+    ensures { OnOk result ((other : OneCode) → has_name to.new.items other
+        ≡ (has_name to.old.items other || is_named other code)) }
+{
+    if has_name(to, code) {
+        return Ok(());
+    }
+    to.push(code)?;
+    Ok(())
+}
+
+/// Whether one of some codes has the name of a code.
+fn has_name(codes: &[Code], code: Code) -> bool
+    ensures { result ≡ has_name codes.now code }
+{
+    for known in codes {
+        if known.name() == code.name() {
+            return true;
+        }
+    }
+    false
 }
 
 /// What notices say, as texts.
@@ -154,8 +211,7 @@ fn add_said(alloc: Global, to: &mut BTreeSet<String>, notice: &Notice) -> Result
 
 /// What a finding of the document says, as a text.
 fn finding_text(alloc: Global, finding: &Finding) -> Result<String, AllocError>
-    ensures { IfOk result (λ text. string_bytes text
-        ≡ said finding.now.code (pointer_text (place_steps finding.now.place))) }
+    ensures { IfOk result (λ text. string_bytes text ≡ said_finding finding.now) }
 {
     let pointer = finding.place.pointer(alloc)?;
     said(alloc, finding.code, &pointer)

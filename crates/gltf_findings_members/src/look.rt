@@ -219,6 +219,7 @@ fn is_filled(rows: &[Member], is_empty: bool) -> bool
 
 /// Looks at a member of an object.
 #[cycle(look)]
+#[inline(always)]
 pub(crate) fn look_member(
     reader: &mut Reader<'_>,
     depth: usize,

@@ -2,7 +2,7 @@
 
 ghost use Rattle.std.specs.Prelude.{◌≡◌, option_map};
 ghost use Rattle.serde_json.specs.View.{view, members_view};
-ghost use Rattle.gltf_findings_members.specs.Rows.{row_named, reads_null_as_absent, is_missing, is_needed, missing_notices, own_notices, empty_target_code, is_target, unknown_code};
+ghost use Rattle.gltf_findings_members.specs.Rows.{row_named, reads_null_as_absent, is_missing, is_needed, is_required, missing_notices, own_notices, empty_target_code, is_target, unknown_code};
 ghost use Rattle.gltf_findings_members.specs.Noted.{steps_in, Adds};
 
 use crate::attribute::is_attribute;
@@ -72,6 +72,14 @@ fn note_missing<'a>(
         to.note_below(Step::Field(row.name), is_missing(value, row))?;
     }
     Ok(())
+}
+
+/// Whether the table requires a row's member.
+#[inline(always)]
+pub(crate) fn is_required(row: &Member) -> bool
+    ensures { result ≡ is_required row.now.presence }
+{
+    matches!(row.presence, Presence::Required)
 }
 
 /// Whether a row's member has to be there.

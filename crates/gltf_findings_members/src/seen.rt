@@ -4,7 +4,7 @@ ghost use Rattle.std.specs.Prelude.{◌≡◌, ℕ, true, false, IsTrue, get_or,
 ghost use Rattle.gltf_findings_members.specs.Look.{IsNameSeen, IsNoted, IsPlaceOf, NamesSeen, NeededSeen};
 ghost use Rattle.gltf_findings_members.specs.Rows.{row_named};
 
-use crate::rows::is_needed;
+use crate::rows::{is_needed, is_required};
 use gltf_schema::Member;
 
 /// The most rows of an object whose members a look keeps in mind.
@@ -64,7 +64,7 @@ fn has_needed(rows: &[Member], seen: &[bool]) -> bool
     ensures { IsTrue result → NeededSeen rows.now seen.now }
 {
     for i in 0..rows.len() {
-        if is_needed(&rows[i]) && !is_seen(seen, i) {
+        if is_required(&rows[i]) && !is_seen(seen, i) && is_needed(&rows[i]) {
             return false;
         }
     }

@@ -45,7 +45,7 @@ HasSeen rows seen js = (i : ℕ) → get_or seen i false ≡ true → (m : Membe
 no_need : (m : Member) (d : Data) → is_needed m ≡ false → is_missing d m ≡ None
 no_need m d is = ap (λ b. if b && is_none (get m.name.now d) then Some UndefinedProperty else None) is
 
-same_row : (rows : List Member) (i : ℕ) (m n : Member) → slice_get rows i ≡ Some m → slice_get rows i ≡ Some n → m ≡ n
+pub same_row : (rows : List Member) (i : ℕ) (m n : Member) → slice_get rows i ≡ Some m → slice_get rows i ≡ Some n → m ≡ n
 same_row rows i m n here there = let both : Some m ≡ Some n = sym here ∙ there in cc
 
 module _ (js : tree.Members) where

@@ -1,5 +1,5 @@
 -- Members kept while they are read. Of a member that is passed, a value is known only if the whole is read.
-use Rattle.std.proofs.Common.{◌≡◌, ℕ, ◌-◌, ◌<◌, ◌≤◌, List, [], ◌∷◌, length, Bool, true, false, if◌then◌else◌, Option, Some, None, option_map, option_and_then, nat_cmp, refl, sym, ap, ◌∙◌, Ordering, Less, Equal, Greater, arith}
+use Rattle.std.proofs.Common.{◌≡◌, ℕ, zero, suc, subst, ◌-◌, ◌<◌, ◌≤◌, List, [], ◌∷◌, length, Bool, true, false, if◌then◌else◌, Option, Some, None, option_map, option_and_then, nat_cmp, refl, sym, ap, ◌∙◌, Ordering, Less, Equal, Greater, arith}
 use Rattle.std.specs.Cmp.Lexicographic.{slice_cmp}
 use Rattle.std.specs.Ordering.{match_ordering}
 use Rattle.json.specs.Token.{Token}
@@ -13,7 +13,7 @@ use Rattle.gltf_schema.proofs.InOrder.{NamesAbove, InOrder, put_before}
 use Rattle.gltf_schema.proofs.OthersPut.{InOrder-put}
 use Rattle.gltf_schema.proofs.PuttingIn.{same_name}
 use Rattle.gltf_schema.proofs.Turns.{converted_some, member_read, members_over}
-use Rattle.gltf_findings_members.specs.Kept.{kept, HasMembers, Takes}
+use Rattle.gltf_findings_members.specs.Kept.{kept, HasMembers, LeavesBehind, Takes}
 
 -- ---- one member more
 
@@ -108,6 +108,32 @@ module _ (P : List ℕ → Bool) (depth : ℕ) (ms : Members) (rest : List Token
   ahead_end n ts r found enough over ahead =
       let end = members_over (value depth) ahead.0 n ts r enough over in
       ahead.2 ∙ ap (λ o. kept P (first o)) (sym end ∙ ahead.3)
+
+  -- of the members that are left none is kept
+  none_left : (js : tree.Members) (acc : Members) → LeavesBehind P zero js → InOrder acc → of_members js acc ≡ Some ms → kept P ms ≡ kept P acc
+  none_left tree.no_members acc left h e = let same : acc ≡ ms = cc in ap (kept P) (sym same)
+  none_left (tree.member k j js) acc left h e = by (of_json j) (λ d read. none_left js (put k d acc) left.1 (InOrder-put k d acc h) read) e
+    where
+      by : (o : Option Data) → ((d : Data) → of_members js (put k d acc) ≡ Some ms → kept P ms ≡ kept P (put k d acc)) → option_and_then (λ d. of_members js (put k d acc)) o ≡ Some ms → kept P ms ≡ kept P acc
+      by None more e = absurd cc
+      by (Some d) more e = more d e ∙ kept_put P k d acc h ∙ ap (λ t. if t then put k d (kept P acc) else kept P acc) left.0
+
+  pub ahead_left : (n : ℕ) (ts : List Token) (found : Members) → ((js : tree.Members) (r : List Token) → members (value depth) n ts ≡ Some (js, r) → LeavesBehind P zero js) → IsAhead ts n found → found ≡ kept P ms
+  ahead_left n ts found leaves ahead =
+      let held = converted_some (λ js. of_members js ahead.0) (members (value depth) n ts) ms rest ahead.3 in
+      ahead.2 ∙ sym (none_left held.0 ahead.0 (leaves held.0 rest held.1) ahead.1 held.2)
+
+-- ---- members in turn, of which the last are left out
+
+one_fewer : (P : List ℕ → Bool) (left : ℕ) (k : List ℕ) (j : Json) (js : tree.Members) → 0 < left → LeavesBehind P left (tree.member k j js) → LeavesBehind P (left - 1) js
+one_fewer P zero k j js some h = let never : ⊥ = omega (arith, some) in absurd never
+one_fewer P (suc n) k j js some h = let e : n ≡ suc n - 1 = omega arith in subst (λ x. LeavesBehind P x js) e h
+
+pub leaves_more : (P : List ℕ → Bool) (depth n left : ℕ) (k : List ℕ) (ts s r : List Token) → 0 < n → 0 < left → read_key ts ≡ Some (Some k, s) → skip_value depth s ≡ Some r
+    → ((js : tree.Members) (rest : List Token) → members (value depth) n ts ≡ Some (js, rest) → LeavesBehind P left js) → (js : tree.Members) (rest : List Token) → members (value depth) (n - 1) r ≡ Some (js, rest) → LeavesBehind P (left - 1) js
+leaves_more P depth n left k ts s r some more key skip leaves js rest read =
+    let j = left_some (value depth s) r skip in
+    one_fewer P left k j.0 js more (leaves (tree.member k j.0 js) rest (members_more (value depth) n k ts s r j.0 some key j.1 ∙ ap (parse_map (tree.member k j.0)) read))
 
 -- ---- a text that is an object
 

@@ -11,6 +11,7 @@ pub mod NoneNoted
 pub mod Numbered
 pub mod Passing
 pub mod Places
+pub mod Reaching
 pub mod Rooting
 pub mod Stepping
 pub mod Turning

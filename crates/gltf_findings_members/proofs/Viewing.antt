@@ -86,7 +86,7 @@ sees_value t rows s js ms d is read covers sees =
       whole = λ yes. (λ at. subst (λ x. missing_notices at x rows ≡ []) (sym is) ((sees.whole yes).0 at (object ms) (object_is js ms read)), (sees.whole yes).1);
     }
 
-some_first : (a b : tree.Members) (r q : List Token) → ◌≡◌ {A = Option (tree.Members × List Token)} (Some (a, r)) (Some (b, q)) → a ≡ b
+pub some_first : (a b : tree.Members) (r q : List Token) → ◌≡◌ {A = Option (tree.Members × List Token)} (Some (a, r)) (Some (b, q)) → a ≡ b
 some_first a b r q e = ap first_of e
   where
     first_of : Option (tree.Members × List Token) → tree.Members

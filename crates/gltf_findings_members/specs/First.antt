@@ -11,8 +11,9 @@ use Rattle.gltf_base.specs.Steps.{Step}
 use Rattle.gltf_schema.specs.declared.outline.Member.{Member}
 use Rattle.gltf_schema.specs.declared.outline.Outline.{Outline}
 use Rattle.gltf_schema.specs.declared.outline.Shape.TheVariants.{Object}
-use Rattle.gltf_findings_members.specs.Document.{KeepsLoud}
+use Rattle.gltf_findings_members.specs.Document.{KeepsLoud, KeepsOnly}
 use Rattle.gltf_findings_members.specs.Format.{Format}
+use Rattle.gltf_findings_members.specs.Kept.{LeavesText}
 use Rattle.gltf_findings_members.specs.LeftOut.{LeavesOutFullLists, told_left_out}
 use Rattle.gltf_findings_members.specs.Notices.{all_notices, format_for}
 use Rattle.gltf_findings_members.specs.Rows.{is_target, missing_notices}
@@ -60,3 +61,11 @@ AreUsedIn text names = (d : Data) → read text ≡ Some d → (q : List ℕ) �
 -- the rows of the outline's type, which is an object
 abbrev pub AreRows : Outline → List Member → Type 0
 AreRows o rows = (held : Vec Member Global) × (keeps : Bool) × (slice_get o.nodes.items o.root ≡ Some (Object held keeps)) × (rows ≡ held.items)
+
+-- what an excerpt keeps of a text is among its first members
+abbrev pub ReachesKept : List Member → List ℕ → Seen → Type 0
+ReachesKept rows text s = (P : List ℕ → Bool) → KeepsOnly P s.loud rows → LeavesText P text s.reach
+
+-- both
+abbrev pub SeesAll : Outline → List Member → List ℕ → Seen → Type 0
+SeesAll o rows text s = SeesText o rows text s × ReachesKept rows text s

@@ -1,17 +1,17 @@
 //! A look at the members of a document.
 
-ghost use Rattle.std.specs.Prelude.{◌≡◌, false, true, ℕ, List, IfOk, IsTrue, None, OnOk, Some, length, option_map};
+ghost use Rattle.std.specs.Prelude.{◌≡◌, ◌+◌, if◌then◌else◌, false, true, ℕ, List, IfOk, IsTrue, None, OnOk, Some, length, option_map};
 ghost use Rattle.std.specs.BTreeSet.{contains_text};
 ghost use Rattle.json.specs.Json as tree;
 ghost use Rattle.gltf_schema.specs.declared.outline.Member.{Member as Row};
 ghost use Rattle.json.specs.Json.{members};
-ghost use Rattle.gltf_findings_members.specs.Document.{IsQuietRoot, SeesMembers, UsedNext};
+ghost use Rattle.gltf_findings_members.specs.Document.{IsQuietRoot, SeesMembers, UsedNext, is_fixed, is_kept, is_needed_name};
 ghost use Rattle.gltf_findings_members.specs.Look.{Looks};
 ghost use Rattle.gltf_findings_members.specs.Rows.{row_named};
 ghost use Rattle.gltf_findings_members.specs.Seen.{AreUsed, IsQuietRow};
 
 use crate::root_lists::{look_listed, look_used, take_text};
-use crate::rows::is_target;
+use crate::rows::{is_needed, is_target};
 use crate::seen::{MOST_ROWS, has_all, note_seen, place_of, row_at};
 use crate::table::Table;
 use gltf_schema::Member;
@@ -31,6 +31,8 @@ pub(crate) struct Seen {
     /// Whether a member that may have notices came before the list of used extensions. No clause
     /// says so: it is a reason to look once more.
     pub(crate) is_late: bool,
+    /// How many members come up to the last one that an excerpt keeps.
+    pub(crate) reach: usize,
 }
 
 /// Looks at the members of a document behind its brace. Until the list of used extensions comes,
@@ -49,6 +51,8 @@ pub(crate) fn look_document(
     let mut used = None;
     let mut seen = [false; MOST_ROWS];
     let mut is_late = false;
+    let mut count = 0;
+    let mut reach = 0;
     'members: while let Some(name) = reader.next_key()? {
         let place = place_of(rows, name);
         note_seen(&mut seen, place);
@@ -56,6 +60,8 @@ pub(crate) fn look_document(
         let is_quiet = look_root_member(reader, depth, name, row, rows, table, &mut used)?;
         is_late = is_late | (!is_quiet & used.is_none());
         note_loud(table.alloc, &mut loud, name, is_quiet)?;
+        count = one_more(count)?;
+        reach = reach_of(is_kept(&loud, rows, name), count, reach);
     }
     let is_whole = has_all(rows, &seen, &[]) & !is_target(rows);
     Ok(Seen {
@@ -63,7 +69,51 @@ pub(crate) fn look_document(
         used,
         is_whole,
         is_late,
+        reach,
     })
+}
+
+/// A number and one.
+fn one_more(count: usize) -> Result<usize, Invalid>
+    ensures { IfOk result (λ more. more ≡ count + 1) }
+{
+    if count == usize::MAX {
+        return Err(Invalid);
+    }
+    Ok(count + 1)
+}
+
+/// How many members come up to the last that is kept, if these were read.
+fn reach_of(is_kept: bool, count: usize, reach: usize) -> usize
+    ensures { result ≡ if is_kept then count else reach }
+{
+    if is_kept { count } else { reach }
+}
+
+/// Whether an excerpt keeps the members of a name.
+fn is_kept(loud: &BTreeSet<String>, rows: &[Member], name: &str) -> bool
+    ensures { result ≡ is_kept loud.now rows.now name.now }
+{
+    loud.contains(name) || is_fixed(rows, name)
+}
+
+/// Whether any excerpt keeps the members of a name.
+fn is_fixed(rows: &[Member], name: &str) -> bool
+    ensures { result ≡ is_fixed rows.now name.now }
+{
+    name == "extensionsUsed" || name == "asset" || is_needed_name(rows, name)
+}
+
+/// Whether a row needs the member of a name.
+fn is_needed_name(rows: &[Member], name: &str) -> bool
+    ensures { result ≡ is_needed_name rows.now name.now }
+{
+    for row in rows {
+        if is_needed(row) && row.name == name {
+            return true;
+        }
+    }
+    false
 }
 
 /// Notes the name of a member that may have notices.
@@ -76,6 +126,8 @@ fn note_loud(
     ensures kept { OnOk result ((q : List ℕ) → contains_text loud.old q ≡ true
         → contains_text loud.new q ≡ true) }
     ensures noted { OnOk result (is_quiet ≡ false → contains_text loud.new name.now ≡ true) }
+    ensures same { OnOk result ((q : List ℕ) → is_quiet ≡ true
+        → contains_text loud.new q ≡ contains_text loud.old q) }
 {
     if is_quiet {
         return Ok(());

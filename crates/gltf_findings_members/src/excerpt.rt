@@ -6,7 +6,7 @@ ghost use Rattle.std.specs.BTreeSet.{contains_text};
 ghost use Rattle.serde_json.specs.Data.{Data};
 ghost use Rattle.serde_json.specs.Read.{read};
 ghost use Rattle.serde_json.specs.View.{view, members_view};
-ghost use Rattle.gltf_findings_members.specs.Kept.{excerpt, FindsKept, Takes};
+ghost use Rattle.gltf_findings_members.specs.Kept.{excerpt, FindsKept, LeavesText, LeavesTokens, Takes};
 
 use gltf_schema::{Stream, Unread};
 use json::{Reader, Scratch, Token};
@@ -17,9 +17,16 @@ use std::collections::BTreeSet;
 /// How deep arrays and objects may nest in what `serde_json` reads.
 const MAX_DEPTH: usize = 127;
 
-/// The object that a text is, without the members whose names are not kept. `None` says nothing:
-/// the text may be another value or no JSON, or memory was refused.
-pub(crate) fn excerpt_of(alloc: Global, keep: &BTreeSet<String>, text: &str) -> Option<Value>
+/// The object that a text is, without the members whose names are not kept. Those that are kept are
+/// among the first `reach` members. `None` says nothing: the text may be another value or no JSON,
+/// or memory was refused.
+pub(crate) fn excerpt_of(
+    alloc: Global,
+    keep: &BTreeSet<String>,
+    reach: usize,
+    text: &str,
+) -> Option<Value>
+    requires { LeavesText (contains_text keep.now) text.now reach }
     ensures { IfSome result (λ v. (d : Data) → read text.now ≡ Some d
         → view v ≡ excerpt (contains_text keep.now) d) }
 {
@@ -28,24 +35,32 @@ pub(crate) fn excerpt_of(alloc: Global, keep: &BTreeSet<String>, text: &str) -> 
     let mut from = Stream::new(alloc, reader, MAX_DEPTH - 1);
     match from.reader.next() {
         Some(Token::BeginObject) => {
-            let found = kept_members(keep, &mut from).ok()?;
+            let found = kept_members(keep, reach, &mut from).ok()?;
             Some(Value::Object(found))
         }
         _ => None,
     }
 }
 
-/// The members of an object whose brace was taken, without those whose names are not kept.
+/// The members of an object whose brace was taken, without those whose names are not kept. Nothing
+/// is read behind the first `reach` members.
 fn kept_members<'a>(
     keep: &BTreeSet<String>,
+    reach: usize,
     from: &mut Stream<'a>,
 ) -> Result<Map<String, Value>, Unread>
+    requires { LeavesTokens (contains_text keep.now) from.old.depth from.old.reader reach }
     ensures { IfOk result (λ found. FindsKept (contains_text keep.now) from.old.depth
         from.old.reader (members_view found.entries)) }
 {
     let mut found = Map::new(from.alloc);
-    'members: while let Some(name) = from.reader.next_key()? {
+    let mut left = reach;
+    'members: while left > 0 {
+        let Some(name) = from.reader.next_key()? else {
+            return Ok(found);
+        };
         take_member(keep, name, from, &mut found)?;
+        left -= 1;
     }
     Ok(found)
 }

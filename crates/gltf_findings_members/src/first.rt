@@ -1,9 +1,9 @@
 //! A first look at the text of a document, after which most documents need no walk.
 
-ghost use Rattle.std.specs.Prelude.{◌≡◌, ℕ, List, IfSome, IsTrue, OnSome, codes, option_map, slice_get, true, false};
+ghost use Rattle.std.specs.Prelude.{◌≡◌, ◌||◌, bytes_eq, ℕ, List, IfSome, IsTrue, OnSome, codes, option_map, slice_get, true, false};
 ghost use Rattle.std.specs.BTreeSet.{contains_text};
-ghost use Rattle.gltf_findings_members.specs.Document.{KeepsLoud};
-ghost use Rattle.gltf_findings_members.specs.First.{AreRows, AreUsedIn, IsFirstLook, SeesText};
+ghost use Rattle.gltf_findings_members.specs.Document.{KeepsLoud, KeepsOnly, is_needed_name};
+ghost use Rattle.gltf_findings_members.specs.First.{AreRows, AreUsedIn, IsFirstLook, SeesAll};
 ghost use Rattle.gltf_findings_members.specs.LeftOut.{KeepsNeeded};
 
 use crate::document::{Seen, look_document};
@@ -78,7 +78,7 @@ fn look_again(
     seen: Seen,
 ) -> FirstLook
     requires rows { AreRows outline.now rows.now }
-    requires seen { SeesText outline.now rows.now text.now seen }
+    requires seen { SeesAll outline.now rows.now text.now seen }
     ensures { IsFirstLook outline.now text.now result }
 {
     match &seen.used {
@@ -101,7 +101,7 @@ fn look_beside(
     text: &str,
 ) -> Option<Seen>
     requires { AreUsedIn text.now used.now }
-    ensures { IfSome result (SeesText outline.now rows.now text.now) }
+    ensures { IfSome result (SeesAll outline.now rows.now text.now) }
 {
     let known = extension_lists(alloc, &outline.nodes).ok()?;
     let table = Table {
@@ -124,7 +124,7 @@ fn look_beside(
 /// What was found by what was seen.
 fn conclude(alloc: Global, outline: &Outline, rows: &[Member], text: &str, seen: Seen) -> FirstLook
     requires rows { AreRows outline.now rows.now }
-    requires seen { SeesText outline.now rows.now text.now seen }
+    requires seen { SeesAll outline.now rows.now text.now seen }
     ensures { IsFirstLook outline.now text.now result }
 {
     if seen.is_whole && is_empty(&seen.loud) {
@@ -133,10 +133,11 @@ fn conclude(alloc: Global, outline: &Outline, rows: &[Member], text: &str, seen:
     if is_target(rows) {
         return FirstLook::Nothing;
     }
+    let reach = seen.reach;
     let Some(keep) = names_to_keep(alloc, seen.loud, rows) else {
         return FirstLook::Nothing;
     };
-    match excerpt_of(alloc, &keep, text) {
+    match excerpt_of(alloc, &keep, reach, text) {
         Some(value) => FirstLook::Excerpt(value),
         None => FirstLook::Nothing,
     }
@@ -155,7 +156,8 @@ fn names_to_keep(alloc: Global, loud: BTreeSet<String>, rows: &[Member]) -> Opti
     ensures { IfSome result (λ keep. KeepsLoud (contains_text keep) loud
         × (contains_text keep (codes "extensionsUsed") ≡ true)
         × (contains_text keep (codes "asset") ≡ true)
-        × KeepsNeeded (contains_text keep) rows.now) }
+        × KeepsNeeded (contains_text keep) rows.now
+        × KeepsOnly (contains_text keep) loud rows.now) }
 {
     let mut keep = loud;
     keep_name(alloc, &mut keep, "extensionsUsed")?;
@@ -168,6 +170,8 @@ fn names_to_keep(alloc: Global, loud: BTreeSet<String>, rows: &[Member]) -> Opti
 fn keep_name(alloc: Global, keep: &mut BTreeSet<String>, name: &str) -> Option<()>
     ensures old { OnSome result (KeepsLoud (contains_text keep.new) keep.old) }
     ensures new { OnSome result (contains_text keep.new name.now ≡ true) }
+    ensures only { OnSome result ((q : List ℕ) → contains_text keep.new q
+        ≡ (contains_text keep.old q || bytes_eq name.now q)) }
 {
     match add_text(alloc, keep, name) {
         Ok(()) => Some(()),
@@ -179,6 +183,8 @@ fn keep_name(alloc: Global, keep: &mut BTreeSet<String>, name: &str) -> Option<(
 fn keep_needed(alloc: Global, keep: &mut BTreeSet<String>, rows: &[Member]) -> Option<()>
     ensures old { OnSome result (KeepsLoud (contains_text keep.new) keep.old) }
     ensures new { OnSome result (KeepsNeeded (contains_text keep.new) rows.now) }
+    ensures only { OnSome result ((q : List ℕ) → contains_text keep.new q ≡ true
+        → (contains_text keep.old q || is_needed_name rows.now q) ≡ true) }
 {
     for i in 0..rows.len() {
         if is_needed(&rows[i]) {

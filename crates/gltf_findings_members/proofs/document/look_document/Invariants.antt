@@ -1,7 +1,8 @@
 -- What was seen of the members so far holds of all, if it holds of those that are left.
-use Rattle.std.proofs.Common.{ℕ, List, Bool, length}
+use Rattle.std.proofs.Common.{ℕ, ◌+◌, List, Bool, length}
 use Rattle.json.specs.Json.{Members, value}
-use Rattle.gltf_findings_members.specs.Document.{AreFullLists, CoversSome, KeepsLoud}
+use Rattle.gltf_findings_members.specs.Document.{AreFullLists, CoversSome, KeepsLoud, KeepsOnly}
+use Rattle.gltf_findings_members.specs.Kept.{LeavesBehind}
 use Rattle.gltf_findings_members.specs.LeftOut.{told_left_out}
 use Rattle.gltf_findings_members.specs.Look.{Covers, format_with}
 use Rattle.gltf_findings_members.specs.Quiet.{AreQuietBy}
@@ -19,6 +20,8 @@ invariant-members l =
     × UsedFrom l.used before
     × ((n : List ℕ) (js : Members) → HasMember n js → HasMember n (before js))
     × ((js : Members) → HasSeen l.rows l.seen (before js))
+    × ((P : List ℕ → Bool) (n : ℕ) (js : Members) → LeavesBehind P n js → LeavesBehind P (l.count + n) (before js))
+    × ((P : List ℕ → Bool) → KeepsOnly P l.loud l.rows → (js : Members) → LeavesBehind P 0 js → LeavesBehind P l.reach (before js))
 
 abbrev pub decreases-members : goal.decreases-members
 decreases-members l = length l.reader

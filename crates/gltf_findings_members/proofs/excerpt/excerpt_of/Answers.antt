@@ -9,7 +9,7 @@ use Rattle.serde_json.specs.View.{view, members_view}
 use Rattle.serde_json.specs.declared.value.Value.{Value, Object}
 use Rattle.serde_json.proofs.Views.{view-Object}
 use Rattle.gltf_schema.specs.declared.stream.Unread.{Unread}
-use Rattle.gltf_findings_members.specs.Kept.{excerpt, FindsKept}
+use Rattle.gltf_findings_members.specs.Kept.{excerpt, FindsKept, LeavesTokens}
 use Rattle.gltf_findings_members.proofs.Keeping.{object_read}
 use Rattle.gltf_findings_members.proofs.excerpt.excerpt_of.Goals as goal
 
@@ -28,3 +28,10 @@ returns-in-Some-BeginObject c =
     let found = c.in_ok-found-in-Some-BeginObject.found in
     let ok : c.kept_members.result ≡ Ok found = grind arith in
     excerpted (contains_text c.args.keep.now) c.new-from.result.depth c.args.text.now ts found c.kept_members.result opens c.new-from.ensures.1 ok c.kept_members.ensures
+
+pub kept_members-requires : goal.kept_members-requires
+kept_members-requires c =
+    let P = contains_text c.args.keep.now in
+    let ts = c.next.new.self in
+    let opens : tokens c.args.text.now ≡ Token.begin_object ∷ ts = grind arith in
+    subst (λ n. LeavesTokens P n ts c.args.reach) (sym c.new-from.ensures.1) (c.requires ts opens)

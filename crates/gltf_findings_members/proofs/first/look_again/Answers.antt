@@ -6,4 +6,4 @@ use Rattle.gltf_findings_members.proofs.first.look_again.Goals as goal
 pub look_beside-requires : goal.look_beside-requires
 look_beside-requires c = λ d is q has.
     let used : c.args.seen.used ≡ Some c.in-Some.used = grind arith in
-    sym ((c.requires.seen d is).used q) ∙ ap (λ u. has_name u q) used ∙ has
+    sym ((c.requires.seen.0 d is).used q) ∙ ap (λ u. has_name u q) used ∙ has

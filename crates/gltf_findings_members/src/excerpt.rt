@@ -25,13 +25,13 @@ pub(crate) fn excerpt_of(
     keep: &BTreeSet<String>,
     reach: usize,
     text: &str,
+    scratch: &mut Scratch<Global>,
 ) -> Option<Value>
     requires { LeavesText (contains_text keep.now) text.now reach }
     ensures { IfSome result (λ v. (d : Data) → read text.now ≡ Some d
         → view v ≡ excerpt (contains_text keep.now) d) }
 {
-    let mut scratch = Scratch::new(alloc);
-    let reader = Reader::new(text, &mut scratch).ok()?;
+    let reader = Reader::new(text, scratch).ok()?;
     let mut from = Stream::new(alloc, reader, MAX_DEPTH - 1);
     match from.reader.next() {
         Some(Token::BeginObject) => {

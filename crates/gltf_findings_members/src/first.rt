@@ -63,8 +63,9 @@ fn look_first(alloc: Global, outline: &Outline, rows: &[Member], text: &str) -> 
     ensures { IsFirstLook outline.now text.now result }
 {
     let nothing = BTreeSet::new(alloc);
-    match look_beside(alloc, outline, rows, &nothing, text) {
-        Some(seen) => look_again(alloc, outline, rows, text, seen),
+    let mut scratch = Scratch::new(alloc);
+    match look_beside(alloc, outline, rows, &nothing, text, &mut scratch) {
+        Some(seen) => look_again(alloc, outline, rows, text, seen, &mut scratch),
         None => FirstLook::Nothing,
     }
 }
@@ -76,6 +77,7 @@ fn look_again(
     rows: &[Member],
     text: &str,
     seen: Seen,
+    scratch: &mut Scratch<Global>,
 ) -> FirstLook
     requires rows { AreRows outline.now rows.now }
     requires seen { SeesAll outline.now rows.now text.now seen }
@@ -83,13 +85,13 @@ fn look_again(
 {
     match &seen.used {
         Some(used) if seen.is_late => {
-            if let Some(again) = look_beside(alloc, outline, rows, used, text) {
-                return conclude(alloc, outline, rows, text, again);
+            if let Some(again) = look_beside(alloc, outline, rows, used, text, scratch) {
+                return conclude(alloc, outline, rows, text, again, scratch);
             }
         }
         _ => {}
     }
-    conclude(alloc, outline, rows, text, seen)
+    conclude(alloc, outline, rows, text, seen, scratch)
 }
 
 /// What is seen of a text, some of whose used extensions are known.
@@ -99,6 +101,7 @@ fn look_beside(
     rows: &[Member],
     used: &BTreeSet<String>,
     text: &str,
+    scratch: &mut Scratch<Global>,
 ) -> Option<Seen>
     requires { AreUsedIn text.now used.now }
     ensures { IfSome result (SeesAll outline.now rows.now text.now) }
@@ -110,8 +113,7 @@ fn look_beside(
         used,
         known: &known,
     };
-    let mut scratch = Scratch::new(alloc);
-    let mut reader = Reader::new(text, &mut scratch).ok()?;
+    let mut reader = Reader::new(text, scratch).ok()?;
     match reader.next() {
         Some(Token::BeginObject) => {
             let seen = look_document(&mut reader, MEMBERS_DEPTH, rows, &table).ok()?;
@@ -122,7 +124,14 @@ fn look_beside(
 }
 
 /// What was found by what was seen.
-fn conclude(alloc: Global, outline: &Outline, rows: &[Member], text: &str, seen: Seen) -> FirstLook
+fn conclude(
+    alloc: Global,
+    outline: &Outline,
+    rows: &[Member],
+    text: &str,
+    seen: Seen,
+    scratch: &mut Scratch<Global>,
+) -> FirstLook
     requires rows { AreRows outline.now rows.now }
     requires seen { SeesAll outline.now rows.now text.now seen }
     ensures { IsFirstLook outline.now text.now result }
@@ -137,7 +146,7 @@ fn conclude(alloc: Global, outline: &Outline, rows: &[Member], text: &str, seen:
     let Some(keep) = names_to_keep(alloc, seen.loud, rows) else {
         return FirstLook::Nothing;
     };
-    match excerpt_of(alloc, &keep, reach, text) {
+    match excerpt_of(alloc, &keep, reach, text, scratch) {
         Some(value) => FirstLook::Excerpt(value),
         None => FirstLook::Nothing,
     }

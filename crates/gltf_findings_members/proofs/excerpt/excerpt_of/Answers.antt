@@ -21,8 +21,8 @@ excerpted P depth text ts found r opens deep ok finds d is =
     let held = subst (λ n. FindsKept P n ts (members_view found.entries)) deep all got.0 [] got.1 in
     view-Object found ∙ ap object held ∙ ap (excerpt P) (sym got.2)
 
-pub returns-in-Some-BeginObject : goal.returns-in-Some-BeginObject
-returns-in-Some-BeginObject c =
+pub returns-in_ok-found-in-Some-BeginObject : goal.returns-in_ok-found-in-Some-BeginObject
+returns-in_ok-found-in-Some-BeginObject c =
     let ts = c.next.new.self in
     let opens : tokens c.args.text.now ≡ Token.begin_object ∷ ts = grind arith in
     let found = c.in_ok-found-in-Some-BeginObject.found in

@@ -61,7 +61,7 @@ pub(crate) fn look_document(
         is_late = is_late | (!is_quiet & used.is_none());
         note_loud(table.alloc, &mut loud, name, is_quiet)?;
         count = one_more(count)?;
-        reach = reach_of(is_kept(&loud, rows, name), count, reach);
+        reach = reach_of(is_kept(&loud, rows, name, is_quiet), count, reach);
     }
     let is_whole = has_all(rows, &seen, &[]) & !is_target(rows);
     Ok(Seen {
@@ -90,11 +90,13 @@ fn reach_of(is_kept: bool, count: usize, reach: usize) -> usize
     if is_kept { count } else { reach }
 }
 
-/// Whether an excerpt keeps the members of a name.
-fn is_kept(loud: &BTreeSet<String>, rows: &[Member], name: &str) -> bool
+/// Whether an excerpt keeps the members of a name. One that may have notices is noted, and so it
+/// isn't looked up.
+fn is_kept(loud: &BTreeSet<String>, rows: &[Member], name: &str, is_quiet: bool) -> bool
+    requires { is_quiet ≡ false → contains_text loud.now name.now ≡ true }
     ensures { result ≡ is_kept loud.now rows.now name.now }
 {
-    loud.contains(name) || is_fixed(rows, name)
+    !is_quiet || loud.contains(name) || is_fixed(rows, name)
 }
 
 /// Whether any excerpt keeps the members of a name.

@@ -16,7 +16,7 @@ from sources import ROOT, trait_and_type
 FOLDER = ROOT / "docs" / "api"
 CRATES = ["gltf_json", "gltf_load", "gltf_accessors", "gltf_buffers", "gltf_elements", "gltf_findings",
           "gltf_findings_glb", "gltf_findings_lines", "gltf_findings_members", "gltf_glb",
-          "gltf_hierarchy", "gltf_layout", "gltf_lint_lines", "gltf_report_lines",
+          "gltf_hierarchy", "gltf_layout", "gltf_lint_lines", "gltf_positions", "gltf_report_lines",
           "gltf_subtrees"]
 HEAD = "<!-- Written by tools/gen_pages.py from the sources. -->\n"
 README = ROOT / "README.md"

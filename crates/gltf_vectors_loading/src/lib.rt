@@ -10,6 +10,8 @@ mod documents;
 #[cfg(test)]
 mod hierarchy;
 #[cfg(test)]
+mod positions;
+#[cfg(test)]
 mod reading;
 #[cfg(test)]
 mod subtrees;

@@ -25,6 +25,8 @@ import sys
 import tempfile
 from pathlib import Path
 
+from gen_positions import places_in, position
+
 ROOT = Path(__file__).resolve().parent.parent
 CRATE = ROOT / "crates" / "gltf_c"
 EXAMPLES = ROOT / "examples"
@@ -63,10 +65,14 @@ def as_json(file):
         for code, message, member in reports)
 
 
-def finding(code, file, message, section, severity, pointer=None, offset=None):
-    """The line of a finding as JSON."""
-    members = {"code": code, "file": file, "kind": "finding", "message": message,
-               "offset": offset, "pointer": pointer, "section": section, "severity": severity}
+def finding(code, file, message, section, severity, pointer=None, offset=None, text=None):
+    """The line of a finding as JSON. The pointer leads to a place in a text."""
+    line, column = None, None
+    if pointer is not None:
+        line, column = position(text, places_in(text), pointer)
+    members = {"code": code, "column": column, "file": file, "kind": "finding", "line": line,
+               "message": message, "offset": offset, "pointer": pointer, "section": section,
+               "severity": severity}
     return json.dumps(members, separators=(",", ":")) + "\n"
 
 
@@ -85,7 +91,8 @@ CAMERA_FINDINGS = [
 
 def camera_found(file):
     """The findings of the camera, for a file of this name."""
-    return "".join(finding(code, file, *rest) for code, *rest in CAMERA_FINDINGS)
+    text = CAMERA.encode()
+    return "".join(finding(code, file, *rest, text=text) for code, *rest in CAMERA_FINDINGS)
 
 
 def cut_found():

@@ -33,12 +33,12 @@ const CAMERA: &[u8] = b"{\"asset\":{\"version\":\"2.0\"},\"cameras\":[{\"type\":
     \"perspective\":{\"yfov\":-1,\"znear\":1}}]}";
 
 const FINDINGS: &str = "\
-    {\"code\":\"VALUE_NOT_IN_RANGE\",\"file\":\"a.gltf\",\"kind\":\"finding\",\
-    \"message\":\"a number is out of its range\",\
+    {\"code\":\"VALUE_NOT_IN_RANGE\",\"column\":83,\"file\":\"a.gltf\",\
+    \"kind\":\"finding\",\"line\":1,\"message\":\"a number is out of its range\",\
     \"offset\":null,\"pointer\":\"/cameras/0/perspective/yfov\",\"section\":\"5\",\
     \"severity\":\"error\"}\n\
-    {\"code\":\"UNUSED_OBJECT\",\"file\":\"a.gltf\",\"kind\":\"finding\",\
-    \"message\":\"nothing refers to the object\",\
+    {\"code\":\"UNUSED_OBJECT\",\"column\":39,\"file\":\"a.gltf\",\
+    \"kind\":\"finding\",\"line\":1,\"message\":\"nothing refers to the object\",\
     \"offset\":null,\"pointer\":\"/cameras/0\",\"section\":\"5\",\
     \"severity\":\"information\"}\n";
 

@@ -19,6 +19,7 @@ const ALL: FindingOptions<'static> = FindingOptions {
         ignored: &[],
     },
     style: Style::Lines(Format::Text),
+    positions_up_to: u64::MAX,
     most: u64::MAX,
 };
 

@@ -42,12 +42,13 @@ module _ {o : FindingOptions} {file : File} {s : Sources} {parts : FileParts} {f
 
 -- by choices that let all pass
 pub json_found : (outline : Outline) (o : FindingOptions) {file : File} {found : Found} → IsFound outline o file found → IsShapeOf outline.nodes.items outline.root root_kind
-    → o.style ≡ Lines Json → o.most ≡ 2 ^ 64 - 1 → o.choices.severities.now ≡ [] → o.choices.ignored.now ≡ [] → IsJsonOf file found
-json_found outline o h shape style most severities ignored = record {
+    → o.style ≡ Lines Json → o.positions_up_to ≡ 2 ^ 64 - 1 → o.most ≡ 2 ^ 64 - 1 → o.choices.severities.now ≡ [] → o.choices.ignored.now ≡ [] → IsJsonOf file found
+json_found outline o h shape style positions most severities ignored = record {
   outline = outline;
   is_outline = shape;
   options = o;
   style = style;
+  positions = positions;
   most = most;
   severities = severities;
   ignored = ignored;

@@ -6,4 +6,5 @@ pub mod EachCode
 pub mod InfoMembers
 pub mod Listed
 pub mod NoFloats
+pub mod Placing
 pub mod Unsaid

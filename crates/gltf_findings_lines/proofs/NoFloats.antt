@@ -6,7 +6,8 @@ use Rattle.serde_json.specs.Written.{has_float, items_have_float}
 use Rattle.gltf_findings_lines.specs.declared.file.File.{File}
 use Rattle.gltf_findings_lines.specs.declared.choices.Shown.{Shown}
 use Rattle.gltf_findings_lines.specs.declared.info.Info.{Info}
-use Rattle.gltf_findings_lines.specs.FindingLines.{finding_data}
+use Rattle.gltf_findings_lines.specs.declared.placed.Placed.{Placed}
+use Rattle.gltf_findings_lines.specs.FindingLines.{finding_data, number_data}
 use Rattle.gltf_findings_lines.specs.Info.{names_data, text_data, info_data}
 use Rattle.gltf_findings_lines.specs.Khronos.{issues_data, khronos_data, message_at, message_data, refusal_data, refusal_message, unread_data}
 use Rattle.gltf_findings_lines.specs.Located.{Where, byte, place, where_of, offset_data, pointer_data}
@@ -19,8 +20,12 @@ pointer : (w : Where) → has_float (pointer_data w) ≡ false
 pointer (byte n) = refl
 pointer (place p) = refl
 
-pub finding_without_float : (file : List ℕ) (x : Shown) → has_float (finding_data file x) ≡ false
-finding_without_float file x = simp (offset, pointer)
+number : (n : Option ℕ) → has_float (number_data n) ≡ false
+number None = refl
+number (Some n) = refl
+
+pub finding_without_float : (file : List ℕ) (x : Placed) → has_float (finding_data file x) ≡ false
+finding_without_float file x = simp (number, offset, pointer)
 
 message : (w : Where) (x : Shown) → has_float (message_at w x) ≡ false
 message (byte n) x = refl

@@ -18,7 +18,7 @@ use Rattle.gltf_findings_uris.specs.declared.container.Container.{Container}
 use Rattle.gltf_findings_uris.specs.Objects.{buffer_findings, image_findings}
 use Rattle.gltf_findings_lines.specs.Chosen.{chosen}
 use Rattle.gltf_findings_lines.specs.Counted.{counts_of}
-use Rattle.gltf_findings_lines.specs.FindingLines.{finding_lines}
+use Rattle.gltf_findings_lines.specs.FindingLines.{AreLinesOf}
 use Rattle.gltf_findings_lines.specs.Info.{IsInfo}
 use Rattle.gltf_findings_lines.specs.Khronos.{khronos_data, unread_data}
 use Rattle.gltf_findings_lines.specs.Located.{Located, located}
@@ -44,10 +44,13 @@ pub record IsReportOf (file : File) (r : Root) (most : ℕ) (xs : List Shown) (t
   pub each : text ≡ line (compact_text (khronos_data file info most xs))
 
 -- what is printed for the findings of a file, with the document that it holds
-abbrev pub IsPrintedFor : Style → File → Option Root → ℕ → List Shown → List ℕ → Type 0
-IsPrintedFor (Lines format) file root most xs text = text ≡ finding_lines format file.name.now most xs
-IsPrintedFor Khronos file None most xs text = text ≡ line (compact_text (unread_data file most xs))
-IsPrintedFor Khronos file (Some r) most xs text = IsReportOf file r most xs text
+abbrev pub IsPrintedAs : Style → FindingOptions → File → Option Root → List Shown → List ℕ → Type 0
+IsPrintedAs (Lines format) o file root xs text = AreLinesOf format o file xs text
+IsPrintedAs Khronos o file None xs text = text ≡ line (compact_text (unread_data file o.most xs))
+IsPrintedAs Khronos o file (Some r) xs text = IsReportOf file r o.most xs text
+
+abbrev pub IsPrintedFor : FindingOptions → File → Option Root → List Shown → List ℕ → Type 0
+IsPrintedFor o file root xs text = IsPrintedAs o.style o file root xs text
 
 -- why a file is refused: it holds no document, and no finding of severity error says so
 abbrev pub refusal_of : Found → Option Unread
@@ -63,7 +66,7 @@ pub record AreDocumentFindings (r : Root) (c : Container) (all : List Finding) :
 pub record IsPrinted (o : FindingOptions) (file : File) (all : List Located) (root : Option Root) (unread : Option Unread) (found : Found) : Type 0 where
   pub findings : List FileFinding
   pub are_at : map located findings ≡ all
-  pub lines : IsPrintedFor o.style file root o.most (chosen o.choices findings) (string_bytes found.lines)
+  pub lines : IsPrintedFor o file root (chosen o.choices findings) (string_bytes found.lines)
   pub counts : found.counts ≡ counts_of (chosen o.choices findings)
   pub reason : found.unread ≡ unread
 
@@ -111,6 +114,7 @@ pub record IsJsonOf (file : File) (found : Found) : Type 0 where
   pub is_outline : IsShapeOf outline.nodes.items outline.root root_kind
   pub options : FindingOptions
   pub style : options.style ≡ Lines Json
+  pub positions : options.positions_up_to ≡ 2 ^ 64 - 1
   pub most : options.most ≡ 2 ^ 64 - 1
   pub severities : options.choices.severities.now ≡ []
   pub ignored : options.choices.ignored.now ≡ []

@@ -9,4 +9,5 @@ pub mod Located
 pub mod Members
 pub mod Named
 pub mod Parts
+pub mod Placed
 pub mod Sources

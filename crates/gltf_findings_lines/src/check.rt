@@ -16,7 +16,7 @@ use crate::counts::Counts;
 use crate::file::{File, Parts};
 use crate::info::Info;
 use crate::khronos::{khronos_line, unread_line};
-use crate::lines::findings_lines;
+use crate::lines::lines_of;
 use crate::members::{members_in, notices_of};
 use crate::options::{FindingOptions, Style};
 use crate::sources::Sources;
@@ -239,15 +239,14 @@ fn lines_for(
     root: Option<&Root>,
     shown: &[Shown<'_>],
 ) -> Result<String, AllocError>
-    ensures { IfOk result (λ lines. IsPrintedFor options.now.style file.now
-        (option_map (λ r. r.now) root.entry) options.now.most shown.now (string_bytes lines)) }
+    ensures { IfOk result (λ lines. IsPrintedFor options.now file.now
+        (option_map (λ r. r.now) root.entry) shown.now (string_bytes lines)) }
 {
-    let most = options.most;
     match options.style {
-        Style::Lines(format) => findings_lines(alloc, format, file.name, most, shown),
+        Style::Lines(format) => lines_of(alloc, options, format, file, shown),
         Style::Khronos => match root {
-            Some(root) => report_of(alloc, file, root, most, shown),
-            None => unread_line(alloc, file, most, shown),
+            Some(root) => report_of(alloc, file, root, options.most, shown),
+            None => unread_line(alloc, file, options.most, shown),
         },
     }
 }
@@ -279,6 +278,7 @@ pub fn json_lines(alloc: Global, file: &File<'_>) -> Result<Found, AllocError>
             ignored: &[],
         },
         style: Style::Lines(Format::Json),
+        positions_up_to: u64::MAX,
         most: u64::MAX,
     };
     let checker = Checker::new(alloc)?;

@@ -17,6 +17,7 @@ mod khronos;
 mod lines;
 mod members;
 mod options;
+mod placed;
 mod sources;
 
 pub use check::{Checker, Found, Unread, json_lines};

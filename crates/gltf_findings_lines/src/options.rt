@@ -19,6 +19,9 @@ pub struct FindingOptions<'a> {
     pub choices: Choices<'a>,
     /// What is printed.
     pub style: Style,
+    /// The length of the longest JSON in which the places of findings are looked for, in bytes:
+    /// the lines of such a file come with line and column.
+    pub positions_up_to: u64,
     /// The most findings that are printed for a file.
     pub most: u64,
 }

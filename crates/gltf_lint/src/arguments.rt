@@ -14,6 +14,13 @@ wrong. --help lists what is checked.";
 /// The names of `--format`.
 const FORMATS: &[&str] = &["text", "json", "khronos"];
 
+/// The values of `--positions`.
+const POSITIONS: &[&str] = &["auto", "always", "never"];
+
+/// The length of the longest JSON, in bytes, for whose findings `--positions auto` prints lines and
+/// columns. Looking for them costs half as much again as all else.
+const AUTO_POSITIONS: u64 = 1 << 20;
+
 /// The names of severities.
 const LEVELS: &[&str] = &["error", "warning", "information", "hint"];
 
@@ -49,6 +56,7 @@ impl<'a> Checks<'a> {
             style => Checks::Findings(FindingOptions {
                 choices,
                 style,
+                positions_up_to: positions_up_to(matches),
                 most,
             }),
         }
@@ -70,6 +78,15 @@ fn style_of(matches: &ArgMatches<'_>) -> Style {
         Some("json") => Style::Lines(Format::Json),
         _ if matches.get_flag("json") => Style::Lines(Format::Json),
         _ => Style::Lines(Format::Text),
+    }
+}
+
+/// The length of the longest JSON for whose findings lines and columns are printed, in bytes.
+fn positions_up_to(matches: &ArgMatches<'_>) -> u64 {
+    match matches.get_str("positions") {
+        Some("always") => u64::MAX,
+        Some("never") => 0,
+        _ => AUTO_POSITIONS,
     }
 }
 
@@ -128,10 +145,13 @@ fn with_findings<'a>(alloc: Global, command: Command<'a>) -> Result<Command<'a>,
     let severity = arg!(in alloc; --severity <"CODE=LEVEL">... "Give a code another severity");
     let ignore = arg!(in alloc; --ignore <"CODE[:POINTER]">... "Leave out findings with a code");
     let fail_on = arg!(in alloc; --"fail-on" <LEVEL> "Findings as severe as this give status 1");
+    let positions =
+        arg!(in alloc; --positions <WHEN> "Print lines and columns; auto: up to 1 MiB of JSON");
     command
         .arg(severity.conflicts_with("reports")?)?
         .arg(ignore.conflicts_with("reports")?)?
-        .arg(fail_on.value_parser(LEVELS).conflicts_with("reports")?)
+        .arg(fail_on.value_parser(LEVELS).conflicts_with("reports")?)?
+        .arg(positions.value_parser(POSITIONS).conflicts_with("reports")?)
 }
 
 /// Adds the options of reports.

@@ -1,8 +1,0 @@
-use Rattle.std.proofs.Common.{◌≡◌, ◌++◌, drop, string_bytes}
-use Rattle.gltf_findings_lines.specs.FindingLines.{shown_lines}
-use Rattle.gltf_findings_lines.proofs.lines.push_shown.Given as goal
-
--- the lines of the findings that are left give all lines
-abbrev pub invariant-loop-one : goal.invariant-loop-one
-invariant-loop-one l = string_bytes l.lines ++ shown_lines l.format l.file (drop l.one-index l.shown)
-    ≡ string_bytes l.fn.lines ++ shown_lines l.format l.file l.shown

@@ -66,80 +66,103 @@ fn walk_to_end(root: &Root) {
 
 /// The nanoseconds that a task takes once. What it makes is dropped after the clock is read, unless
 /// the drop belongs to the task.
+// Each task is a function of its own: the proof of one function for all would take many times as
+// long.
 fn time(rt: &HostRuntime, task: Task, bytes: &[u8], root: &Root) -> Result<u64> {
-    let alloc = rt.alloc();
     match task {
-        Task::ReadValue => {
-            let start = Instant::now(rt)?;
-            let value = Value::from_slice(alloc, bytes)?;
-            let nanos = nanos_since(rt, &start)?;
-            drop(value);
-            Ok(nanos)
-        }
-        Task::ReadAndDropValue => {
-            let start = Instant::now(rt)?;
-            drop(Value::from_slice(alloc, bytes)?);
-            nanos_since(rt, &start)
-        }
-        Task::FromSlice => {
-            let start = Instant::now(rt)?;
-            let read = Root::from_slice(alloc, bytes)?;
-            let nanos = nanos_since(rt, &start)?;
-            drop(read);
-            Ok(nanos)
-        }
-        Task::FromSliceAndDrop => {
-            let start = Instant::now(rt)?;
-            drop(Root::from_slice(alloc, bytes)?);
-            nanos_since(rt, &start)
-        }
-        Task::FromValue => {
-            let value = Value::from_slice(alloc, bytes)?;
-            let start = Instant::now(rt)?;
-            let read = Root::from_value(alloc, value)?;
-            let nanos = nanos_since(rt, &start)?;
-            drop(read);
-            Ok(nanos)
-        }
-        Task::Validate => {
-            let mut count = Count::new();
-            let start = Instant::now(rt)?;
-            let _ = root.validate(root, &mut Steps::new(), &mut count);
-            nanos_since(rt, &start)
-        }
-        Task::Walk => {
-            let start = Instant::now(rt)?;
-            walk_to_end(root);
-            nanos_since(rt, &start)
-        }
-        Task::ToValue => {
-            let start = Instant::now(rt)?;
-            let value = root.to_value(alloc)?;
-            let nanos = nanos_since(rt, &start)?;
-            drop(value);
-            Ok(nanos)
-        }
-        Task::ToVec => {
-            let start = Instant::now(rt)?;
-            let written = root.to_vec(alloc)?;
-            let nanos = nanos_since(rt, &start)?;
-            drop(written);
-            Ok(nanos)
-        }
-        Task::CloneRoot => {
-            let start = Instant::now(rt)?;
-            let copy = root.clone()?;
-            let nanos = nanos_since(rt, &start)?;
-            drop(copy);
-            Ok(nanos)
-        }
-        Task::DropRoot => {
-            let copy = root.clone()?;
-            let start = Instant::now(rt)?;
-            drop(copy);
-            nanos_since(rt, &start)
-        }
+        Task::ReadValue => time_value(rt, bytes),
+        Task::ReadAndDropValue => time_value_and_drop(rt, bytes),
+        Task::FromSlice => time_slice(rt, bytes),
+        Task::FromSliceAndDrop => time_slice_and_drop(rt, bytes),
+        Task::FromValue => time_from_value(rt, bytes),
+        Task::Validate => time_validation(rt, root),
+        Task::Walk => time_walk(rt, root),
+        Task::ToValue => time_to_value(rt, root),
+        Task::ToVec => time_to_vec(rt, root),
+        Task::CloneRoot => time_clone(rt, root),
+        Task::DropRoot => time_drop(rt, root),
     }
+}
+
+fn time_value(rt: &HostRuntime, bytes: &[u8]) -> Result<u64> {
+    let start = Instant::now(rt)?;
+    let value = Value::from_slice(rt.alloc(), bytes)?;
+    let nanos = nanos_since(rt, &start)?;
+    drop(value);
+    Ok(nanos)
+}
+
+fn time_value_and_drop(rt: &HostRuntime, bytes: &[u8]) -> Result<u64> {
+    let start = Instant::now(rt)?;
+    drop(Value::from_slice(rt.alloc(), bytes)?);
+    nanos_since(rt, &start)
+}
+
+fn time_slice(rt: &HostRuntime, bytes: &[u8]) -> Result<u64> {
+    let start = Instant::now(rt)?;
+    let read = Root::from_slice(rt.alloc(), bytes)?;
+    let nanos = nanos_since(rt, &start)?;
+    drop(read);
+    Ok(nanos)
+}
+
+fn time_slice_and_drop(rt: &HostRuntime, bytes: &[u8]) -> Result<u64> {
+    let start = Instant::now(rt)?;
+    drop(Root::from_slice(rt.alloc(), bytes)?);
+    nanos_since(rt, &start)
+}
+
+fn time_from_value(rt: &HostRuntime, bytes: &[u8]) -> Result<u64> {
+    let value = Value::from_slice(rt.alloc(), bytes)?;
+    let start = Instant::now(rt)?;
+    let read = Root::from_value(rt.alloc(), value)?;
+    let nanos = nanos_since(rt, &start)?;
+    drop(read);
+    Ok(nanos)
+}
+
+fn time_validation(rt: &HostRuntime, root: &Root) -> Result<u64> {
+    let mut count = Count::new();
+    let start = Instant::now(rt)?;
+    let _ = root.validate(root, &mut Steps::new(), &mut count);
+    nanos_since(rt, &start)
+}
+
+fn time_walk(rt: &HostRuntime, root: &Root) -> Result<u64> {
+    let start = Instant::now(rt)?;
+    walk_to_end(root);
+    nanos_since(rt, &start)
+}
+
+fn time_to_value(rt: &HostRuntime, root: &Root) -> Result<u64> {
+    let start = Instant::now(rt)?;
+    let value = root.to_value(rt.alloc())?;
+    let nanos = nanos_since(rt, &start)?;
+    drop(value);
+    Ok(nanos)
+}
+
+fn time_to_vec(rt: &HostRuntime, root: &Root) -> Result<u64> {
+    let start = Instant::now(rt)?;
+    let written = root.to_vec(rt.alloc())?;
+    let nanos = nanos_since(rt, &start)?;
+    drop(written);
+    Ok(nanos)
+}
+
+fn time_clone(rt: &HostRuntime, root: &Root) -> Result<u64> {
+    let start = Instant::now(rt)?;
+    let copy = root.clone()?;
+    let nanos = nanos_since(rt, &start)?;
+    drop(copy);
+    Ok(nanos)
+}
+
+fn time_drop(rt: &HostRuntime, root: &Root) -> Result<u64> {
+    let copy = root.clone()?;
+    let start = Instant::now(rt)?;
+    drop(copy);
+    nanos_since(rt, &start)
 }
 
 /// A number of nanoseconds for each byte, in thousandths.

@@ -56,34 +56,62 @@ fn three(view: Index<View>, component: ComponentType, type_: Type) -> Accessor {
     accessor
 }
 
-/// Pushes a mesh that is the triangle, whose buffer has so many bytes.
-fn push_mesh(alloc: Global, root: &mut Root, length: u64) -> Result<Index<Mesh>> {
-    let buffer = root.push(Buffer::new(length))?;
+/// Pushes the indices, which are at the front of the buffer.
+fn push_indices(root: &mut Root, buffer: Index<Buffer>) -> Result<Index<Accessor>> {
     let order = root.push(view(buffer, 0, 6, Target::ElementArrayBuffer))?;
-    let corners = view(buffer, POSITIONS_OFFSET, 36, Target::ArrayBuffer);
-    let corners = root.push(corners)?;
-    let indices = root.push(three(order, ComponentType::U16, Type::Scalar))?;
+    Ok(root.push(three(order, ComponentType::U16, Type::Scalar))?)
+}
+
+/// Pushes the positions, which are behind the indices.
+fn push_positions(
+    alloc: Global,
+    root: &mut Root,
+    buffer: Index<Buffer>,
+) -> Result<Index<Accessor>> {
+    let corners = root.push(view(buffer, POSITIONS_OFFSET, 36, Target::ArrayBuffer))?;
     let mut positions = three(corners, ComponentType::F32, Type::Vec3);
     positions.min = Some(json!(in alloc; [0, 0, 0])?);
     positions.max = Some(json!(in alloc; [1, 1, 0])?);
-    let mut attributes = BTreeMap::new(alloc);
-    attributes.insert(Checked::Valid(Semantic::Positions), root.push(positions)?)?;
-    let mut primitive = Primitive::new(attributes);
-    primitive.indices = Some(indices);
-    Ok(root.push(Mesh::new(vec![in alloc; primitive]?))?)
+    Ok(root.push(positions)?)
 }
 
-pub fn main(rt: HostRuntime) -> Result<()> {
-    let alloc = rt.alloc();
-    let data = data(alloc)?;
+/// Triangles between these positions.
+fn triangles(
+    alloc: Global,
+    indices: Index<Accessor>,
+    positions: Index<Accessor>,
+) -> Result<Primitive> {
+    let mut attributes = BTreeMap::new(alloc);
+    attributes.insert(Checked::Valid(Semantic::Positions), positions)?;
+    let mut primitive = Primitive::new(attributes);
+    primitive.indices = Some(indices);
+    Ok(primitive)
+}
+
+/// Pushes a mesh that is the triangle, whose buffer has so many bytes.
+fn push_mesh(alloc: Global, root: &mut Root, length: u64) -> Result<Index<Mesh>> {
+    let buffer = root.push(Buffer::new(length))?;
+    let indices = push_indices(root, buffer)?;
+    let positions = push_positions(alloc, root, buffer)?;
+    let triangle = triangles(alloc, indices, positions)?;
+    Ok(root.push(Mesh::new(vec![in alloc; triangle]?))?)
+}
+
+/// The document, whose buffer has so many bytes.
+fn document(alloc: Global, length: u64) -> Result<Root> {
     let mut root = Root::new(alloc)?;
     let mut node = Node::new();
     node.name = Some(String::from_str(alloc, "triangle")?);
-    node.mesh = Some(push_mesh(alloc, &mut root, data.len() as u64)?);
+    node.mesh = Some(push_mesh(alloc, &mut root, length)?);
     let node = root.push(node)?;
     root.scene = Some(root.push(Scene::new(vec![in alloc; node]?))?);
-    let json = root.to_vec(alloc)?;
-    let file = Glb::to_vec(alloc, &json, Some(data.as_slice()))?;
+    Ok(root)
+}
+
+pub fn main(rt: HostRuntime) -> Result<()> {
+    let data = data(rt.alloc())?;
+    let json = document(rt.alloc(), data.len() as u64)?.to_vec(rt.alloc())?;
+    let file = Glb::to_vec(rt.alloc(), &json, Some(data.as_slice()))?;
     fs::write(&rt, FILE, &file)?;
     println!(rt; "{FILE}: {} bytes", file.len())?;
     Ok(())

@@ -23,28 +23,49 @@ const ALL: FindingOptions<'static> = FindingOptions {
     most: u64::MAX,
 };
 
-pub fn main(rt: HostRuntime) -> Result<()> {
+/// Prints all findings of a file.
+fn print_whole(rt: &HostRuntime, file: &[u8]) -> Result<()> {
     let alloc = rt.alloc();
-    let file = fs::read(&rt, "camera.gltf")?;
     let whole = File {
         name: "camera.gltf",
-        bytes: &file,
+        bytes: file,
         is_container: false,
     };
     let found = Checker::new(alloc)?.check(alloc, &ALL, &whole)?;
     print!(rt; "{}", found.lines)?;
-    let json = Value::from_slice(alloc, &file)?;
-    let outline = Outline::of::<Root>(alloc)?;
-    for notice in Notices::of(alloc, &outline, &json)?.as_slice() {
+    Ok(())
+}
+
+/// Prints what is wrong with the members of a JSON text.
+fn print_notices(rt: &HostRuntime, text: &[u8]) -> Result<()> {
+    let json = Value::from_slice(rt.alloc(), text)?;
+    let outline = Outline::of::<Root>(rt.alloc())?;
+    for notice in Notices::of(rt.alloc(), &outline, &json)?.as_slice() {
         println!(rt; "{notice}")?;
     }
-    let root = Root::from_slice(alloc, &file)?;
-    for finding in Findings::of(alloc, &root)?.as_slice() {
-        println!(rt; "{}: {}", finding.place.pointer(alloc)?, finding.code)?;
+    Ok(())
+}
+
+/// Prints what the specification requires and a document doesn't have.
+fn print_findings(rt: &HostRuntime, root: &Root) -> Result<()> {
+    for finding in Findings::of(rt.alloc(), root)?.as_slice() {
+        println!(rt; "{}: {}", finding.place.pointer(rt.alloc())?, finding.code)?;
     }
-    let file = fs::read(&rt, "triangle.glb")?;
-    for finding in GlbFindings::of(alloc, &file)?.as_slice() {
+    Ok(())
+}
+
+/// Prints what is wrong with the container of a `.glb` file.
+fn print_container(rt: &HostRuntime, file: &[u8]) -> Result<()> {
+    for finding in GlbFindings::of(rt.alloc(), file)?.as_slice() {
         println!(rt; "byte {}: {}", finding.offset, finding.code)?;
     }
     Ok(())
+}
+
+pub fn main(rt: HostRuntime) -> Result<()> {
+    let file = fs::read(&rt, "camera.gltf")?;
+    print_whole(&rt, &file)?;
+    print_notices(&rt, &file)?;
+    print_findings(&rt, &Root::from_slice(rt.alloc(), &file)?)?;
+    print_container(&rt, &fs::read(&rt, "triangle.glb")?)
 }

@@ -15,23 +15,29 @@ mod stats;
 
 use anyhow::Result;
 
+/// Prints the name of the example that runs next.
+fn announce(rt: &HostRuntime, name: &str) -> Result<()> {
+    println!(rt; "# {name}")?;
+    Ok(())
+}
+
 fn main(rt: HostRuntime) -> Result<()> {
-    println!(rt; "# checker")?;
+    announce(&rt, "checker")?;
     checker::main(rt)?;
-    println!(rt; "# exporter")?;
+    announce(&rt, "exporter")?;
     exporter::main(rt)?;
-    println!(rt; "# loader")?;
+    announce(&rt, "loader")?;
     loader::main(rt)?;
-    println!(rt; "# stats")?;
+    announce(&rt, "stats")?;
     stats::main(rt)?;
-    println!(rt; "# glb")?;
+    announce(&rt, "glb")?;
     glb::main(rt)?;
-    println!(rt; "# builder")?;
+    announce(&rt, "builder")?;
     builder::main(rt)?;
-    println!(rt; "# linter")?;
+    announce(&rt, "linter")?;
     linter::main(rt)?;
-    println!(rt; "# files")?;
+    announce(&rt, "files")?;
     files::main(rt)?;
-    println!(rt; "# findings")?;
+    announce(&rt, "findings")?;
     findings::main(rt)
 }

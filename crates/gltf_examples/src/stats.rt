@@ -73,16 +73,26 @@ pub fn main(rt: HostRuntime) -> Result<()> {
 
 /// Prints how many items the lists have.
 fn print_lists(rt: &HostRuntime, root: &Root) -> Result<()> {
-    let counts = Counts::of(root);
-    println!(rt; "  scenes: {}", root.scenes.len())?;
-    println!(rt; "  nodes: {}", root.nodes.len())?;
-    println!(rt; "  meshes: {}", root.meshes.len())?;
-    println!(rt; "  primitives: {}", counts.primitives)?;
+    print_count(rt, "scenes", root.scenes.len())?;
+    print_count(rt, "nodes", root.nodes.len())?;
+    print_count(rt, "meshes", root.meshes.len())?;
+    print_counts(rt, &Counts::of(root))?;
+    print_count(rt, "materials", root.materials.len())?;
+    print_count(rt, "textures", root.textures.len())?;
+    print_count(rt, "animations", root.animations.len())
+}
+
+/// Prints what the primitives name.
+fn print_counts(rt: &HostRuntime, counts: &Counts) -> Result<()> {
+    print_count(rt, "primitives", counts.primitives)?;
     println!(rt; "  vertices: {}", counts.vertices)?;
     println!(rt; "  indices: {}", counts.indices)?;
-    println!(rt; "  materials: {}", root.materials.len())?;
-    println!(rt; "  textures: {}", root.textures.len())?;
-    println!(rt; "  animations: {}", root.animations.len())?;
+    Ok(())
+}
+
+/// Prints how many there are of something.
+fn print_count(rt: &HostRuntime, name: &str, count: usize) -> Result<()> {
+    println!(rt; "  {name}: {count}")?;
     Ok(())
 }
 

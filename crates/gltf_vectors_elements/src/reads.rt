@@ -15,21 +15,13 @@ const SETS: u32 = 2;
 
 /// Prints the attributes, the indices and the morph targets of a primitive.
 pub fn print_primitive(rt: &HostRuntime, reader: &Reader<'_>, primitive: &Primitive) -> Result<()> {
-    if let Some(positions) = reader.read_positions()? {
-        print_floats(rt, "positions", &positions)?;
-    }
-    if let Some(normals) = reader.read_normals()? {
-        print_floats(rt, "normals", &normals)?;
-    }
-    if let Some(tangents) = reader.read_tangents()? {
-        print_floats(rt, "tangents", &tangents)?;
-    }
+    print_floats(rt, "positions", reader.read_positions()?)?;
+    print_floats(rt, "normals", reader.read_normals()?)?;
+    print_floats(rt, "tangents", reader.read_tangents()?)?;
     for set in 0..SETS {
         print_set(rt, reader, set)?;
     }
-    if let Some(indices) = reader.read_indices()? {
-        print_indices(rt, &indices)?;
-    }
+    print_indices(rt, reader.read_indices()?)?;
     if let Some(targets) = &primitive.targets {
         for target in targets {
             print_target(rt, &reader.accessors(), target)?;
@@ -40,41 +32,34 @@ pub fn print_primitive(rt: &HostRuntime, reader: &Reader<'_>, primitive: &Primit
 
 /// Prints the attributes of a set.
 fn print_set(rt: &HostRuntime, reader: &Reader<'_>, set: u32) -> Result<()> {
-    if let Some(places) = reader.read_tex_coords(set)? {
-        print_vectors(rt, "texture coordinates", &places)?;
-    }
-    if let Some(colors) = reader.read_colors(set)? {
-        print_colors(rt, &colors)?;
-    }
-    if let Some(joints) = reader.read_joints(set)? {
-        print_joints(rt, &joints)?;
-    }
-    if let Some(weights) = reader.read_weights(set)? {
-        print_vectors(rt, "weights", &weights)?;
-    }
-    Ok(())
+    print_vectors(rt, "texture coordinates", reader.read_tex_coords(set)?)?;
+    print_colors(rt, reader.read_colors(set)?)?;
+    print_joints(rt, reader.read_joints(set)?)?;
+    print_vectors(rt, "weights", reader.read_weights(set)?)
 }
 
 /// Prints what a morph target adds.
 fn print_target(rt: &HostRuntime, accessors: &Accessors<'_>, target: &MorphTarget) -> Result<()> {
-    if let Some(positions) = accessors.read_morph_positions(target)? {
-        print_floats(rt, "target positions", &positions)?;
-    }
-    if let Some(normals) = accessors.read_morph_normals(target)? {
-        print_floats(rt, "target normals", &normals)?;
-    }
-    if let Some(tangents) = accessors.read_morph_tangents(target)? {
-        print_floats(rt, "target tangents", &tangents)?;
-    }
-    Ok(())
+    print_floats(
+        rt,
+        "target positions",
+        accessors.read_morph_positions(target)?,
+    )?;
+    print_floats(rt, "target normals", accessors.read_morph_normals(target)?)?;
+    print_floats(
+        rt,
+        "target tangents",
+        accessors.read_morph_tangents(target)?,
+    )
 }
 
 /// Prints the inverse bind matrices of a skin.
 pub fn print_skin(rt: &HostRuntime, accessors: &Accessors<'_>, skin: &Skin) -> Result<()> {
-    if let Some(matrices) = accessors.read_inverse_bind_matrices(skin)? {
-        print_floats(rt, "inverse bind matrices", &matrices)?;
-    }
-    Ok(())
+    print_floats(
+        rt,
+        "inverse bind matrices",
+        accessors.read_inverse_bind_matrices(skin)?,
+    )
 }
 
 /// Prints the keyframes of each channel of an animation.
@@ -90,25 +75,28 @@ pub fn print_animation(
         ) else {
             continue;
         };
-        print_floats(rt, "times", &accessors.read_inputs(sampler)?)?;
+        print_floats(rt, "times", Some(accessors.read_inputs(sampler)?))?;
         match accessors.read_outputs(sampler, property)? {
-            Outputs::Translations(floats) => print_floats(rt, "translations", &floats)?,
-            Outputs::Rotations(vectors) => print_vectors(rt, "rotations", &vectors)?,
-            Outputs::Scales(floats) => print_floats(rt, "scales", &floats)?,
-            Outputs::MorphWeights(vectors) => print_vectors(rt, "morph weights", &vectors)?,
+            Outputs::Translations(floats) => print_floats(rt, "translations", Some(floats))?,
+            Outputs::Rotations(vectors) => print_vectors(rt, "rotations", Some(vectors))?,
+            Outputs::Scales(floats) => print_floats(rt, "scales", Some(floats))?,
+            Outputs::MorphWeights(vectors) => print_vectors(rt, "morph weights", Some(vectors))?,
         }
     }
     Ok(())
 }
 
-/// Prints elements of N floats, each on a line.
+/// Prints elements of N floats, if there are some, each on a line.
 fn print_floats<const N: usize>(
     rt: &HostRuntime,
     name: &str,
-    floats: &Accessor<'_, f32, N>,
+    floats: Option<Accessor<'_, f32, N>>,
 ) -> Result<()>
     requires { N ≤ 16 }
 {
+    let Some(floats) = floats else {
+        return Ok(());
+    };
     println!(rt; "{name}")?;
     for index in 0..floats.len() {
         print_row(rt, &floats.get(index))?;
@@ -116,14 +104,17 @@ fn print_floats<const N: usize>(
     Ok(())
 }
 
-/// Prints elements of N floats, which may be stored as integers, each on a line.
+/// Prints elements of N floats, which may be stored as integers, if there are some.
 fn print_vectors<const N: usize>(
     rt: &HostRuntime,
     name: &str,
-    vectors: &Vectors<'_, N>,
+    vectors: Option<Vectors<'_, N>>,
 ) -> Result<()>
     requires { N ≤ 16 }
 {
+    let Some(vectors) = vectors else {
+        return Ok(());
+    };
     println!(rt; "{name}")?;
     for index in 0..vectors.len() {
         print_row(rt, &vectors.get(index))?;
@@ -131,8 +122,11 @@ fn print_vectors<const N: usize>(
     Ok(())
 }
 
-/// Prints colors, each on a line.
-fn print_colors(rt: &HostRuntime, colors: &Colors<'_>) -> Result<()> {
+/// Prints colors, if there are some, each on a line.
+fn print_colors(rt: &HostRuntime, colors: Option<Colors<'_>>) -> Result<()> {
+    let Some(colors) = colors else {
+        return Ok(());
+    };
     println!(rt; "colors")?;
     for index in 0..colors.len() {
         print_row(rt, &colors.get(index))?;
@@ -140,8 +134,11 @@ fn print_colors(rt: &HostRuntime, colors: &Colors<'_>) -> Result<()> {
     Ok(())
 }
 
-/// Prints the joints of each vertex on a line.
-fn print_joints(rt: &HostRuntime, joints: &Joints<'_>) -> Result<()> {
+/// Prints the joints of each vertex, if there are some, on a line.
+fn print_joints(rt: &HostRuntime, joints: Option<Joints<'_>>) -> Result<()> {
+    let Some(joints) = joints else {
+        return Ok(());
+    };
     println!(rt; "joints")?;
     for index in 0..joints.len() {
         let [a, b, c, d] = joints.get(index);
@@ -150,8 +147,11 @@ fn print_joints(rt: &HostRuntime, joints: &Joints<'_>) -> Result<()> {
     Ok(())
 }
 
-/// Prints indices, each on a line.
-fn print_indices(rt: &HostRuntime, indices: &PrimitiveIndices<'_>) -> Result<()> {
+/// Prints indices, if there are some, each on a line.
+fn print_indices(rt: &HostRuntime, indices: Option<PrimitiveIndices<'_>>) -> Result<()> {
+    let Some(indices) = indices else {
+        return Ok(());
+    };
     println!(rt; "indices")?;
     for place in 0..indices.len() {
         println!(rt; "{}", indices.get(place))?;

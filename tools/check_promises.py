@@ -30,6 +30,7 @@ RECORD = ROOT / "tools" / "promises.json"
 TRIALS = {
     *("gltf_bench", "gltf_examples", "gltf_vectors", "gltf_vectors_calls", "gltf_vectors_corpus"),
     *("gltf_vectors_data", "gltf_vectors_elements", "gltf_vectors_loading", "gltf_vectors_shared"),
+    "gltf_vectors_support",
 }
 # What contracts see of a value. A line names one of these only if its clause has nothing else.
 VIEWS = {

@@ -1,6 +1,4 @@
-//! What documents are made of, and objects that are made by hand.
+//! Objects that are made by hand, and the textures of materials.
 
-mod choices;
 mod made;
 mod textures;
-mod values;

@@ -1,37 +1,20 @@
 //! Accessors that are read from buffers, with elements that are worked by hand.
 
 ghost use Rattle.std.specs.Prelude.{⊤};
-ghost use Rattle.gltf_buffers.specs.Sources.{buffer_of};
 
+use crate::listed::Listed;
 use gltf_accessors::{
     AccessFault, AccessorData, AccessorDataFault, Colors, DeviatingFault, Format, FormatFault,
-    PartFault, SparseFault, Usage,
+    PartFault, PrimitiveIndices, SparseFault, Usage,
 };
 use gltf_base::accessor::{AccessorType, ComponentType};
 use gltf_base::animation::Property;
-use gltf_buffers::{BufferFault, BufferList, Buffers, Resolve, StoredBuffer};
+use gltf_buffers::{Buffers, Resolve, StoredBuffer};
 use gltf_elements::{ComponentsFault, ElementsFault, IndexType, VertexFault};
 use gltf_layout::{Location, Place, Span, SparsePlace};
+use gltf_vectors_support::holds;
 use std::alloc::{AllocError, Global};
 use std::test::Fail;
-
-/// Buffers in a slice.
-#[derive(Clone, Copy)]
-struct Listed<'a>(&'a [StoredBuffer<'a>]);
-
-impl BufferList for Listed<'_> {
-    ghost use Rattle.std.specs.Prelude.{map};
-
-    ghost listed = { λ s. map buffer_of s.0.now };
-
-    fn buffer_count(&self) -> usize {
-        self.0.len()
-    }
-
-    fn buffer(&self, number: usize) -> StoredBuffer<'_> {
-        self.0[number]
-    }
-}
 
 /// A buffer without a URI, of so many bytes.
 fn chunk(byte_length: u64) -> [StoredBuffer<'static>; 1] {
@@ -78,14 +61,18 @@ fn place(type_: AccessorType, component_type: ComponentType, size: u64, count: u
 }
 
 /// The one buffer without a URI.
-fn buffered(alloc: Global, bytes: &[u8]) -> Result<Buffers<'_>, BufferFault<AllocError>> {
-    let byte_length = bytes.len() as u64;
-    Buffers::of(
-        alloc,
-        &Listed(&chunk(byte_length)),
-        Some(bytes),
-        &mut NoFiles,
-    )
+fn buffered(alloc: Global, bytes: &[u8]) -> Result<Buffers<'_>, Fail> {
+    let list = chunk(bytes.len() as u64);
+    Ok(Buffers::of(alloc, &Listed(&list), Some(bytes), &mut NoFiles)?)
+}
+
+/// Elements that lie in a buffer, as numbers or as fractions.
+fn data<'a>(buffers: &'a Buffers<'a>, place: &'a Place, normalized: bool) -> AccessorData<'a> {
+    AccessorData {
+        place,
+        normalized,
+        buffers,
+    }
 }
 
 /// A format that a usage does not allow.
@@ -98,36 +85,47 @@ fn format_fault(usage: Usage, place: &Place, normalized: bool) -> Option<AccessF
     Some(AccessFault::Format(FormatFault { usage, found }))
 }
 
-/// The position of the only vertex.
-fn only_position(buffers: &Buffers<'_>, place: &Place) -> Option<[f32; 3]> {
-    let data = AccessorData {
-        place,
-        normalized: false,
-        buffers,
-    };
-    match data.positions() {
-        Ok(positions) if positions.len() == 1 => Some(positions.get(0)),
-        _ => None,
+/// Whether the only vertex has this position.
+fn is_position(buffers: &Buffers<'_>, place: &Place, position: [f32; 3]) -> bool {
+    match data(buffers, place, false).positions() {
+        Ok(positions) => positions.len() == 1 && positions.get(0) == position,
+        Err(_) => false,
     }
 }
 
-/// Why elements are no input, tangents or normals.
-fn float_fault(
-    buffers: &Buffers<'_>,
-    place: &Place,
-    usage: Usage,
-    normalized: bool,
-) -> Option<AccessFault> {
-    let data = AccessorData {
-        place,
-        normalized,
-        buffers,
+/// Why elements are no tangents.
+fn tangents_fault(buffers: &Buffers<'_>, place: &Place) -> Option<AccessFault> {
+    data(buffers, place, false).tangents().err()
+}
+
+/// Why normalized elements are no normals.
+fn normals_fault(buffers: &Buffers<'_>, place: &Place) -> Option<AccessFault> {
+    data(buffers, place, true).normals().err()
+}
+
+/// Why elements are no input.
+fn inputs_fault(buffers: &Buffers<'_>, place: &Place) -> Option<AccessFault> {
+    data(buffers, place, false).inputs().err()
+}
+
+/// Whether a vector of three floats is a position, but no tangent, and no normal if it is
+/// normalized.
+fn is_vector_of_floats(buffers: &Buffers<'_>) -> bool {
+    let vector = place(AccessorType::Vec3, ComponentType::F32, 12, 1);
+    is_position(buffers, &vector, [1.0, -2.0, 0.5])
+        && tangents_fault(buffers, &vector) == format_fault(Usage::Tangents, &vector, false)
+        && normals_fault(buffers, &vector) == format_fault(Usage::Normals, &vector, true)
+}
+
+/// Whether the last of four numbers is infinite.
+fn is_last_infinite(buffers: &Buffers<'_>) -> bool {
+    let numbers = place(AccessorType::Scalar, ComponentType::F32, 4, 4);
+    let infinite = ComponentsFault::NotFinite {
+        element: 3,
+        component: 0,
     };
-    match usage {
-        Usage::Tangents => data.tangents().err(),
-        Usage::Normals => data.normals().err(),
-        _ => data.inputs().err(),
-    }
+    let fault = AccessorDataFault::Elements(PartFault::Components(infinite));
+    inputs_fault(buffers, &numbers) == Some(AccessFault::Data(fault))
 }
 
 #[test]
@@ -137,174 +135,131 @@ fn floats_are_read(rt: HostRuntime) -> Result<(), Fail> {
         0, 0, 0x80, 0x3F, 0, 0, 0, 0xC0, 0, 0, 0, 0x3F, 0, 0, 0x80, 0x7F,
     ];
     let buffers = buffered(rt.alloc(), &bytes)?;
-    let vector = place(AccessorType::Vec3, ComponentType::F32, 12, 1);
-    let found = only_position(&buffers, &vector);
-    assert_eq!(rt; found, Some([1.0, -2.0, 0.5]));
-    let found = float_fault(&buffers, &vector, Usage::Tangents, false);
-    assert_eq!(rt; found, format_fault(Usage::Tangents, &vector, false));
-    let found = float_fault(&buffers, &vector, Usage::Normals, true);
-    assert_eq!(rt; found, format_fault(Usage::Normals, &vector, true));
-    let numbers = place(AccessorType::Scalar, ComponentType::F32, 4, 4);
-    let infinite = ComponentsFault::NotFinite {
-        element: 3,
-        component: 0,
-    };
-    let fault = AccessorDataFault::Elements(PartFault::Components(infinite));
-    let found = float_fault(&buffers, &numbers, Usage::Inputs, false);
-    assert_eq!(rt; found, Some(AccessFault::Data(fault)));
-    Ok(())
+    holds(is_vector_of_floats(&buffers), "a vector")?;
+    holds(is_last_infinite(&buffers), "an infinity")
 }
 
-/// The texture coordinates of a vertex.
-fn tex_coord(
-    buffers: &Buffers<'_>,
-    place: &Place,
-    normalized: bool,
-    index: u64,
-) -> Result<Option<[f32; 2]>, AccessFault> {
-    let data = AccessorData {
-        place,
-        normalized,
-        buffers,
-    };
-    match data.tex_coords() {
-        Ok(coords) if index < coords.len() => Ok(Some(coords.get(index))),
-        Ok(_) => Ok(None),
-        Err(fault) => Err(fault),
+/// Whether a vertex has these texture coordinates.
+fn is_tex_coord(buffers: &Buffers<'_>, place: &Place, index: u64, coord: [f32; 2]) -> bool {
+    match data(buffers, place, true).tex_coords() {
+        Ok(coords) => index < coords.len() && coords.get(index) == coord,
+        Err(_) => false,
     }
 }
 
-/// The color of the first vertex, if alpha is not stored.
-fn opaque_color(buffers: &Buffers<'_>, place: &Place) -> Option<[f32; 4]> {
-    let data = AccessorData {
-        place,
-        normalized: true,
-        buffers,
-    };
-    match data.colors() {
-        Ok(colors) => first_opaque(&colors),
-        Err(_) => None,
-    }
+/// Why elements are no texture coordinates.
+fn tex_coords_fault(buffers: &Buffers<'_>, place: &Place) -> Option<AccessFault> {
+    data(buffers, place, false).tex_coords().err()
 }
 
-/// The first color, if alpha is not stored.
-fn first_opaque(colors: &Colors<'_>) -> Option<[f32; 4]> {
+/// Whether two pairs of bytes are texture coordinates if they are normalized.
+fn are_tex_coords(buffers: &Buffers<'_>) -> bool {
+    let pairs = place(AccessorType::Vec2, ComponentType::U8, 2, 2);
+    is_tex_coord(buffers, &pairs, 0, [0.0, 0.2])
+        && is_tex_coord(buffers, &pairs, 1, [1.0, 0.4])
+        && tex_coords_fault(buffers, &pairs) == format_fault(Usage::TexCoords, &pairs, false)
+}
+
+/// Whether the first color is this one, and alpha is not stored.
+fn is_first_opaque(colors: &Colors<'_>, color: [f32; 4]) -> bool {
     match colors {
-        Colors::Rgb(_) if colors.len() > 0 => Some(colors.get(0)),
-        _ => None,
+        Colors::Rgb(_) => colors.len() > 0 && colors.get(0) == color,
+        Colors::Rgba(_) => false,
+    }
+}
+
+/// Whether three bytes are a color.
+fn is_color(buffers: &Buffers<'_>) -> bool {
+    let triple = place(AccessorType::Vec3, ComponentType::U8, 3, 1);
+    match data(buffers, &triple, true).colors() {
+        Ok(colors) => is_first_opaque(&colors, [0.0, 0.2, 1.0, 1.0]),
+        Err(_) => false,
     }
 }
 
 /// Why normalized elements are no values of a property.
-fn output_fault(buffers: &Buffers<'_>, place: &Place, property: Property) -> Option<AccessFault> {
-    let data = AccessorData {
-        place,
-        normalized: true,
-        buffers,
-    };
-    data.outputs(property).err()
+fn outputs_fault(buffers: &Buffers<'_>, place: &Place, property: Property) -> Option<AccessFault> {
+    data(buffers, place, true).outputs(property).err()
+}
+
+/// Why elements are no joints.
+fn joints_fault(buffers: &Buffers<'_>, place: &Place, normalized: bool) -> Option<AccessFault> {
+    data(buffers, place, normalized).joints().err()
+}
+
+/// Whether four normalized bytes are a rotation, but no scale and no joints.
+fn is_rotation_alone(buffers: &Buffers<'_>) -> bool {
+    let four = place(AccessorType::Vec4, ComponentType::U8, 4, 1);
+    outputs_fault(buffers, &four, Property::Rotation).is_none()
+        && outputs_fault(buffers, &four, Property::Scale)
+            == format_fault(Usage::Scales, &four, true)
+        && joints_fault(buffers, &four, true) == format_fault(Usage::Joints, &four, true)
 }
 
 #[test]
 fn normalized_integers_are_converted(rt: HostRuntime) -> Result<(), Fail> {
     let bytes = [0u8, 51, 255, 102];
     let buffers = buffered(rt.alloc(), &bytes)?;
-    let pairs = place(AccessorType::Vec2, ComponentType::U8, 2, 2);
-    let found = tex_coord(&buffers, &pairs, true, 0);
-    assert_eq!(rt; found, Ok(Some([0.0, 0.2])));
-    let found = tex_coord(&buffers, &pairs, true, 1);
-    assert_eq!(rt; found, Ok(Some([1.0, 0.4])));
-    let found = tex_coord(&buffers, &pairs, false, 0).err();
-    assert_eq!(rt; found, format_fault(Usage::TexCoords, &pairs, false));
-    let triple = place(AccessorType::Vec3, ComponentType::U8, 3, 1);
-    let found = opaque_color(&buffers, &triple);
-    assert_eq!(rt; found, Some([0.0, 0.2, 1.0, 1.0]));
-    let quaternion = place(AccessorType::Vec4, ComponentType::U8, 4, 1);
-    let found = output_fault(&buffers, &quaternion, Property::Rotation);
-    assert_eq!(rt; found, None);
-    let found = output_fault(&buffers, &quaternion, Property::Scale);
-    assert_eq!(rt; found, format_fault(Usage::Scales, &quaternion, true));
-    let found = first_joints(&buffers, &quaternion, true).err();
-    assert_eq!(rt; found, format_fault(Usage::Joints, &quaternion, true));
-    Ok(())
+    holds(are_tex_coords(&buffers), "texture coordinates")?;
+    holds(is_color(&buffers), "a color")?;
+    holds(is_rotation_alone(&buffers), "a rotation")
 }
 
-/// The joints of the first vertex.
-fn first_joints(
-    buffers: &Buffers<'_>,
-    place: &Place,
-    normalized: bool,
-) -> Result<Option<[u16; 4]>, AccessFault> {
-    let data = AccessorData {
-        place,
-        normalized,
-        buffers,
-    };
-    match data.joints() {
-        Ok(joints) if joints.len() > 0 => Ok(Some(joints.get(0))),
-        Ok(_) => Ok(None),
-        Err(fault) => Err(fault),
+/// Whether four bytes are the joints of the first vertex.
+fn are_joints(buffers: &Buffers<'_>) -> bool {
+    let four = place(AccessorType::Vec4, ComponentType::U8, 4, 1);
+    match data(buffers, &four, false).joints() {
+        Ok(joints) => joints.len() > 0 && joints.get(0) == [1, 2, 3, 255],
+        Err(_) => false,
     }
 }
 
-/// The type of indices.
-fn type_of_indices(
-    buffers: &Buffers<'_>,
-    place: &Place,
-    normalized: bool,
-) -> Result<IndexType, AccessFault> {
-    let data = AccessorData {
-        place,
-        normalized,
-        buffers,
+/// Four bytes, each of which is an element.
+fn four_numbers() -> Place {
+    place(AccessorType::Scalar, ComponentType::U8, 1, 4)
+}
+
+/// Whether indices are of 8 bits, and name four vertices if the last one, 255, may restart a
+/// primitive.
+fn are_of_four_vertices(indices: &PrimitiveIndices<'_>) -> bool {
+    let fault = VertexFault {
+        place: 3,
+        index: 255,
     };
-    match data.indices() {
-        Ok(indices) => Ok(indices.index_type()),
-        Err(fault) => Err(fault),
+    indices.index_type() == IndexType::U8
+        && indices.check_vertices(4, true).is_ok()
+        && indices.check_vertices(4, false) == Err(fault)
+}
+
+/// Whether four bytes are indices.
+fn are_indices(buffers: &Buffers<'_>) -> bool {
+    match data(buffers, &four_numbers(), false).indices() {
+        Ok(indices) => are_of_four_vertices(&indices),
+        Err(_) => false,
     }
 }
 
-/// Whether indices are those of four vertices.
-fn four_vertices(
-    buffers: &Buffers<'_>,
-    place: &Place,
-    restarts: bool,
-) -> Result<Option<VertexFault>, AccessFault> {
-    let data = AccessorData {
-        place,
-        normalized: false,
-        buffers,
-    };
-    match data.indices() {
-        Ok(indices) => Ok(indices.check_vertices(4, restarts).err()),
-        Err(fault) => Err(fault),
-    }
+/// Why elements are no indices.
+fn indices_fault(buffers: &Buffers<'_>, place: &Place, normalized: bool) -> Option<AccessFault> {
+    data(buffers, place, normalized).indices().err()
+}
+
+/// Whether normalized bytes are no indices.
+fn are_indices_no_fractions(buffers: &Buffers<'_>) -> bool {
+    let numbers = four_numbers();
+    indices_fault(buffers, &numbers, true) == format_fault(Usage::Indices, &numbers, true)
 }
 
 #[test]
 fn joints_and_indices_are_widened(rt: HostRuntime) -> Result<(), Fail> {
     let bytes = [1u8, 2, 3, 255];
     let buffers = buffered(rt.alloc(), &bytes)?;
-    let four = place(AccessorType::Vec4, ComponentType::U8, 4, 1);
-    let found = first_joints(&buffers, &four, false);
-    assert_eq!(rt; found, Ok(Some([1, 2, 3, 255])));
-    let numbers = place(AccessorType::Scalar, ComponentType::U8, 1, 4);
-    let found = type_of_indices(&buffers, &numbers, false);
-    assert_eq!(rt; found, Ok(IndexType::U8));
-    let found = four_vertices(&buffers, &numbers, true);
-    assert_eq!(rt; found, Ok(None));
-    let fault = VertexFault {
-        place: 3,
-        index: 255,
-    };
-    let found = four_vertices(&buffers, &numbers, false);
-    assert_eq!(rt; found, Ok(Some(fault)));
-    let found = type_of_indices(&buffers, &numbers, true).err();
-    assert_eq!(rt; found, format_fault(Usage::Indices, &numbers, true));
-    Ok(())
+    holds(are_joints(&buffers), "joints")?;
+    holds(are_indices(&buffers), "indices")?;
+    holds(are_indices_no_fractions(&buffers), "normalized indices")
 }
 
-/// Four numbers of which one deviates: its index is byte 0, the number is in bytes 2 and 3.
+/// Numbers of which one deviates: its index is byte 0, the number is in bytes 2 and 3.
 fn sparse(count: u64, buffer: u32) -> Place {
     let deviating = SparsePlace {
         count: 1,
@@ -327,110 +282,141 @@ fn sparse(count: u64, buffer: u32) -> Place {
     }
 }
 
-/// An index of a primitive.
-fn vertex(buffers: &Buffers<'_>, place: &Place, index: u64) -> Result<Option<u32>, AccessFault> {
-    let data = AccessorData {
-        place,
-        normalized: false,
-        buffers,
-    };
-    match data.indices() {
-        Ok(indices) if index < indices.len() => Ok(Some(indices.get(index))),
-        Ok(_) => Ok(None),
-        Err(fault) => Err(fault),
+/// Whether the indices of a primitive are 0, 0, 0x1234 and 0.
+fn is_third_deviating(indices: &PrimitiveIndices<'_>) -> bool {
+    indices.len() == 4
+        && indices.get(0) == 0
+        && indices.get(1) == 0
+        && indices.get(2) == 0x1234
+        && indices.get(3) == 0
+}
+
+/// Whether one of four zeros deviates.
+fn are_zeros_replaced(buffers: &Buffers<'_>) -> bool {
+    match data(buffers, &sparse(4, 0), false).indices() {
+        Ok(indices) => is_third_deviating(&indices),
+        Err(_) => false,
     }
+}
+
+/// Whether this is wrong with elements as indices.
+fn is_fault(buffers: &Buffers<'_>, place: &Place, fault: AccessorDataFault) -> bool {
+    indices_fault(buffers, place, false) == Some(AccessFault::Data(fault))
+}
+
+/// Whether the indices of deviating elements may be in no other buffer.
+fn are_sparse_buffers_checked(buffers: &Buffers<'_>) -> bool {
+    let fault = DeviatingFault::Indices(PartFault::NoSuchBuffer { buffer: 1 });
+    is_fault(buffers, &sparse(4, 1), AccessorDataFault::Deviating(fault))
+}
+
+/// Whether no element behind the end may deviate.
+fn are_sparse_indices_checked(buffers: &Buffers<'_>) -> bool {
+    let fault = DeviatingFault::Sparse(SparseFault::BehindEnd { place: 0, index: 2 });
+    is_fault(buffers, &sparse(2, 0), AccessorDataFault::Deviating(fault))
 }
 
 #[test]
 fn zeros_deviate(rt: HostRuntime) -> Result<(), Fail> {
     let bytes = [2u8, 0, 0x34, 0x12];
     let buffers = buffered(rt.alloc(), &bytes)?;
-    let zeros = sparse(4, 0);
-    for (index, expected) in [(0, 0), (1, 0), (2, 0x1234), (3, 0)] {
-        let found = vertex(&buffers, &zeros, index);
-        assert_eq!(rt; found, Ok(Some(expected)));
-    }
-    let fault = DeviatingFault::Indices(PartFault::NoSuchBuffer { buffer: 1 });
-    let fault = AccessFault::Data(AccessorDataFault::Deviating(fault));
-    let found = vertex(&buffers, &sparse(4, 1), 0);
-    assert_eq!(rt; found, Err(fault));
-    let fault = DeviatingFault::Sparse(SparseFault::BehindEnd { place: 0, index: 2 });
-    let fault = AccessFault::Data(AccessorDataFault::Deviating(fault));
-    let found = vertex(&buffers, &sparse(2, 0), 0);
-    assert_eq!(rt; found, Err(fault));
-    Ok(())
+    holds(are_zeros_replaced(&buffers), "zeros")?;
+    holds(are_sparse_buffers_checked(&buffers), "no buffer of indices")?;
+    holds(
+        are_sparse_indices_checked(&buffers),
+        "an index behind the end",
+    )
+}
+
+/// Whether two numbers of 32 bits end behind four bytes.
+fn are_two_behind_end(buffers: &Buffers<'_>) -> bool {
+    let two = place(AccessorType::Scalar, ComponentType::U32, 4, 2);
+    let fault = PartFault::Elements(ElementsFault::BehindBuffer);
+    is_fault(buffers, &two, AccessorDataFault::Elements(fault))
+}
+
+/// Whether one number is not three.
+fn are_counts_compared(buffers: &Buffers<'_>) -> bool {
+    let fewer = Place {
+        count: 3,
+        ..place(AccessorType::Scalar, ComponentType::U32, 4, 1)
+    };
+    is_fault(buffers, &fewer, AccessorDataFault::Count)
 }
 
 #[test]
 fn places_of_another_document_are_faults(rt: HostRuntime) -> Result<(), Fail> {
     let bytes = [0u8; 4];
     let buffers = buffered(rt.alloc(), &bytes)?;
-    let behind = place(AccessorType::Scalar, ComponentType::U32, 4, 2);
-    let fault = AccessorDataFault::Elements(PartFault::Elements(ElementsFault::BehindBuffer));
-    let found = vertex(&buffers, &behind, 0);
-    assert_eq!(rt; found, Err(AccessFault::Data(fault)));
-    let fewer = Place {
-        count: 3,
-        ..place(AccessorType::Scalar, ComponentType::U32, 4, 1)
-    };
-    let found = vertex(&buffers, &fewer, 0);
-    assert_eq!(rt; found, Err(AccessFault::Data(AccessorDataFault::Count)));
-    Ok(())
+    holds(are_two_behind_end(&buffers), "elements behind the end")?;
+    holds(are_counts_compared(&buffers), "fewer elements")
+}
+
+const TYPES: [AccessorType; 7] = [
+    AccessorType::Scalar,
+    AccessorType::Vec2,
+    AccessorType::Vec3,
+    AccessorType::Vec4,
+    AccessorType::Mat2,
+    AccessorType::Mat3,
+    AccessorType::Mat4,
+];
+
+const COMPONENT_TYPES: [ComponentType; 6] = [
+    ComponentType::I8,
+    ComponentType::U8,
+    ComponentType::I16,
+    ComponentType::U16,
+    ComponentType::U32,
+    ComponentType::F32,
+];
+
+/// How many of the two formats of a type and a component type a usage allows.
+fn allowed_of(usage: Usage, type_: AccessorType, component_type: ComponentType) -> u32 {
+    let number = usage.allows(Format::number(type_, component_type));
+    let fraction = usage.allows(Format::fraction(type_, component_type));
+    u32::from(number) + u32::from(fraction)
+}
+
+/// How many of the 84 formats a usage allows.
+fn allowed(usage: Usage) -> u32 {
+    let mut allowed: u32 = 0;
+    for type_ in TYPES {
+        for component_type in COMPONENT_TYPES {
+            allowed = allowed.saturating_add(allowed_of(usage, type_, component_type));
+        }
+    }
+    allowed
+}
+
+/// Whether vertices may have so many formats.
+fn are_vertices_allowed() -> bool {
+    allowed(Usage::Positions) == 1
+        && allowed(Usage::Normals) == 1
+        && allowed(Usage::Tangents) == 1
+        && allowed(Usage::TexCoords) == 3
+        && allowed(Usage::Colors) == 6
+        && allowed(Usage::Joints) == 2
+        && allowed(Usage::Weights) == 3
+        && allowed(Usage::Displacements) == 1
+}
+
+/// Whether animations may have so many formats.
+fn are_animations_allowed() -> bool {
+    allowed(Usage::Inputs) == 1
+        && allowed(Usage::Translations) == 1
+        && allowed(Usage::Rotations) == 5
+        && allowed(Usage::Scales) == 1
+        && allowed(Usage::MorphWeights) == 5
 }
 
 #[test]
-fn formats_are_those_of_the_specification(rt: HostRuntime) {
-    let types = [
-        AccessorType::Scalar,
-        AccessorType::Vec2,
-        AccessorType::Vec3,
-        AccessorType::Vec4,
-        AccessorType::Mat2,
-        AccessorType::Mat3,
-        AccessorType::Mat4,
-    ];
-    let component_types = [
-        ComponentType::I8,
-        ComponentType::U8,
-        ComponentType::I16,
-        ComponentType::U16,
-        ComponentType::U32,
-        ComponentType::F32,
-    ];
-    // How many of the 84 formats each usage allows.
-    let usages = [
-        (Usage::Positions, 1),
-        (Usage::Normals, 1),
-        (Usage::Tangents, 1),
-        (Usage::TexCoords, 3),
-        (Usage::Colors, 6),
-        (Usage::Joints, 2),
-        (Usage::Weights, 3),
-        (Usage::Displacements, 1),
-        (Usage::Indices, 3),
-        (Usage::InverseBindMatrices, 1),
-        (Usage::Inputs, 1),
-        (Usage::Translations, 1),
-        (Usage::Rotations, 5),
-        (Usage::Scales, 1),
-        (Usage::MorphWeights, 5),
-    ];
-    for (usage, expected) in usages {
-        let mut allowed: u32 = 0;
-        for type_ in types {
-            for component_type in component_types {
-                for normalized in [false, true] {
-                    let format = Format {
-                        type_,
-                        component_type,
-                        normalized,
-                    };
-                    if usage.allows(format) {
-                        allowed = allowed.saturating_add(1);
-                    }
-                }
-            }
-        }
-        assert_eq!(rt; allowed, expected, "{usage}");
-    }
+fn formats_are_those_of_the_specification() -> Result<(), Fail> {
+    holds(are_vertices_allowed(), "vertices")?;
+    holds(allowed(Usage::Indices) == 3, "indices")?;
+    holds(
+        allowed(Usage::InverseBindMatrices) == 1,
+        "inverse bind matrices",
+    )?;
+    holds(are_animations_allowed(), "animations")
 }

@@ -1,9 +1,12 @@
-//! The tests of containers, layouts, elements, buffers and accessors: files, places, numbers and
-//! faults that are worked by hand. The tests are here because a crate with tests is proved twice.
+//! The tests of paths, choices, containers, layouts, elements, buffers and accessors: texts, files,
+//! places, numbers and faults that are worked by hand. The tests are here because a crate with tests
+//! is proved twice.
 #![tactic(auto)]
 
 #[cfg(test)]
 mod accessors;
+#[cfg(test)]
+mod base;
 #[cfg(test)]
 mod buffers;
 #[cfg(test)]
@@ -12,3 +15,5 @@ mod elements;
 mod glb;
 #[cfg(test)]
 mod layout;
+#[cfg(test)]
+mod listed;

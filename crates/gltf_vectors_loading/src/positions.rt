@@ -1,6 +1,7 @@
 //! Lines and columns of values in JSON, worked by hand.
 
 use gltf_positions::{Position, positions_of};
+use gltf_vectors_support::holds;
 use std::alloc::{AllocError, Global};
 use std::test::Fail;
 
@@ -63,13 +64,12 @@ fn are_found(alloc: Global) -> Result<bool, AllocError> {
 
 #[test]
 fn values_are_where_pointers_lead(rt: HostRuntime) -> Result<(), Fail> {
-    assert!(rt; are_found(rt.alloc())?);
-    Ok(())
+    holds(are_found(rt.alloc())?, "each pointer leads to its place")
 }
 
 #[test]
 fn what_is_no_json_has_no_places(rt: HostRuntime) -> Result<(), Fail> {
     let pointers = pointers_of(rt.alloc(), POINTERS)?;
-    assert!(rt; positions_of(rt.alloc(), "{\"a\": [1,]}", &pointers)?.is_none());
-    Ok(())
+    let positions = positions_of(rt.alloc(), "{\"a\": [1,]}", &pointers)?;
+    holds(positions.is_none(), "what is no JSON has no places")
 }

@@ -8,12 +8,14 @@ use gltf_load::{
     AccessFault, Accessors, Buffers, Document, Format, FormatFault, Layout, ReadFault, Reader,
     Resolve, Usage, element_size_of, local_matrix,
 };
+use gltf_parts::accessor::Accessor;
 use gltf_root::root::Root;
 use gltf_scene::animation::Sampler;
 use gltf_scene::mesh::{MorphTarget, Primitive};
+use gltf_scene::scene::Node;
 use gltf_scene::skin::Skin;
+use gltf_vectors_support::holds;
 use std::alloc::{AllocError, Global};
-use std::process::Abort;
 use std::test::Fail;
 
 /// No files.
@@ -53,6 +55,47 @@ const BIN: [u8; 17] = [
     0, 0, 0x80, 0x3F, 0, 0, 0, 0xC0, 0, 0, 0, 0x3F, 0, 0, 0, 0x40, 0,
 ];
 
+/// A document that is read, where its elements lie, and the bytes in which they do.
+#[derive(Drop)]
+struct Loaded {
+    layout: Layout,
+    buffers: Buffers<'static>,
+    root: Root,
+}
+
+/// The document that has only the point.
+fn loaded_point(alloc: Global) -> Result<Loaded, Fail> {
+    let root = Root::from_str(alloc, POINT)?;
+    let document = Document::of(&root);
+    let layout = Layout::of(alloc, &document)?;
+    let buffers = Buffers::of(alloc, &document, Some(&BIN), &mut NoFiles)?;
+    Ok(Loaded {
+        layout,
+        buffers,
+        root,
+    })
+}
+
+/// The accessors of a document.
+fn accessors_of(loaded: &Loaded) -> Accessors<'_> {
+    Accessors::of(&Document::of(&loaded.root), &loaded.layout, &loaded.buffers)
+}
+
+/// The first primitive of a document.
+fn first_primitive(root: &Root) -> Result<&Primitive, &'static str> {
+    match root.meshes.first() {
+        Some(mesh) => mesh.primitives.first().ok_or("no primitive"),
+        None => Err("no mesh"),
+    }
+}
+
+/// The reader of the first primitive of a document.
+fn first_reader(loaded: &Loaded) -> Result<Reader<'_>, &'static str> {
+    let document = Document::of(&loaded.root);
+    let primitive = first_primitive(&loaded.root)?;
+    Ok(Reader::of(&document, &loaded.layout, &loaded.buffers, primitive))
+}
+
 /// The position of the only vertex.
 fn only_position(reader: &Reader<'_>) -> Option<[f32; 3]> {
     match reader.read_positions() {
@@ -69,6 +112,29 @@ fn has_vertices(reader: &Reader<'_>, vertices: u64) -> bool {
     }
 }
 
+/// Whether the vertex is at 1, -2, 0.5, and the index is that of it.
+fn is_vertex_read(reader: &Reader<'_>) -> bool {
+    only_position(reader) == Some([1.0, -2.0, 0.5]) && has_vertices(reader, 1)
+}
+
+/// Why accessor 2 has no normals.
+const NO_NORMALS: ReadFault = ReadFault::Accessor {
+    accessor: 2,
+    fault: AccessFault::Format(FormatFault {
+        usage: Usage::Normals,
+        found: Format {
+            type_: AccessorType::Vec3,
+            component_type: ComponentType::I8,
+            normalized: false,
+        },
+    }),
+};
+
+/// Whether accessor 2 is found to have no normals.
+fn are_integers_refused(reader: &Reader<'_>) -> bool {
+    reader.read_normals().err() == Some(NO_NORMALS)
+}
+
 /// Whether there are texture coordinates.
 fn has_tex_coords(reader: &Reader<'_>, set: u32) -> Result<bool, ReadFault> {
     match reader.read_tex_coords(set) {
@@ -77,55 +143,60 @@ fn has_tex_coords(reader: &Reader<'_>, set: u32) -> Result<bool, ReadFault> {
     }
 }
 
+/// Whether set 1 of texture coordinates is found to name no accessor, and there is no set 0.
+fn are_sets_told_apart(reader: &Reader<'_>) -> bool {
+    has_tex_coords(reader, 1) == Err(ReadFault::NoSuchAccessor { accessor: 9 })
+        && has_tex_coords(reader, 0) == Ok(false)
+}
+
 /// What a morph target adds to the only vertex.
-fn only_displacement(reader: &Reader<'_>, target: &MorphTarget) -> Option<[f32; 3]> {
-    match reader.accessors().read_morph_positions(target) {
+fn only_displacement(accessors: &Accessors<'_>, target: &MorphTarget) -> Option<[f32; 3]> {
+    match accessors.read_morph_positions(target) {
         Ok(Some(added)) if added.len() == 1 => Some(added.get(0)),
         _ => None,
     }
 }
 
 /// Whether a morph target changes normals.
-fn has_morph_normals(reader: &Reader<'_>, target: &MorphTarget) -> Result<bool, ReadFault> {
-    match reader.accessors().read_morph_normals(target) {
+fn has_morph_normals(accessors: &Accessors<'_>, target: &MorphTarget) -> Result<bool, ReadFault> {
+    match accessors.read_morph_normals(target) {
         Ok(added) => Ok(added.is_some()),
         Err(fault) => Err(fault),
     }
 }
 
-/// Checks what is read of the point.
-fn check_point(rt: &impl Abort, reader: &Reader<'_>, primitive: &Primitive) {
-    assert_eq!(rt; only_position(reader), Some([1.0, -2.0, 0.5]));
-    assert!(rt; has_vertices(reader, 1));
-    let found = Format {
-        type_: AccessorType::Vec3,
-        component_type: ComponentType::I8,
-        normalized: false,
-    };
-    let usage = Usage::Normals;
-    let fault = AccessFault::Format(FormatFault { usage, found });
-    let fault = ReadFault::Accessor { accessor: 2, fault };
-    assert_eq!(rt; reader.read_normals().err(), Some(fault));
-    let missing = ReadFault::NoSuchAccessor { accessor: 9 };
-    assert_eq!(rt; has_tex_coords(reader, 1), Err(missing));
-    assert_eq!(rt; has_tex_coords(reader, 0), Ok(false));
-    if let Some(targets) = &primitive.targets {
-        for target in targets {
-            let added = only_displacement(reader, target);
-            assert_eq!(rt; added, Some([0.0, 0.0, 0.0]));
-            assert_eq!(rt; has_morph_normals(reader, target), Ok(false));
+/// Whether a morph target adds zeros to the position, and nothing to normals.
+fn are_zeros_added(accessors: &Accessors<'_>, target: &MorphTarget) -> bool {
+    only_displacement(accessors, target) == Some([0.0, 0.0, 0.0])
+        && has_morph_normals(accessors, target) == Ok(false)
+}
+
+/// Whether that is so for the first morph target of a document.
+fn is_target_read(loaded: &Loaded, reader: &Reader<'_>) -> Result<bool, &'static str> {
+    match &first_primitive(&loaded.root)?.targets {
+        Some(targets) => {
+            let target = targets.first().ok_or("no morph target")?;
+            Ok(are_zeros_added(&reader.accessors(), target))
         }
+        None => Err("no morph targets"),
     }
 }
 
-/// Checks what is read of each primitive.
-fn check_points<'a>(rt: &impl Abort, root: &'a Root, layout: &'a Layout, buffers: &'a Buffers<'a>) {
-    let document = Document::of(root);
-    for mesh in &root.meshes {
-        for primitive in &mesh.primitives {
-            let reader = Reader::of(&document, layout, buffers, primitive);
-            check_point(rt, &reader, primitive);
-        }
+#[test]
+fn what_a_primitive_names_is_read(rt: HostRuntime) -> Result<(), Fail> {
+    let point = loaded_point(rt.alloc())?;
+    let reader = first_reader(&point)?;
+    holds(is_vertex_read(&reader), "the position and the index")?;
+    holds(are_integers_refused(&reader), "integers are no normals")?;
+    holds(are_sets_told_apart(&reader), "texture coordinates")?;
+    holds(is_target_read(&point, &reader)?, "the morph target")
+}
+
+/// The first sampler of a document.
+fn first_sampler(root: &Root) -> Result<&Sampler, &'static str> {
+    match root.animations.first() {
+        Some(animation) => animation.samplers.first().ok_or("no sampler"),
+        None => Err("no animation"),
     }
 }
 
@@ -142,6 +213,19 @@ fn has_outputs(accessors: &Accessors<'_>, sampler: &Sampler, property: Property)
     accessors.read_outputs(sampler, property).is_ok()
 }
 
+/// Whether the keyframe of a sampler is at 2, and its output is a scale and no rotation.
+fn is_scale_read(accessors: &Accessors<'_>, sampler: &Sampler) -> bool {
+    only_input(accessors, sampler) == Some([2.0])
+        && has_outputs(accessors, sampler, Property::Scale)
+        && !has_outputs(accessors, sampler, Property::Rotation)
+}
+
+/// Whether that is so for the first sampler of a document.
+fn is_sampler_read(loaded: &Loaded) -> Result<bool, &'static str> {
+    let sampler = first_sampler(&loaded.root)?;
+    Ok(is_scale_read(&accessors_of(loaded), sampler))
+}
+
 /// Whether a skin has matrices.
 fn has_matrices(accessors: &Accessors<'_>, skin: &Skin) -> Result<bool, ReadFault> {
     match accessors.read_inverse_bind_matrices(skin) {
@@ -150,48 +234,43 @@ fn has_matrices(accessors: &Accessors<'_>, skin: &Skin) -> Result<bool, ReadFaul
     }
 }
 
-/// Checks the skin and the animation of the point.
-fn check_motion<'a>(rt: &impl Abort, root: &'a Root, layout: &'a Layout, buffers: &'a Buffers<'a>) {
-    let accessors = Accessors::of(&Document::of(root), layout, buffers);
-    for skin in &root.skins {
-        assert_eq!(rt; has_matrices(&accessors, skin), Ok(false));
-    }
-    for animation in &root.animations {
-        for sampler in &animation.samplers {
-            assert_eq!(rt; only_input(&accessors, sampler), Some([2.0]));
-            assert!(rt; has_outputs(&accessors, sampler, Property::Scale));
-            assert!(rt; !has_outputs(&accessors, sampler, Property::Rotation));
-        }
-    }
-    assert!(rt; accessors.data(5).is_none());
-}
-
-/// Checks what is read of a document that has only the point.
-fn check_document(rt: &impl Abort, root: &Root, layout: &Layout, buffers: &Buffers<'_>) {
-    check_points(rt, root, layout, buffers);
-    check_motion(rt, root, layout, buffers);
+/// Whether the first skin of a document is found to have no matrices.
+fn is_skin_read(loaded: &Loaded) -> Result<bool, &'static str> {
+    let skin = loaded.root.skins.first().ok_or("no skin")?;
+    Ok(has_matrices(&accessors_of(loaded), skin) == Ok(false))
 }
 
 #[test]
-fn what_a_document_names_is_read(rt: HostRuntime) -> Result<(), Fail> {
-    let alloc = rt.alloc();
-    let root = Root::from_str(alloc, POINT)?;
-    let document = Document::of(&root);
-    let layout = Layout::of(alloc, &document)?;
-    let buffers = Buffers::of(alloc, &document, Some(&BIN), &mut NoFiles)?;
-    check_document(&rt, &root, &layout, &buffers);
-    Ok(())
+fn what_samplers_and_skins_name_is_read(rt: HostRuntime) -> Result<(), Fail> {
+    let point = loaded_point(rt.alloc())?;
+    holds(is_sampler_read(&point)?, "the sampler")?;
+    holds(is_skin_read(&point)?, "the skin")?;
+    holds(
+        accessors_of(&point).data(5).is_none(),
+        "there is no accessor 5",
+    )
+}
+
+/// Whether the elements of accessors have these sizes.
+fn have_sizes(accessors: &[Accessor], sizes: &[u64]) -> bool {
+    if accessors.len() != sizes.len() {
+        return false;
+    }
+    for (accessor, size) in accessors.iter().zip(sizes) {
+        if element_size_of(accessor) != Some(*size) {
+            return false;
+        }
+    }
+    true
 }
 
 #[test]
 fn elements_have_their_sizes(rt: HostRuntime) -> Result<(), Fail> {
     let root = Root::from_str(rt.alloc(), POINT)?;
-    let sizes = [Some(12), Some(1), Some(3), Some(12), Some(4)];
-    for number in 0..root.accessors.len() {
-        let size = element_size_of(&root.accessors[number]);
-        assert_eq!(rt; Some(&size), sizes.get(number));
-    }
-    Ok(())
+    holds(
+        have_sizes(&root.accessors, &[12, 1, 3, 12, 4]),
+        "elements have their sizes",
+    )
 }
 
 /// A node that is moved and scaled, one that is turned by a half about z, one with a matrix, and
@@ -202,26 +281,40 @@ const NODES: &str = r#"{"asset":{"version":"2.0"},"nodes":[
 {"matrix":[1,2,3,4,5,6,7,8,9,10,11,12,13,14,15,16]},
 {}]}"#;
 
+/// The matrices of these.
+const MATRICES: &[[f32; 16]] = &[
+    [
+        2.0, 0.0, 0.0, 0.0, 0.0, 3.0, 0.0, 0.0, 0.0, 0.0, 4.0, 0.0, 1.0, 2.0, 3.0, 1.0,
+    ],
+    [
+        -2.0, 0.0, 0.0, 0.0, 0.0, -2.0, 0.0, 0.0, 0.0, 0.0, 2.0, 0.0, 1.0, 0.0, 0.0, 1.0,
+    ],
+    [
+        1.0, 2.0, 3.0, 4.0, 5.0, 6.0, 7.0, 8.0, 9.0, 10.0, 11.0, 12.0, 13.0, 14.0, 15.0, 16.0,
+    ],
+    [
+        1.0, 0.0, 0.0, 0.0, 0.0, 1.0, 0.0, 0.0, 0.0, 0.0, 1.0, 0.0, 0.0, 0.0, 0.0, 1.0,
+    ],
+];
+
+/// Whether nodes have these matrices.
+fn have_matrices(nodes: &[Node], matrices: &[[f32; 16]]) -> bool {
+    if nodes.len() != matrices.len() {
+        return false;
+    }
+    for (node, matrix) in nodes.iter().zip(matrices) {
+        if local_matrix(node) != *matrix {
+            return false;
+        }
+    }
+    true
+}
+
 #[test]
 fn matrices_of_nodes_are_local(rt: HostRuntime) -> Result<(), Fail> {
     let root = Root::from_str(rt.alloc(), NODES)?;
-    let expected: [[f32; 16]; 4] = [
-        [
-            2.0, 0.0, 0.0, 0.0, 0.0, 3.0, 0.0, 0.0, 0.0, 0.0, 4.0, 0.0, 1.0, 2.0, 3.0, 1.0,
-        ],
-        [
-            -2.0, 0.0, 0.0, 0.0, 0.0, -2.0, 0.0, 0.0, 0.0, 0.0, 2.0, 0.0, 1.0, 0.0, 0.0, 1.0,
-        ],
-        [
-            1.0, 2.0, 3.0, 4.0, 5.0, 6.0, 7.0, 8.0, 9.0, 10.0, 11.0, 12.0, 13.0, 14.0, 15.0, 16.0,
-        ],
-        [
-            1.0, 0.0, 0.0, 0.0, 0.0, 1.0, 0.0, 0.0, 0.0, 0.0, 1.0, 0.0, 0.0, 0.0, 0.0, 1.0,
-        ],
-    ];
-    for number in 0..root.nodes.len() {
-        let matrix = local_matrix(&root.nodes[number]);
-        assert_eq!(rt; Some(&matrix), expected.get(number));
-    }
-    Ok(())
+    holds(
+        have_matrices(&root.nodes, MATRICES),
+        "matrices of nodes are local",
+    )
 }

@@ -1,61 +1,90 @@
 //! Subtrees that are worked by hand.
 
-use crate::child_lists::ChildLists;
+use crate::child_lists::{ChildLists, line, lists_of};
 use gltf_hierarchy::HierarchyFault;
 use gltf_subtrees::Subtrees;
-use std::alloc::AllocError;
+use gltf_vectors_support::holds;
+use std::alloc::{AllocError, Global};
 use std::test::Fail;
 
-// Nodes 1 and 2 are roots. Below node 1 are 0 and 3, and below node 3 are 4 and 5.
-#[test]
-fn nodes_are_below_those_above(rt: HostRuntime) -> Result<(), Fail> {
-    let alloc = rt.alloc();
-    let nodes = [
-        Vec::new(alloc),
-        vec![in alloc; 0, 3]?,
-        Vec::new(alloc),
-        vec![in alloc; 4, 5]?,
-        Vec::new(alloc),
-        Vec::new(alloc),
-    ];
-    let subtrees = Subtrees::of(alloc, &ChildLists(&nodes))?;
-    let below: [&[u32]; 6] = [&[0], &[0, 1, 3, 4, 5], &[2], &[3, 4, 5], &[4], &[5]];
-    for top in 0..6 {
-        for node in 0..7 {
-            let is_below = below[top].contains(&node);
-            assert_eq!(rt; subtrees.is_at_or_below(top as u32, node), is_below);
+/// The children of nodes of which 1 and 2 are roots. Below node 1 are 0 and 3, and below node 3 are
+/// 4 and 5.
+const TREES: &[&[u32]] = &[&[], &[0, 3], &[], &[4, 5], &[], &[]];
+
+/// The subtrees of those.
+fn subtrees_of_trees(alloc: Global) -> Result<Subtrees, Fail> {
+    let nodes = lists_of(alloc, TREES)?;
+    Ok(Subtrees::of(alloc, &ChildLists(&nodes))?)
+}
+
+/// Whether these nodes, and no others up to 6, are at or below a node.
+fn are_below(subtrees: &Subtrees, top: u32, nodes: &[u32]) -> bool {
+    for node in 0..7 {
+        if subtrees.is_at_or_below(top, node) != nodes.contains(&node) {
+            return false;
         }
     }
-    let roots: [u32; 6] = [1, 1, 2, 1, 1, 1];
-    for node in 0..6 {
-        assert_eq!(rt; subtrees.root(node as u32), Some(roots[node]));
+    true
+}
+
+/// Whether each node has those below it that it should.
+fn are_all_below(subtrees: &Subtrees) -> bool {
+    are_below(subtrees, 0, &[0])
+        && are_below(subtrees, 1, &[0, 1, 3, 4, 5])
+        && are_below(subtrees, 2, &[2])
+        && are_below(subtrees, 3, &[3, 4, 5])
+        && are_below(subtrees, 4, &[4])
+        && are_below(subtrees, 5, &[5])
+}
+
+/// Whether the nodes up to 5 have these roots.
+fn are_roots(subtrees: &Subtrees, roots: &[u32; 6]) -> bool {
+    for node in 0..6_usize {
+        if subtrees.root(node as u32) != Some(roots[node]) {
+            return false;
+        }
     }
-    assert_eq!(rt; subtrees.root(6), None);
-    assert!(rt; !subtrees.is_at_or_below(6, 6));
-    Ok(())
+    true
+}
+
+#[test]
+fn nodes_are_below_those_above(rt: HostRuntime) -> Result<(), Fail> {
+    let subtrees = subtrees_of_trees(rt.alloc())?;
+    holds(are_all_below(&subtrees), "nodes are below those above")?;
+    holds(
+        are_roots(&subtrees, &[1, 1, 2, 1, 1, 1]),
+        "nodes have their roots",
+    )?;
+    holds(
+        subtrees.root(6).is_none() && !subtrees.is_at_or_below(6, 6),
+        "there is no node 6",
+    )
+}
+
+/// Whether the last node of a chain of a thousand is below the first and the one before it.
+fn is_one_tree(subtrees: &Subtrees) -> bool {
+    subtrees.is_at_or_below(0, 999)
+        && subtrees.is_at_or_below(998, 999)
+        && !subtrees.is_at_or_below(999, 998)
+        && subtrees.root(999) == Some(0)
 }
 
 // Each node has the next one below it.
 #[test]
 fn a_chain_is_one_tree(rt: HostRuntime) -> Result<(), Fail> {
-    let alloc = rt.alloc();
-    let mut nodes = Vec::new(alloc);
-    for node in 1..1000_u32 {
-        nodes.push(vec![in alloc; node]?)?;
-    }
-    nodes.push(Vec::new(alloc))?;
-    let subtrees = Subtrees::of(alloc, &ChildLists(&nodes))?;
-    assert!(rt; subtrees.is_at_or_below(0, 999) && subtrees.is_at_or_below(998, 999));
-    assert!(rt; !subtrees.is_at_or_below(999, 998));
-    assert_eq!(rt; subtrees.root(999), Some(0));
-    Ok(())
+    let nodes = line(rt.alloc(), 999)?;
+    let subtrees = Subtrees::of(rt.alloc(), &ChildLists(&nodes))?;
+    holds(is_one_tree(&subtrees), "a chain is one tree")
+}
+
+/// Whether nodes with these children are found to have a cycle.
+fn have_cycle(alloc: Global, children: &[&[u32]]) -> Result<bool, AllocError> {
+    let nodes = lists_of(alloc, children)?;
+    let made = Subtrees::of(alloc, &ChildLists(&nodes));
+    Ok(matches!(made, Err(HierarchyFault::Cycle { .. })))
 }
 
 #[test]
 fn a_ring_is_no_tree(rt: HostRuntime) -> Result<(), Fail> {
-    let alloc = rt.alloc();
-    let nodes = [vec![in alloc; 1]?, vec![in alloc; 0]?];
-    let found = Subtrees::of(alloc, &ChildLists(&nodes));
-    assert!(rt; matches!(found, Err(HierarchyFault::Cycle { .. })));
-    Ok(())
+    holds(have_cycle(rt.alloc(), &[&[1], &[0]])?, "a ring is a cycle")
 }

@@ -1,7 +1,5 @@
 //! Pushes that are taken back from documents without reports.
 
-use super::NEW;
-use crate::shown::holds;
 use gltf_json::Root;
 use gltf_json::accessor::Accessor;
 use gltf_json::animation::Animation;
@@ -14,6 +12,8 @@ use gltf_json::scene::{Node, Scene};
 use gltf_json::skin::Skin;
 use gltf_json::texture::{Sampler, Texture};
 use gltf_json::validation::{Clean, Error, Rules, TopLevelItem};
+use gltf_vectors_support::documents::NEW;
+use gltf_vectors_support::holds;
 use std::alloc::Global;
 use std::test::Fail;
 

@@ -1,22 +1,55 @@
 //! Layouts, forests and faults of documents.
 
+use super::{has_faults, untyped_vectors_in, vectors_in};
 use gltf_base::Index;
-use gltf_base::accessor::{AccessorType, ComponentType};
-use gltf_base::validation::{Checked, USize64};
+use gltf_base::accessor::ComponentType;
+use gltf_base::validation::USize64;
 use gltf_document::{Document, glb_fits, joints_of};
 use gltf_glb::Glb;
 use gltf_hierarchy::Forest;
 use gltf_layout::{
-    AccessorFault, Layout, LayoutFaults, Location, Span, SparseFault, SparsePlace, StorageFault,
+    AccessorFault, Layout, LayoutError, Location, Span, SparseFault, SparsePlace, StorageFault,
 };
 use gltf_parts::accessor::Accessor;
 use gltf_parts::accessor::sparse::{Indices, Sparse, Values};
 use gltf_parts::buffer::{Buffer, View};
 use gltf_root::root::Root;
+use gltf_scene::skin::Skin;
+use gltf_vectors_support::holds;
+use std::alloc::{AllocError, Global};
 use std::test::Fail;
 
+/// Three zeros of which one deviates. The indices are of such a type.
+fn deviating(index_type: ComponentType) -> Accessor {
+    let mut indices = Indices::new(Index::new(1), index_type);
+    indices.byte_offset = USize64(36);
+    let mut zeros = vectors_in(None);
+    zeros.sparse = Some(Sparse::new(1, indices, Values::new(Index::new(0))));
+    zeros
+}
+
+/// Views of a buffer of 40 bytes.
+fn views() -> [View; 2] {
+    [View::new(Index::new(0), 36), View::new(Index::new(0), 40)]
+}
+
+/// The layout of three vectors, and of zeros of which one deviates.
+fn layout_of_vectors(alloc: Global) -> Result<Layout, LayoutError> {
+    let accessors = [
+        vectors_in(Some(Index::new(0))),
+        deviating(ComponentType::U16),
+    ];
+    let document = Document {
+        nodes: &[],
+        buffers: &[Buffer::new(40)],
+        views: &views(),
+        accessors: &accessors,
+    };
+    Layout::of(alloc, &document)
+}
+
 /// Where elements lie in buffer 0, packed tightly.
-pub fn located(start: u64, size: u64, count: u64) -> Location {
+fn located(start: u64, size: u64, count: u64) -> Location {
     let span = Span {
         start,
         stride: size,
@@ -26,65 +59,66 @@ pub fn located(start: u64, size: u64, count: u64) -> Location {
     Location { buffer: 0, span }
 }
 
-/// Three vectors, and three zeros of which one deviates. The indices are of such a type.
-pub fn vectors(index_type: ComponentType) -> [Accessor; 2] {
-    let mut dense = Accessor::new(3, ComponentType::F32, AccessorType::Vec3);
-    dense.buffer_view = Some(Index::new(0));
-    let mut indices = Indices::new(Index::new(1), index_type);
-    indices.byte_offset = USize64(36);
-    let mut zeros = Accessor::new(3, ComponentType::F32, AccessorType::Vec3);
-    zeros.sparse = Some(Sparse::new(1, indices, Values::new(Index::new(0))));
-    [dense, zeros]
+/// Where the elements of an accessor lie.
+fn elements_at(layout: &Layout, accessor: usize) -> Option<Location> {
+    match layout.place(accessor) {
+        Some(place) => place.elements,
+        None => None,
+    }
+}
+
+/// Where the elements of an accessor lie that deviate.
+fn deviating_at(layout: &Layout, accessor: usize) -> Option<SparsePlace> {
+    match layout.place(accessor) {
+        Some(place) => place.sparse,
+        None => None,
+    }
 }
 
 #[test]
 fn a_document_has_a_layout(rt: HostRuntime) -> Result<(), Fail> {
-    let buffers = [Buffer::new(40)];
-    let views = [View::new(Index::new(0), 36), View::new(Index::new(0), 40)];
-    let accessors = vectors(ComponentType::U16);
-    let document = Document {
-        nodes: &[],
-        buffers: &buffers,
-        views: &views,
-        accessors: &accessors,
-    };
-    let layout = Layout::of(rt.alloc(), &document)?;
-    let dense = layout.place(0).and_then(|place| place.elements);
-    assert_eq!(rt; dense, Some(located(0, 12, 3)));
-    let sparse = layout.place(1).and_then(|place| place.sparse);
+    let layout = layout_of_vectors(rt.alloc())?;
+    holds(
+        elements_at(&layout, 0) == Some(located(0, 12, 3)),
+        "vectors lie in their view",
+    )?;
     let deviating = SparsePlace {
         count: 1,
         index_type: ComponentType::U16,
         indices: located(36, 2, 1),
         values: located(0, 12, 1),
     };
-    assert_eq!(rt; sparse, Some(deviating));
-    Ok(())
+    holds(
+        deviating_at(&layout, 1) == Some(deviating),
+        "what deviates lies in its views",
+    )
 }
 
-#[test]
-fn faults_of_a_document_are_listed(rt: HostRuntime) {
-    let mut accessors = vectors(ComponentType::F32);
-    accessors[0].type_ = Checked::Invalid;
-    let buffers = [Buffer::new(40)];
-    let views = [View::new(Index::new(0), 36), View::new(Index::new(0), 40)];
-    let mut faults = LayoutFaults::of(Document {
-        nodes: &[],
-        buffers: &buffers,
-        views: &views,
-        accessors: &accessors,
-    });
-    let invalid = StorageFault::Accessor {
+/// What is wrong with vectors without a type, and with zeros of which the indices are fractions.
+const FAULTS: [StorageFault; 2] = [
+    StorageFault::Accessor {
         accessor: 0,
         fault: AccessorFault::InvalidType,
-    };
-    assert_eq!(rt; faults.next_fault(), Some(invalid));
-    let no_index = StorageFault::Accessor {
+    },
+    StorageFault::Accessor {
         accessor: 1,
         fault: AccessorFault::Sparse(SparseFault::InvalidIndexType),
+    },
+];
+
+#[test]
+fn faults_of_a_document_are_listed() -> Result<(), Fail> {
+    let accessors = [
+        untyped_vectors_in(Some(Index::new(0))),
+        deviating(ComponentType::F32),
+    ];
+    let document = Document {
+        nodes: &[],
+        buffers: &[Buffer::new(40)],
+        views: &views(),
+        accessors: &accessors,
     };
-    assert_eq!(rt; faults.next_fault(), Some(no_index));
-    assert_eq!(rt; faults.next_fault(), None);
+    holds(has_faults(document, &FAULTS), "both faults are listed")
 }
 
 /// Node 1 is over nodes 0 and 2, which are joints. The accessor has bytes 3 and 4, and 9 and 10.
@@ -96,55 +130,85 @@ const SKINNED: &str = r#"{"asset":{"version":"2.0"},
 "accessors":[{"bufferView":0,"byteOffset":2,"componentType":5121,"type":"VEC2","count":2}]}"#;
 
 #[test]
-fn a_document_that_is_read_is_loaded(rt: HostRuntime) -> Result<(), Fail> {
-    let alloc = rt.alloc();
-    let root = Root::from_str(alloc, SKINNED)?;
+fn elements_of_a_document_that_is_read_are_found(rt: HostRuntime) -> Result<(), Fail> {
+    let root = Root::from_str(rt.alloc(), SKINNED)?;
     let document = Document::of(&root);
-    let layout = Layout::of(alloc, &document)?;
-    let place = layout.place(0).and_then(|place| place.elements);
+    let layout = Layout::of(rt.alloc(), &document)?;
     let span = Span {
         start: 3,
         stride: 6,
         size: 2,
         count: 2,
     };
-    assert_eq!(rt; place, Some(Location { buffer: 0, span }));
-    let mut faults = LayoutFaults::of(document);
-    assert_eq!(rt; faults.next_fault(), None);
+    holds(
+        elements_at(&layout, 0) == Some(Location { buffer: 0, span }),
+        "elements lie a stride apart",
+    )?;
+    holds(has_faults(document, &[]), "there is no fault")
+}
+
+/// Whether node 1 is over nodes 0 and 2.
+fn is_root_over_others(forest: &Forest) -> bool {
+    forest.order().first() == Some(&1) && forest.parent(0) == Some(1) && forest.depth(2) == Some(1)
+}
+
+/// Whether the nodes of a document have no faults.
+fn is_faultless(alloc: Global, document: &Document<'_>) -> Result<bool, AllocError> {
+    Ok(Forest::faults(alloc, document)?.is_empty())
+}
+
+/// Whether the joints of the first skin are nodes 2 and 0, below node 1.
+fn are_joints_below(alloc: Global, skins: &[Skin], forest: &Forest) -> Result<bool, Fail> {
+    let skin = skins.first().ok_or("no skin")?;
+    let joints = joints_of(alloc, skin)?;
+    let root = forest.common_root(alloc, &joints)?;
+    Ok(joints.as_slice() == [2, 0].as_slice() && root == Some(1))
+}
+
+#[test]
+fn nodes_of_a_document_that_is_read_are_a_forest(rt: HostRuntime) -> Result<(), Fail> {
+    let alloc = rt.alloc();
+    let root = Root::from_str(alloc, SKINNED)?;
+    let document = Document::of(&root);
     let forest = Forest::of(alloc, &document)?;
-    assert_eq!(rt; forest.order().first(), Some(&1));
-    assert_eq!(rt; forest.parent(0), Some(1));
-    assert_eq!(rt; forest.depth(2), Some(1));
-    assert!(rt; Forest::faults(alloc, &document)?.is_empty());
-    for skin in &root.skins {
-        let joints = joints_of(alloc, skin)?;
-        assert!(rt; joints.as_slice() == [2, 0].as_slice());
-        assert_eq!(rt; forest.common_root(alloc, &joints)?, Some(1));
-    }
-    Ok(())
+    holds(is_root_over_others(&forest), "node 1 is over the others")?;
+    holds(is_faultless(alloc, &document)?, "there is no fault")?;
+    holds(
+        are_joints_below(alloc, &root.skins, &forest)?,
+        "the joints are below node 1",
+    )
 }
 
 /// A buffer of 17 bytes that a BIN chunk has.
 const CHUNK: &str = r#"{"asset":{"version":"2.0"},"buffers":[{"byteLength":17}]}"#;
 
+/// Whether a BIN chunk has the bytes of the first buffer.
+fn fits(document: &Document<'_>, bin: Option<&[u8]>) -> bool {
+    glb_fits(&Glb { json: b"{}", bin }, document)
+}
+
+/// The same for a chunk of so many bytes, up to 21.
+fn fits_length(document: &Document<'_>, length: usize) -> bool {
+    fits(document, [0; 21].get(..length))
+}
+
 #[test]
 fn a_chunk_has_the_bytes_of_the_first_buffer(rt: HostRuntime) -> Result<(), Fail> {
     let root = Root::from_str(rt.alloc(), CHUNK)?;
     let document = Document::of(&root);
-    let padded = [0u8; 21];
-    for (length, fits) in [(16, false), (17, true), (20, true), (21, false)] {
-        let glb = Glb {
-            json: b"{}",
-            bin: padded.get(..length),
-        };
-        assert_eq!(rt; glb_fits(&glb, &document), fits, "{length}");
-    }
-    let glb = Glb {
-        json: b"{}",
-        bin: None,
-    };
-    assert!(rt; !glb_fits(&glb, &document));
-    let none = Root::from_str(rt.alloc(), r#"{"asset":{"version":"2.0"}}"#)?;
-    assert!(rt; glb_fits(&glb, &Document::of(&none)));
-    Ok(())
+    holds(
+        fits_length(&document, 17) && fits_length(&document, 20),
+        "a chunk is padded by up to 3 bytes",
+    )?;
+    holds(
+        !fits_length(&document, 16) && !fits_length(&document, 21),
+        "a chunk is no shorter, and no longer",
+    )?;
+    holds(!fits(&document, None), "there is a chunk")
+}
+
+#[test]
+fn a_document_without_buffers_needs_no_chunk(rt: HostRuntime) -> Result<(), Fail> {
+    let root = Root::from_str(rt.alloc(), r#"{"asset":{"version":"2.0"}}"#)?;
+    holds(fits(&Document::of(&root), None), "no chunk is needed")
 }

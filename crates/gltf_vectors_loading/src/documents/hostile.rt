@@ -1,23 +1,23 @@
 //! Documents with the greatest numbers, and long chains and rings of nodes.
 
-use super::{chain, over};
+use super::{chain, has_faults, line, over, vectors_in};
 use gltf_base::Index;
 use gltf_base::accessor::{AccessorType, ComponentType};
 use gltf_base::validation::USize64;
 use gltf_document::{Document, LayoutFault, forest_of, joints_of, span_of};
 use gltf_hierarchy::{Forest, HierarchyFault, JointFault};
-use gltf_layout::{
-    AccessorFault, LayoutFaults, Misfit, PlaceFault, Span, SparseFault, StorageFault, ViewFault,
-};
+use gltf_layout::{AccessorFault, Misfit, PlaceFault, Span, SparseFault, StorageFault, ViewFault};
 use gltf_parts::accessor::Accessor;
 use gltf_parts::accessor::sparse::{Indices, Sparse, Values};
 use gltf_parts::buffer::{Buffer, Stride, View};
 use gltf_scene::scene::Node;
 use gltf_scene::skin::Skin;
+use gltf_vectors_support::holds;
+use std::alloc::Global;
 use std::test::Fail;
 
 /// Where a view lies in a buffer of 2^64 - 1 bytes, and an accessor of bytes in the view.
-#[derive(Clone, Copy, Debug)]
+#[derive(Clone, Copy)]
 struct Extreme {
     view_offset: u64,
     view_length: u64,
@@ -36,167 +36,200 @@ const EXACT: Extreme = Extreme {
     count: 4294967295,
 };
 
-/// Where the bytes of the accessor lie.
-fn extreme_span(extreme: Extreme) -> Result<Option<Span>, LayoutFault> {
+/// The view.
+fn extreme_view(extreme: Extreme) -> View {
     let mut view = View::new(Index::new(0), extreme.view_length);
     view.byte_offset = Some(USize64(extreme.view_offset));
     view.byte_stride = Some(Stride(extreme.stride));
+    view
+}
+
+/// The accessor.
+fn extreme_accessor(extreme: Extreme) -> Accessor {
     let mut accessor = Accessor::new(extreme.count, ComponentType::U8, AccessorType::Scalar);
     accessor.buffer_view = Some(Index::new(0));
     accessor.byte_offset = Some(USize64(extreme.offset));
-    let views = [view];
-    let buffers = [Buffer::new(u64::MAX)];
-    span_of(&views, &buffers, &accessor)
+    accessor
+}
+
+/// Where the bytes of the accessor lie.
+fn extreme_span(extreme: Extreme) -> Result<Option<Span>, LayoutFault> {
+    span_of(
+        &[extreme_view(extreme)],
+        &[Buffer::new(u64::MAX)],
+        &extreme_accessor(extreme),
+    )
+}
+
+/// Whether the view is too long for the buffer.
+fn is_view_too_long(extreme: Extreme) -> bool {
+    extreme_span(extreme) == Err(LayoutFault::Misfit(Misfit::ViewTooLong))
+}
+
+/// Whether the accessor is too long for the view.
+fn is_accessor_too_long(extreme: Extreme) -> bool {
+    extreme_span(extreme) == Err(LayoutFault::Misfit(Misfit::AccessorTooLong))
 }
 
 #[test]
-fn the_greatest_numbers_fit_or_are_misfits(rt: HostRuntime) {
+fn the_greatest_numbers_fit() -> Result<(), Fail> {
     let span = Span {
         start: 12884901884,
         stride: 4294967295,
         size: 1,
         count: 4294967295,
     };
-    assert_eq!(rt; extreme_span(EXACT), Ok(Some(span)));
-    let too_long = Misfit::AccessorTooLong;
-    for (extreme, misfit) in [
-        (
-            Extreme {
-                view_offset: 8589934590,
-                ..EXACT
-            },
-            Misfit::ViewTooLong,
-        ),
-        (
-            Extreme {
-                view_offset: u64::MAX,
-                ..EXACT
-            },
-            Misfit::ViewTooLong,
-        ),
-        (
-            Extreme {
-                view_length: 18446744065119617025,
-                ..EXACT
-            },
-            too_long,
-        ),
-        (
-            Extreme {
-                stride: 4294967296,
-                ..EXACT
-            },
-            too_long,
-        ),
-        (
-            Extreme {
-                stride: usize::MAX,
-                ..EXACT
-            },
-            too_long,
-        ),
-        (
-            Extreme {
-                offset: 4294967296,
-                ..EXACT
-            },
-            too_long,
-        ),
-        (
-            Extreme {
-                count: u64::MAX,
-                ..EXACT
-            },
-            too_long,
-        ),
-    ] {
-        let fault = LayoutFault::Misfit(misfit);
-        assert_eq!(rt; extreme_span(extreme), Err(fault), "{extreme:?}");
-    }
+    holds(extreme_span(EXACT) == Ok(Some(span)), "all bytes fit")
 }
+
+#[test]
+fn views_at_the_greatest_offsets_are_too_long() -> Result<(), Fail> {
+    let behind = Extreme {
+        view_offset: 8589934590,
+        ..EXACT
+    };
+    holds(is_view_too_long(behind), "a view one byte behind")?;
+    let greatest = Extreme {
+        view_offset: u64::MAX,
+        ..EXACT
+    };
+    holds(is_view_too_long(greatest), "a view at the greatest offset")
+}
+
+#[test]
+fn accessors_of_the_greatest_numbers_are_too_long() -> Result<(), Fail> {
+    let shorter = Extreme {
+        view_length: 18446744065119617025,
+        ..EXACT
+    };
+    holds(is_accessor_too_long(shorter), "a view one byte shorter")?;
+    let behind = Extreme {
+        offset: 4294967296,
+        ..EXACT
+    };
+    holds(is_accessor_too_long(behind), "an accessor one byte behind")?;
+    let more = Extreme {
+        count: u64::MAX,
+        ..EXACT
+    };
+    holds(is_accessor_too_long(more), "as many elements as can be")
+}
+
+#[test]
+fn accessors_of_the_greatest_strides_are_too_long() -> Result<(), Fail> {
+    let wider = Extreme {
+        stride: 4294967296,
+        ..EXACT
+    };
+    holds(is_accessor_too_long(wider), "a stride one byte wider")?;
+    let widest = Extreme {
+        stride: usize::MAX,
+        ..EXACT
+    };
+    holds(is_accessor_too_long(widest), "the greatest stride")
+}
+
+/// The number of no buffer, and of no view.
+const GREATEST: u32 = 4294967295;
 
 /// Zeros of which so many deviate. Their indices lie in a view, and their values at an offset.
 fn deviating(count: u64, view: u32, offset: u64) -> Accessor {
     let indices = Indices::new(Index::new(view), ComponentType::U16);
     let mut values = Values::new(Index::new(1));
     values.byte_offset = USize64(offset);
-    let mut zeros = Accessor::new(3, ComponentType::F32, AccessorType::Vec3);
+    let mut zeros = vectors_in(None);
     zeros.sparse = Some(Sparse::new(count, indices, values));
     zeros
 }
 
-/// Vectors in a view.
-fn vectors_in(view: u32) -> Accessor {
-    let mut vectors = Accessor::new(3, ComponentType::F32, AccessorType::Vec3);
-    vectors.buffer_view = Some(Index::new(view));
-    vectors
+/// Accessors of which each names a view that isn't there, one without a buffer, or bytes past its
+/// view.
+fn lost_accessors() -> [Accessor; 5] {
+    [
+        vectors_in(Some(Index::new(GREATEST))),
+        vectors_in(Some(Index::new(0))),
+        deviating(4294967295, 1, 0),
+        deviating(1, GREATEST, 0),
+        deviating(1, 1, 4294967295),
+    ]
+}
+
+/// The fault of an accessor.
+fn fault_of(accessor: usize, fault: AccessorFault) -> StorageFault {
+    StorageFault::Accessor { accessor, fault }
+}
+
+const NO_VIEW: PlaceFault = PlaceFault::NoSuchView { view: GREATEST };
+
+const NO_BUFFER: PlaceFault = PlaceFault::NoSuchBuffer { buffer: GREATEST };
+
+const TOO_LONG: PlaceFault = PlaceFault::Misfit(Misfit::AccessorTooLong);
+
+/// What is wrong with the view that names no buffer, and with each accessor.
+fn faults_of_lost() -> [StorageFault; 6] {
+    [
+        StorageFault::View {
+            view: 0,
+            fault: ViewFault::NoSuchBuffer { buffer: GREATEST },
+        },
+        fault_of(0, AccessorFault::Elements(NO_VIEW)),
+        fault_of(1, AccessorFault::Elements(NO_BUFFER)),
+        fault_of(2, AccessorFault::Sparse(SparseFault::TooMany)),
+        fault_of(3, AccessorFault::Sparse(SparseFault::Indices(NO_VIEW))),
+        fault_of(4, AccessorFault::Sparse(SparseFault::Values(TOO_LONG))),
+    ]
 }
 
 #[test]
-fn the_greatest_indexes_name_nothing(rt: HostRuntime) {
-    let buffer = 4294967295;
-    let view = 4294967295;
-    let buffers = [Buffer::new(40)];
+fn the_greatest_indexes_name_nothing() -> Result<(), Fail> {
     let views = [
-        View::new(Index::new(buffer), 36),
+        View::new(Index::new(GREATEST), 36),
         View::new(Index::new(0), 40),
     ];
-    let accessors = [
-        vectors_in(view),
-        vectors_in(0),
-        deviating(4294967295, 1, 0),
-        deviating(1, view, 0),
-        deviating(1, 1, 4294967295),
-    ];
-    let mut faults = LayoutFaults::of(Document {
+    let document = Document {
         nodes: &[],
-        buffers: &buffers,
+        buffers: &[Buffer::new(40)],
         views: &views,
-        accessors: &accessors,
-    });
-    let no_buffer = StorageFault::View {
-        view: 0,
-        fault: ViewFault::NoSuchBuffer { buffer },
+        accessors: &lost_accessors(),
     };
-    assert_eq!(rt; faults.next_fault(), Some(no_buffer));
-    let no_view = PlaceFault::NoSuchView { view };
-    let too_long = PlaceFault::Misfit(Misfit::AccessorTooLong);
-    for (accessor, fault) in [
-        (0, AccessorFault::Elements(no_view)),
-        (
-            1,
-            AccessorFault::Elements(PlaceFault::NoSuchBuffer { buffer }),
-        ),
-        (2, AccessorFault::Sparse(SparseFault::TooMany)),
-        (3, AccessorFault::Sparse(SparseFault::Indices(no_view))),
-        (4, AccessorFault::Sparse(SparseFault::Values(too_long))),
-    ] {
-        let expected = StorageFault::Accessor { accessor, fault };
-        assert_eq!(rt; faults.next_fault(), Some(expected));
-    }
-    assert_eq!(rt; faults.next_fault(), None);
+    holds(
+        has_faults(document, &faults_of_lost()),
+        "each index names nothing",
+    )
+}
+
+/// The common root of the joints of a skin: nodes 999, 500 and 700.
+fn root_over_joints(alloc: Global, forest: &Forest) -> Result<Option<u32>, Fail> {
+    let skin = Skin::new(vec![in alloc; Index::new(999), Index::new(500), Index::new(700)]?);
+    let joints = joints_of(alloc, &skin)?;
+    Ok(forest.common_root(alloc, &joints)?)
+}
+
+/// Whether the greatest number is found to be no node's.
+fn is_greatest_no_node(alloc: Global, forest: &Forest) -> bool {
+    matches!(
+        forest.common_root(alloc, &[0, 4294967295]),
+        Err(JointFault::NoSuchNode {
+            place: 1,
+            node: 4294967295,
+        })
+    )
 }
 
 #[test]
 fn a_long_chain_is_a_forest(rt: HostRuntime) -> Result<(), Fail> {
     let alloc = rt.alloc();
-    let mut nodes = chain(alloc, 999, 999)?;
-    nodes.push(Node::new())?;
+    let nodes = line(alloc, 999)?;
     let forest = forest_of(alloc, &nodes)?;
-    assert_eq!(rt; forest.depth(999), Some(999));
-    let skin = Skin::new(vec![in alloc; Index::new(999), Index::new(500), Index::new(700)]?);
-    let joints = joints_of(alloc, &skin)?;
-    assert_eq!(rt; forest.common_root(alloc, &joints)?, Some(500));
-    match forest.common_root(alloc, &[0, 4294967295]) {
-        Err(
-            JointFault::NoSuchNode {
-                place: 1,
-                node: 4294967295,
-            },
-        ) => (),
-        _ => assert!(rt; false),
-    }
-    Ok(())
+    holds(forest.depth(999) == Some(999), "the last node is deepest")?;
+    holds(
+        root_over_joints(alloc, &forest)? == Some(500),
+        "node 500 is over the others",
+    )?;
+    holds(
+        is_greatest_no_node(alloc, &forest),
+        "the greatest number is no node's",
+    )
 }
 
 /// A document that has only nodes.
@@ -209,36 +242,42 @@ fn of_nodes(nodes: &[Node]) -> Document<'_> {
     }
 }
 
+/// Whether the only fault is that the first node is below itself.
+fn is_cycle_alone(faults: &[HierarchyFault]) -> bool {
+    faults.len() == 1 && matches!(faults.first(), Some(HierarchyFault::Cycle { node: 0 }))
+}
+
 #[test]
 fn a_long_ring_is_one_fault(rt: HostRuntime) -> Result<(), Fail> {
-    let alloc = rt.alloc();
-    let ring = chain(alloc, 1000, 0)?;
-    match forest_of(alloc, &ring) {
-        Err(HierarchyFault::Cycle { .. }) => (),
-        _ => assert!(rt; false),
-    }
-    let faults = Forest::faults(alloc, &of_nodes(&ring))?;
-    assert_eq!(rt; faults.len(), 1);
-    match faults.first() {
-        Some(HierarchyFault::Cycle { node: 0 }) => (),
-        _ => assert!(rt; false),
-    }
-    Ok(())
+    let ring = chain(rt.alloc(), 1000, 0)?;
+    let made = forest_of(rt.alloc(), &ring);
+    holds(
+        matches!(made, Err(HierarchyFault::Cycle { .. })),
+        "a ring is no forest",
+    )?;
+    let faults = Forest::faults(rt.alloc(), &of_nodes(&ring))?;
+    holds(is_cycle_alone(&faults), "a ring is one cycle")
+}
+
+/// Whether there is no forest because node 0 has the greatest child.
+fn is_greatest_no_child(alloc: Global, document: &Document<'_>) -> bool {
+    matches!(
+        Forest::of(alloc, document),
+        Err(HierarchyFault::NoSuchChild {
+            parent: 0,
+            child: 4294967295,
+        })
+    )
 }
 
 #[test]
 fn the_greatest_child_does_not_exist(rt: HostRuntime) -> Result<(), Fail> {
-    let alloc = rt.alloc();
-    let nodes = [over(alloc, 4294967295)?];
-    match Forest::of(alloc, &of_nodes(&nodes)) {
-        Err(
-            HierarchyFault::NoSuchChild {
-                parent: 0,
-                child: 4294967295,
-            },
-        ) => (),
-        _ => assert!(rt; false),
-    }
-    assert_eq!(rt; Forest::faults(alloc, &of_nodes(&nodes))?.len(), 1);
-    Ok(())
+    let nodes = [over(rt.alloc(), 4294967295)?];
+    let document = of_nodes(&nodes);
+    holds(
+        is_greatest_no_child(rt.alloc(), &document),
+        "there is no such child",
+    )?;
+    let faults = Forest::faults(rt.alloc(), &document)?;
+    holds(faults.len() == 1, "there is no other fault")
 }

@@ -1,7 +1,6 @@
 //! Loading where growths are refused.
 
-use super::chain;
-use super::held_memory::{End, Tried, refusal_count};
+use super::{chain, line};
 use gltf_base::Index;
 use gltf_base::accessor::{AccessorType, ComponentType};
 use gltf_document::{Document, forest_of, joints_of};
@@ -10,6 +9,7 @@ use gltf_layout::{Layout, LayoutError};
 use gltf_parts::accessor::Accessor;
 use gltf_scene::scene::Node;
 use gltf_scene::skin::Skin;
+use gltf_vectors_support::{End, Tried, holds, refusal_count};
 use std::alloc::{AllocError, Global};
 use std::test::Fail;
 
@@ -36,7 +36,7 @@ enum Call<'a> {
 }
 
 impl Tried for Call<'_> {
-    fn attempt(&self, alloc: Global) -> End {
+    fn attempt(&mut self, alloc: Global) -> End {
         match *self {
             Call::Forest(document) => forest_end(alloc, &document),
             Call::Faults(ring) => faults_end(alloc, &ring),
@@ -114,48 +114,56 @@ fn skin(alloc: Global) -> Result<Skin, AllocError> {
     Ok(Skin::new(joints))
 }
 
-/// Nodes up to this last one, of which each but the last has the next one as its child.
-fn line(alloc: Global, last: u32) -> Result<Vec<Node>, AllocError> {
-    let mut nodes = chain(alloc, last, last)?;
-    nodes.push(Node::new())?;
-    Ok(nodes)
-}
-
 // Under `rt try` nothing is refused, and these tests fail: its allocator is another one.
 #[test]
 fn forests_without_memory(rt: HostRuntime) -> Result<(), Fail> {
-    let alloc = rt.alloc();
-    let nodes = line(alloc, FOREST_COUNT - 1)?;
-    let ring = chain(alloc, FOREST_COUNT, 0)?;
-    let forest = Call::Forest(document_of(&nodes, &[]));
-    let faults = Call::Faults(document_of(&ring, &[]));
-    assert!(rt; refusal_count(alloc, &forest)? > 0, "Forest::of");
-    assert!(rt; refusal_count(alloc, &faults)? > 0, "Forest::faults");
-    Ok(())
+    let nodes = line(rt.alloc(), FOREST_COUNT - 1)?;
+    let mut forest = Call::Forest(document_of(&nodes, &[]));
+    holds(refusal_count(rt.alloc(), &mut forest)? > 0, "Forest::of")
+}
+
+#[test]
+fn faults_without_memory(rt: HostRuntime) -> Result<(), Fail> {
+    let ring = chain(rt.alloc(), FOREST_COUNT, 0)?;
+    let mut faults = Call::Faults(document_of(&ring, &[]));
+    holds(
+        refusal_count(rt.alloc(), &mut faults)? > 0,
+        "Forest::faults",
+    )
+}
+
+/// The forest of a line of as many nodes as there are joints.
+fn line_forest(alloc: Global) -> Result<Forest, Fail> {
+    let nodes = line(alloc, COUNT - 1)?;
+    Ok(forest_of(alloc, &nodes)?)
+}
+
+#[test]
+fn common_roots_without_memory(rt: HostRuntime) -> Result<(), Fail> {
+    let forest = line_forest(rt.alloc())?;
+    let joints = joints_of(rt.alloc(), &skin(rt.alloc())?)?;
+    let mut common_root = Call::CommonRoot(&forest, &joints);
+    holds(
+        refusal_count(rt.alloc(), &mut common_root)? > 0,
+        "common_root",
+    )
 }
 
 #[test]
 fn joints_without_memory(rt: HostRuntime) -> Result<(), Fail> {
-    let alloc = rt.alloc();
-    let nodes = line(alloc, COUNT - 1)?;
-    let skin = skin(alloc)?;
-    let forest = forest_of(alloc, &nodes)?;
-    let joints = joints_of(alloc, &skin)?;
-    let common_root = Call::CommonRoot(&forest, &joints);
-    assert!(rt; refusal_count(alloc, &common_root)? > 0, "common_root");
-    assert!(rt;
-        refusal_count(alloc, &Call::Joints(&skin))? > 0,
-        "joints_of"
-    );
-    Ok(())
+    let skin = skin(rt.alloc())?;
+    let mut joints = Call::Joints(&skin);
+    holds(refusal_count(rt.alloc(), &mut joints)? > 0, "joints_of")
+}
+
+/// An accessor with one zero.
+fn zero() -> Accessor {
+    Accessor::new(1, ComponentType::U8, AccessorType::Scalar)
 }
 
 #[test]
 fn layouts_without_memory(rt: HostRuntime) -> Result<(), Fail> {
-    let alloc = rt.alloc();
-    let accessor = Accessor::new(1, ComponentType::U8, AccessorType::Scalar);
-    let accessors = [accessor.clone()?, accessor];
-    let layout = Call::Layout(document_of(&[], &accessors));
-    assert!(rt; refusal_count(alloc, &layout)? > 0, "Layout::of");
-    Ok(())
+    let accessors = [zero(), zero()];
+    let mut layout = Call::Layout(document_of(&[], &accessors));
+    holds(refusal_count(rt.alloc(), &mut layout)? > 0, "Layout::of")
 }

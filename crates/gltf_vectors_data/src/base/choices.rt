@@ -1,6 +1,5 @@
 //! Choices: the items of each, and how each is spelled.
 
-use crate::shown::{holds, shows};
 use gltf_base::accessor::{AccessorType, ComponentType, GenericComponentType, IndexComponentType};
 use gltf_base::animation::{Interpolation, Property};
 use gltf_base::buffer::Target;
@@ -11,6 +10,7 @@ use gltf_base::material::AlphaMode;
 use gltf_base::mesh::Mode;
 use gltf_base::texture::{MagFilter, MinFilter, WrappingMode};
 use gltf_base::validation::Checked;
+use gltf_vectors_support::{holds, shows};
 use std::alloc::{AllocError, Global};
 use std::fmt::{Debug, Write};
 use std::test::Fail;

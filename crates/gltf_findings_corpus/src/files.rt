@@ -1,5 +1,6 @@
 //! Cases of `.glb` files.
 
+use crate::Cases;
 use anyhow::{Context, Result};
 use gltf_findings_glb::GlbFindings;
 use serde_json::Value;
@@ -19,8 +20,8 @@ fn add_part(bytes: &mut Vec<u8>, part: &Value) -> Result<()> {
     Ok(())
 }
 
-/// The findings of a case, a line for each.
-pub fn lines_of(alloc: Global, case: &Value) -> Result<String> {
+/// The bytes of the file of a case.
+fn bytes_of(alloc: Global, case: &Value) -> Result<Vec<u8>> {
     let parts = case
         .get("file")
         .and_then(Value::as_array)
@@ -29,12 +30,22 @@ pub fn lines_of(alloc: Global, case: &Value) -> Result<String> {
     for part in parts.as_slice() {
         add_part(&mut bytes, part)?;
     }
-    let findings = GlbFindings::of(alloc, bytes.as_slice())?;
-    let mut lines = String::new(alloc);
-    for finding in findings.as_slice() {
-        writeln!(lines, "{} {}", finding.code.name(), finding.offset)?;
+    Ok(bytes)
+}
+
+/// The findings of `.glb` files.
+#[derive(Clone, Copy)]
+pub struct Files;
+
+impl Cases for Files {
+    fn lines(&mut self, alloc: Global, case: &Value) -> Result<String> {
+        let findings = GlbFindings::of(alloc, bytes_of(alloc, case)?.as_slice())?;
+        let mut lines = String::new(alloc);
+        for finding in findings.as_slice() {
+            writeln!(lines, "{} {}", finding.code.name(), finding.offset)?;
+        }
+        Ok(lines)
     }
-    Ok(lines)
 }
 
 /// How many findings a file has that is made of so many empty chunks of an extension.

@@ -4,12 +4,12 @@
 use std::test::Fail;
 
 /// Fails with what doesn't hold.
-pub(crate) fn holds(it: bool, what: &'static str) -> Result<(), Fail> {
+pub fn holds(it: bool, what: &'static str) -> Result<(), Fail> {
     if it { Ok(()) } else { Err(Fail::from(what)) }
 }
 
 /// Fails with a text if this text wasn't made.
-pub(crate) fn shows<E>(made: Result<String, E>, text: &'static str) -> Result<(), Fail>
+pub fn shows<E>(made: Result<String, E>, text: &'static str) -> Result<(), Fail>
 where
     Fail: From<E>,
 {

@@ -1,11 +1,11 @@
 //! Documents that are written into devices.
 
 use super::devices::{Counter, Interrupted, Taker, Wall};
-use crate::documents::{NEW, NEW_IN_LINES, PAST_32_BITS};
-use crate::shown::holds;
-use crate::writing::{LAYOUTS, Layout, write_into};
+use super::writing::{LAYOUTS, Layout, write_into};
 use gltf_json::root::Watched;
 use gltf_json::{Error, Root};
+use gltf_vectors_support::documents::{NEW, NEW_IN_LINES, PAST_32_BITS};
+use gltf_vectors_support::holds;
 use std::alloc::Global;
 use std::test::Fail;
 

@@ -7,18 +7,18 @@ use std::test::Fail;
 const SPARE_LEN: usize = 64;
 
 /// How often something is tried at most.
-const TRIES: usize = 1024;
+const TRIES: usize = 4096;
 
-/// All memory that the process can have. Every growth is then refused.
+/// Holds all memory that the process can have. Every growth is then refused.
 #[derive(Drop)]
-struct HeldMemory {
+pub struct HeldMemory {
     spare_blocks: Vec<Vec<u8>>,
     _blocks: Vec<Vec<u8>>,
 }
 
 impl HeldMemory {
     /// Takes all memory, of which so many spare blocks can be freed.
-    fn take_all(alloc: Global, spare_count: usize) -> Result<HeldMemory, AllocError> {
+    pub fn take_all(alloc: Global, spare_count: usize) -> Result<HeldMemory, AllocError> {
         let mut spare_blocks = Vec::with_capacity(alloc, spare_count)?;
         for _ in 0..spare_count {
             spare_blocks.push(Vec::with_capacity(alloc, SPARE_LEN)?)?;
@@ -37,6 +37,11 @@ impl HeldMemory {
             _blocks: blocks,
         })
     }
+
+    /// Frees one spare block, and returns whether there was one.
+    pub fn give_back(&mut self) -> bool {
+        self.spare_blocks.pop().is_some()
+    }
 }
 
 /// How a try ends.
@@ -53,19 +58,19 @@ pub enum End {
 /// A call that is tried without memory.
 pub trait Tried {
     /// Tries it, and judges how it ended. That takes no memory.
-    fn attempt(&self, alloc: Global) -> End;
+    fn attempt(&mut self, alloc: Global) -> End;
 }
 
 /// Returns how often a call is refused that is tried without memory, and each time with one more
 /// free block, until it succeeds.
-pub fn refusal_count<T: Tried>(alloc: Global, tried: &T) -> Result<usize, Fail> {
+pub fn refusal_count<T: Tried>(alloc: Global, tried: &mut T) -> Result<usize, Fail> {
     let mut held_memory = HeldMemory::take_all(alloc, TRIES)?;
     for refusals in 0..TRIES {
         match tried.attempt(alloc) {
             End::Whole => return Ok(refusals),
             End::Wrong => return Err(Fail::from("neither whole nor refused")),
             End::Refused => {
-                held_memory.spare_blocks.pop();
+                held_memory.give_back();
             }
         }
     }

@@ -1,12 +1,11 @@
-//! Devices that fail, and memory that is refused.
+//! Runs over devices that fail, and runs that run out of memory.
 
 use super::devices::{Giver, Taker, Wall};
-use super::held_memory::{End, Tried, refusal_count};
-use crate::documents::{FAULTY, NEW, SIX, SIX_LINES};
-use crate::shown::holds;
 use gltf_json::root::{ByteIn, Watched};
 use gltf_json::{Error, Root};
 use gltf_report_lines::run;
+use gltf_vectors_support::documents::{FAULTY, NEW, SIX, SIX_LINES};
+use gltf_vectors_support::{End, Tried, holds, refusal_count};
 use std::alloc::Global;
 use std::mem;
 use std::test::Fail;

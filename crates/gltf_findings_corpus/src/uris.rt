@@ -1,6 +1,6 @@
-//! Cases of documents.
+//! Cases of URIs and of BIN chunks.
 
-use crate::text_of;
+use crate::{Cases, text_of};
 use anyhow::Result;
 use gltf_findings_codes::{Finding, add_all};
 use gltf_findings_uris::{BufferUriRules, Container, ImageUriRules};
@@ -23,17 +23,26 @@ fn container_of(case: &Value) -> Container {
     }
 }
 
-/// The findings of a case, a line for each.
-pub fn lines_of(alloc: Global, case: &Value) -> Result<String> {
-    let root = Root::from_str(alloc, text_of(case, "text")?)?;
-    let container = container_of(case);
-    let mut found: Vec<Finding> = Vec::new(alloc);
+/// The findings of the URIs of a document in a container.
+fn findings_of(alloc: Global, root: &Root, container: Container) -> Result<Vec<Finding>> {
+    let mut found = Vec::new(alloc);
     add_all(&mut found, &BufferUriRules(container), &root.buffers)?;
     add_all(&mut found, &ImageUriRules(container), &root.images)?;
-    let mut lines = String::new(alloc);
-    for finding in found.as_slice() {
-        let pointer = finding.place.pointer(alloc)?;
-        writeln!(lines, "{} {pointer}", finding.code.name())?;
+    Ok(found)
+}
+
+/// The findings of URIs and of BIN chunks.
+#[derive(Clone, Copy)]
+pub struct Uris;
+
+impl Cases for Uris {
+    fn lines(&mut self, alloc: Global, case: &Value) -> Result<String> {
+        let root = Root::from_str(alloc, text_of(case, "text")?)?;
+        let mut lines = String::new(alloc);
+        for finding in findings_of(alloc, &root, container_of(case))? {
+            let pointer = finding.place.pointer(alloc)?;
+            writeln!(lines, "{} {pointer}", finding.code.name())?;
+        }
+        Ok(lines)
     }
-    Ok(lines)
 }

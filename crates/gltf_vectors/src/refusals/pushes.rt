@@ -1,13 +1,13 @@
 //! Pushes onto lists that can't grow, and documents that are refused without memory for a path.
 
-use super::{FAULTY, NEW};
-use crate::lines::held_memory::{End, HeldMemory, Tried, refusal_count};
+use super::writing::is_line;
 use crate::reading::object;
-use crate::writing::is_line;
 use gltf_json::extensions::scene::khr_lights_punctual::Light;
 use gltf_json::root::{Get, PushError};
 use gltf_json::validation::{Clean, CleanError, Item, Refused, Rules};
 use gltf_json::{Buffer, Index, Root, Schema};
+use gltf_vectors_support::documents::{FAULTY, NEW};
+use gltf_vectors_support::{End, HeldMemory, Tried, refusal_count};
 use std::alloc::{AllocError, Global};
 use std::fmt::Debug;
 use std::test::Fail;

@@ -1,9 +1,9 @@
 //! Paths, semantics, numbers, indexes and errors.
 
-use crate::shown::{holds, shows};
 use gltf_base::mesh::Semantic;
 use gltf_base::validation::{Checked, Error, USize64};
 use gltf_base::{Index, KeyStep, Path, Real, Step, Steps};
+use gltf_vectors_support::{holds, shows};
 use serde_json::Value;
 use std::alloc::{AllocError, Global};
 use std::collections::HashSet;

@@ -1,0 +1,4 @@
+//! Paths, semantics, numbers, indexes and choices.
+
+mod choices;
+mod values;

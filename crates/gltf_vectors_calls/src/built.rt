@@ -73,26 +73,72 @@ fn line_of(alloc: Global, root: &Root) -> Result<String> {
     }
 }
 
+/// Makes a call for the items of a list of data, if this is one.
+fn call_of_data<D: Built>(
+    alloc: Global,
+    document: &mut D,
+    call: &Value,
+    list: &str,
+) -> Option<Result<String>> {
+    match list {
+        "accessors" => Some(document.call_of::<Accessor>(alloc, call)),
+        "buffers" => Some(document.call_of::<Buffer>(alloc, call)),
+        "bufferViews" => Some(document.call_of::<View>(alloc, call)),
+        "images" => Some(document.call_of::<Image>(alloc, call)),
+        "samplers" => Some(document.call_of::<Sampler>(alloc, call)),
+        _ => None,
+    }
+}
+
+/// Makes a call for the items of a list of what surfaces and views look like, if this is one.
+fn call_of_looks<D: Built>(
+    alloc: Global,
+    document: &mut D,
+    call: &Value,
+    list: &str,
+) -> Option<Result<String>> {
+    match list {
+        "cameras" => Some(document.call_of::<Camera>(alloc, call)),
+        "lights" => Some(document.call_of::<Light>(alloc, call)),
+        "materials" => Some(document.call_of::<Material>(alloc, call)),
+        "textures" => Some(document.call_of::<Texture>(alloc, call)),
+        "variants" => Some(document.call_of::<Variant>(alloc, call)),
+        _ => None,
+    }
+}
+
+/// Makes a call for the items of a list of what is shown, if this is one.
+fn call_of_shown<D: Built>(
+    alloc: Global,
+    document: &mut D,
+    call: &Value,
+    list: &str,
+) -> Option<Result<String>> {
+    match list {
+        "animations" => Some(document.call_of::<Animation>(alloc, call)),
+        "meshes" => Some(document.call_of::<Mesh>(alloc, call)),
+        "nodes" => Some(document.call_of::<Node>(alloc, call)),
+        "scenes" => Some(document.call_of::<Scene>(alloc, call)),
+        "skins" => Some(document.call_of::<Skin>(alloc, call)),
+        _ => None,
+    }
+}
+
 /// Makes a call to a document, for the items of its list, if it names one, and says what it gives.
+// One match over all lists would take many times as long to prove.
 fn make_call<D: Built>(alloc: Global, document: &mut D, call: &Value) -> Result<String> {
-    match call.get("list").and_then(Value::as_str) {
-        None => document.call(alloc, call),
-        Some("accessors") => document.call_of::<Accessor>(alloc, call),
-        Some("animations") => document.call_of::<Animation>(alloc, call),
-        Some("buffers") => document.call_of::<Buffer>(alloc, call),
-        Some("bufferViews") => document.call_of::<View>(alloc, call),
-        Some("cameras") => document.call_of::<Camera>(alloc, call),
-        Some("images") => document.call_of::<Image>(alloc, call),
-        Some("lights") => document.call_of::<Light>(alloc, call),
-        Some("materials") => document.call_of::<Material>(alloc, call),
-        Some("meshes") => document.call_of::<Mesh>(alloc, call),
-        Some("nodes") => document.call_of::<Node>(alloc, call),
-        Some("samplers") => document.call_of::<Sampler>(alloc, call),
-        Some("scenes") => document.call_of::<Scene>(alloc, call),
-        Some("skins") => document.call_of::<Skin>(alloc, call),
-        Some("textures") => document.call_of::<Texture>(alloc, call),
-        Some("variants") => document.call_of::<Variant>(alloc, call),
-        Some(_) => None.context("no such list"),
+    let Some(list) = call.get("list").and_then(Value::as_str) else {
+        return document.call(alloc, call);
+    };
+    if let Some(found) = call_of_data(alloc, document, call, list) {
+        return found;
+    }
+    if let Some(found) = call_of_looks(alloc, document, call, list) {
+        return found;
+    }
+    match call_of_shown(alloc, document, call, list) {
+        Some(found) => found,
+        None => None.context("no such list"),
     }
 }
 

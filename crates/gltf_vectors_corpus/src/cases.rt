@@ -62,22 +62,28 @@ fn is_member_alike(
     Ok(is_alike(rt, text.as_slice())? && is_refused_there(rt, text.as_slice(), title)?)
 }
 
-/// Whether both ways agree on each document of `data/objects.json`, whole, without each member of
-/// its object, and with null in its place.
+/// Whether both ways agree on the document of an object, whole, without each member of the object,
+/// and with null in its place.
+fn is_object_alike(rt: &HostRuntime, object: &Value) -> Result<bool> {
+    let whole = object.get("in").context("no document")?;
+    let place = object.get("at").and_then(Value::as_str);
+    let place = place.context("no place")?;
+    let mut well = is_alike(rt, whole.to_vec(rt.alloc())?.as_slice())?;
+    for (name, _) in object_at(object, "/members")?.iter() {
+        let title = (place, name.as_str());
+        well = is_member_alike(rt, whole, title, None)? && well;
+        well = is_member_alike(rt, whole, title, Some(&Value::Null))? && well;
+    }
+    Ok(well)
+}
+
+/// Whether both ways agree on the documents of each object of `data/objects.json`.
 fn are_objects_alike(rt: &HostRuntime) -> Result<bool> {
     let bytes = fs::read(rt, "objects.json")?;
     let data = Value::from_slice(rt.alloc(), bytes.as_slice())?;
     let mut well = true;
     for object in list_of(&data, "objects")? {
-        let whole = object.get("in").context("no document")?;
-        let place = object.get("at").and_then(Value::as_str);
-        let place = place.context("no place")?;
-        well = is_alike(rt, whole.to_vec(rt.alloc())?.as_slice())? && well;
-        for (name, _) in object_at(object, "/members")?.iter() {
-            let title = (place, name.as_str());
-            well = is_member_alike(rt, whole, title, None)? && well;
-            well = is_member_alike(rt, whole, title, Some(&Value::Null))? && well;
-        }
+        well = is_object_alike(rt, object)? && well;
     }
     Ok(well)
 }

@@ -1,6 +1,6 @@
 //! The tests of paths, choices, containers, layouts, elements, buffers and accessors: texts, files,
-//! places, numbers and faults that are worked by hand. The tests are here because a crate with tests
-//! is proved twice.
+//! places, numbers and faults that are worked by hand. The tests are here because a crate with
+//! tests is proved twice.
 #![tactic(auto)]
 
 #[cfg(test)]

@@ -115,23 +115,31 @@ pub fn enabled_extensions<'a>(
 }
 
 /// The command, as `clap` reads its arguments. `help` is the text at the end of `--help`.
+// Each option has a function: a long chain of calls is expensive to prove (docs/DECISIONS.md,
+// "Long functions").
 pub fn command<'a>(alloc: Global, help: &'a str) -> Result<Command<'a>, AllocError> {
-    let command = Command::new(alloc, "gltf_lint")
+    let command = with_output(alloc, with_files(alloc, help)?)?;
+    with_reports(alloc, with_findings(alloc, command)?)
+}
+
+/// The command with its texts and its files.
+fn with_files<'a>(alloc: Global, help: &'a str) -> Result<Command<'a>, AllocError> {
+    Command::new(alloc, "gltf_lint")
         .version("1.4.1+1")
         .about("Checks glTF 2.0 documents and prints what is wrong in them")
         .after_help(AFTER_HELP)
         .after_long_help(help)
         .arg(arg!(in alloc;
             <FILE>... "A .gltf or .glb file, a folder of them, or - for standard input"
-        ))?
+        ))
+}
+
+/// Adds the options of what is printed.
+fn with_output<'a>(alloc: Global, command: Command<'a>) -> Result<Command<'a>, AllocError> {
+    command
         .arg(arg!(in alloc; --json "Print a JSON object for each line"))?
         .arg(format_argument(alloc)?)?
-        .arg(
-            arg!(in alloc; --max <N> "Print at most N findings for a file").value_parser(
-                value_parser!(u64),
-            ),
-        )?;
-    with_reports(alloc, with_findings(alloc, command)?)
+        .arg(max_argument(alloc)?)
 }
 
 fn format_argument<'a>(alloc: Global) -> Result<Arg<'a>, AllocError> {
@@ -140,33 +148,59 @@ fn format_argument<'a>(alloc: Global) -> Result<Arg<'a>, AllocError> {
         .conflicts_with("json")
 }
 
+fn max_argument<'a>(alloc: Global) -> Result<Arg<'a>, AllocError> {
+    let most = arg!(in alloc; --max <N> "Print at most N findings for a file");
+    Ok(most.value_parser(value_parser!(u64)))
+}
+
 /// Adds the options of findings.
 fn with_findings<'a>(alloc: Global, command: Command<'a>) -> Result<Command<'a>, AllocError> {
-    let severity = arg!(in alloc; --severity <"CODE=LEVEL">... "Give a code another severity");
-    let ignore = arg!(in alloc; --ignore <"CODE[:POINTER]">... "Leave out findings with a code");
-    let fail_on = arg!(in alloc; --"fail-on" <LEVEL> "Findings as severe as this give status 1");
-    let positions =
-        arg!(in alloc; --positions <WHEN> "Print lines and columns; auto: up to 1 MiB of JSON");
     command
-        .arg(severity.conflicts_with("reports")?)?
-        .arg(ignore.conflicts_with("reports")?)?
-        .arg(fail_on.value_parser(LEVELS).conflicts_with("reports")?)?
-        .arg(positions.value_parser(POSITIONS).conflicts_with("reports")?)
+        .arg(severity_argument(alloc)?)?
+        .arg(ignore_argument(alloc)?)?
+        .arg(level_argument(alloc)?)?
+        .arg(positions_argument(alloc)?)
+}
+
+fn severity_argument<'a>(alloc: Global) -> Result<Arg<'a>, AllocError> {
+    let severity = arg!(in alloc; --severity <"CODE=LEVEL">... "Give a code another severity");
+    severity.conflicts_with("reports")
+}
+
+fn ignore_argument<'a>(alloc: Global) -> Result<Arg<'a>, AllocError> {
+    let ignore = arg!(in alloc; --ignore <"CODE[:POINTER]">... "Leave out findings with a code");
+    ignore.conflicts_with("reports")
+}
+
+fn level_argument<'a>(alloc: Global) -> Result<Arg<'a>, AllocError> {
+    arg!(in alloc; --"fail-on" <LEVEL> "Findings as severe as this give status 1")
+        .value_parser(LEVELS)
+        .conflicts_with("reports")
+}
+
+fn positions_argument<'a>(alloc: Global) -> Result<Arg<'a>, AllocError> {
+    arg!(in alloc; --positions <WHEN> "Print lines and columns; auto: up to 1 MiB of JSON")
+        .value_parser(POSITIONS)
+        .conflicts_with("reports")
 }
 
 /// Adds the options of reports.
 fn with_reports<'a>(alloc: Global, command: Command<'a>) -> Result<Command<'a>, AllocError> {
     command
         .arg(arg!(in alloc; --reports "Print the reports of the crate gltf-json, not findings"))?
-        .arg(
-            arg!(in alloc; --enable <NAMES>... "Documents may require these too: A,B")
-                .value_delimiter(',')
-                .help_heading(WITH_REPORTS)
-                .requires_arg("reports")?,
-        )?
-        .arg(
-            arg!(in alloc; --"empty-textures" "Textures may be without an image")
-                .help_heading(WITH_REPORTS)
-                .requires_arg("reports")?,
-        )
+        .arg(enable_argument(alloc)?)?
+        .arg(textures_argument(alloc)?)
+}
+
+fn enable_argument<'a>(alloc: Global) -> Result<Arg<'a>, AllocError> {
+    arg!(in alloc; --enable <NAMES>... "Documents may require these too: A,B")
+        .value_delimiter(',')
+        .help_heading(WITH_REPORTS)
+        .requires_arg("reports")
+}
+
+fn textures_argument<'a>(alloc: Global) -> Result<Arg<'a>, AllocError> {
+    arg!(in alloc; --"empty-textures" "Textures may be without an image")
+        .help_heading(WITH_REPORTS)
+        .requires_arg("reports")
 }

@@ -191,7 +191,7 @@ pub trait Object: Drop {
     /// Returns the object of these members. Fails with `Schema` if a row refuses its member or
     /// lacks it, and with `Memory` if out of memory.
     #[inline(always)]
-    fn decode_members<S: Source>(alloc: Global, found: S::Fields) -> Result<Self, Error>
+    final fn decode_members<S: Source>(alloc: Global, found: S::Fields) -> Result<Self, Error>
         ensures { Reads (λ x. (members x, unknown x)) result
             (take_all rows keeps (S.members found)) }
     {
@@ -230,7 +230,7 @@ pub trait Object: Drop {
     /// Returns the members of this object: each row's onto those that no row names. Fails with
     /// `InvalidItem` if a row's member holds an invalid item or key, and with `Memory` if out of
     /// memory.
-    fn encode_members(&self, alloc: Global) -> Result<Map<String, Value>, Error>
+    final fn encode_members(&self, alloc: Global) -> Result<Map<String, Value>, Error>
         ensures { Writes (λ m. members_view m.entries) result
             (put_rows rows (members self.now) (unknown self.now))
             (some_invalid (members self.now)) }

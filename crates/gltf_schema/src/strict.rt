@@ -52,7 +52,7 @@ pub trait StrictObject: Object {
 
     /// Returns the members of this object as [`Object::encode_members`] does, without nulls for
     /// absent ones.
-    fn encode_strict_members(&self, alloc: Global) -> Result<Map<String, Value>, Error>
+    final fn encode_strict_members(&self, alloc: Global) -> Result<Map<String, Value>, Error>
         ensures { Writes (λ m. members_view m.entries) result
             (put_rows (rows_without_nulls Self.rows) (Self.members self.now)
             (Self.unknown self.now)) (some_invalid (Self.members self.now)) }

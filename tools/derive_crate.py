@@ -125,7 +125,7 @@ class CrateTexts:
             files.marked(source, f"impl Drop for {made.name}", files.end_of(
                 source, f"pub struct {made.name} {{"), self.drop())
             files.count(made, self.drop())
-        if not made.count_required() and (made.base, "new") not in BY_HAND:
+        if self.has_new():
             modules.add(made, made.crate, made.module, self.new())
         modules.add(made, made.crate, made.module, self.object())
         if values := object_values(made):
@@ -182,6 +182,10 @@ class CrateTexts:
         fields += ["others: Map::new(alloc)"] * (not self.is_plain)
         return struct(self.made.name, fields)
 
+    def has_new(self):
+        """Whether `new` is derived."""
+        return not self.made.count_required() and (self.made.base, "new") not in BY_HAND
+
     def new(self):
         """`new` of an object in which no member has to be there."""
         made = self.made
@@ -200,6 +204,8 @@ class CrateTexts:
         made = self.made
         body = self.first_values()
         alloc = "alloc" if any("(alloc)" in line for line in body) else "_alloc"
+        if self.has_new():
+            body = [f"{made.name}::new({alloc if alloc == 'alloc' else ''})"]
         return [self.unfolding("rows", "members"),
                 f"fn start({alloc}: Global) -> {made.name} {{", *indented(body), "}"]
 

@@ -46,14 +46,7 @@ impl Object for Image {
 
     #[tactic(auto, unfolding(crate::specs::Image::image_rows, crate::specs::Image::image_members))]
     fn start(_alloc: Global) -> Image {
-        Image {
-            buffer_view: None,
-            mime_type: None,
-            name: None,
-            uri: None,
-            extensions: None,
-            extras: None,
-        }
+        Image::new()
     }
 
     #[tactic(auto, unfolding(crate::specs::Image::image_rows))]

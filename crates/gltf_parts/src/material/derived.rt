@@ -58,15 +58,7 @@ impl Object for PbrMetallicRoughness {
 
     #[tactic(auto, unfolding(crate::specs::Material::pbr_metallic_roughness_rows, crate::specs::Material::pbr_metallic_roughness_members))]
     fn start(_alloc: Global) -> PbrMetallicRoughness {
-        PbrMetallicRoughness {
-            base_color_factor: PbrBaseColorFactor(None),
-            base_color_texture: None,
-            metallic_factor: StrengthFactor(None),
-            roughness_factor: StrengthFactor(None),
-            metallic_roughness_texture: None,
-            extensions: None,
-            extras: None,
-        }
+        PbrMetallicRoughness::new()
     }
 
     #[tactic(auto, unfolding(crate::specs::Material::pbr_metallic_roughness_rows))]
@@ -257,19 +249,7 @@ impl Object for Material {
 
     #[tactic(auto, unfolding(crate::specs::Material::material_rows, crate::specs::Material::material_members))]
     fn start(_alloc: Global) -> Material {
-        Material {
-            alpha_cutoff: None,
-            alpha_mode: Checked::Valid(AlphaMode::Opaque),
-            double_sided: false,
-            name: None,
-            pbr_metallic_roughness: PbrMetallicRoughness::new(),
-            normal_texture: None,
-            occlusion_texture: None,
-            emissive_texture: None,
-            emissive_factor: EmissiveFactor(None),
-            extensions: None,
-            extras: None,
-        }
+        Material::new()
     }
 
     #[tactic(auto, unfolding(crate::specs::Material::material_rows))]

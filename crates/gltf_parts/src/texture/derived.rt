@@ -50,15 +50,7 @@ impl Object for Sampler {
 
     #[tactic(auto, unfolding(crate::specs::Texture::sampler_rows, crate::specs::Texture::sampler_members))]
     fn start(_alloc: Global) -> Sampler {
-        Sampler {
-            mag_filter: None,
-            min_filter: None,
-            name: None,
-            wrap_s: Checked::Valid(WrappingMode::Repeat),
-            wrap_t: Checked::Valid(WrappingMode::Repeat),
-            extensions: None,
-            extras: None,
-        }
+        Sampler::new()
     }
 
     #[tactic(auto, unfolding(crate::specs::Texture::sampler_rows))]

@@ -47,11 +47,7 @@ impl Object for MorphTarget {
 
     #[tactic(auto, unfolding(crate::specs::Mesh::morph_target_rows, crate::specs::Mesh::morph_target_members))]
     fn start(_alloc: Global) -> MorphTarget {
-        MorphTarget {
-            positions: None,
-            normals: None,
-            tangents: None,
-        }
+        MorphTarget::new()
     }
 
     #[tactic(auto, unfolding(crate::specs::Mesh::morph_target_rows))]

@@ -53,20 +53,7 @@ impl Object for Node {
 
     #[tactic(auto, unfolding(crate::specs::Scene::node_rows, crate::specs::Scene::node_members))]
     fn start(_alloc: Global) -> Node {
-        Node {
-            camera: None,
-            children: None,
-            extensions: None,
-            extras: None,
-            matrix: None,
-            mesh: None,
-            name: None,
-            rotation: None,
-            scale: None,
-            translation: None,
-            skin: None,
-            weights: None,
-        }
+        Node::new()
     }
 
     #[tactic(auto, unfolding(crate::specs::Scene::node_rows))]

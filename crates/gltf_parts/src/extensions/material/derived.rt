@@ -51,16 +51,7 @@ impl Object for Material {
 
     #[tactic(auto, unfolding(crate::specs::MaterialExtension::material_extension_rows, crate::specs::MaterialExtension::material_extension_members))]
     fn start(alloc: Global) -> Material {
-        Material {
-            pbr_specular_glossiness: None,
-            unlit: None,
-            transmission: None,
-            volume: None,
-            specular: None,
-            ior: None,
-            emissive_strength: None,
-            others: Map::new(alloc),
-        }
+        Material::new(alloc)
     }
 
     #[tactic(auto, unfolding(crate::specs::MaterialExtension::material_extension_rows))]

@@ -53,13 +53,7 @@ impl Object for TextureTransform {
 
     #[tactic(auto, unfolding(crate::specs::Texture::texture_transform_rows, crate::specs::Texture::texture_transform_members))]
     fn start(_alloc: Global) -> TextureTransform {
-        TextureTransform {
-            offset: TextureTransformOffset(None),
-            rotation: TextureTransformRotation(None),
-            scale: TextureTransformScale(None),
-            tex_coord: None,
-            extras: None,
-        }
+        TextureTransform::new()
     }
 
     #[tactic(auto, unfolding(crate::specs::Texture::texture_transform_rows))]
@@ -125,10 +119,7 @@ impl Object for Info {
 
     #[tactic(auto, unfolding(crate::specs::Texture::info_extension_rows, crate::specs::Texture::info_extension_members))]
     fn start(alloc: Global) -> Info {
-        Info {
-            texture_transform: None,
-            others: Map::new(alloc),
-        }
+        Info::new(alloc)
     }
 
     #[tactic(auto, unfolding(crate::specs::Texture::info_extension_rows))]

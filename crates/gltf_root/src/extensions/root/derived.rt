@@ -118,11 +118,7 @@ impl Object for Root {
 
     #[tactic(auto, unfolding(crate::specs::RootExtension::root_extension_rows, crate::specs::RootExtension::root_extension_members))]
     fn start(alloc: Global) -> Root {
-        Root {
-            khr_lights_punctual: None,
-            khr_materials_variants: None,
-            others: Map::new(alloc),
-        }
+        Root::new(alloc)
     }
 
     #[tactic(auto, unfolding(crate::specs::RootExtension::root_extension_rows))]

@@ -120,10 +120,7 @@ impl Object for Primitive {
 
     #[tactic(auto, unfolding(crate::specs::Mesh::primitive_extension_rows, crate::specs::Mesh::primitive_extension_members))]
     fn start(alloc: Global) -> Primitive {
-        Primitive {
-            khr_materials_variants: None,
-            others: Map::new(alloc),
-        }
+        Primitive::new(alloc)
     }
 
     #[tactic(auto, unfolding(crate::specs::Mesh::primitive_extension_rows))]

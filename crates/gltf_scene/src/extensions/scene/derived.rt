@@ -45,10 +45,7 @@ impl Object for Node {
 
     #[tactic(auto, unfolding(crate::specs::Scene::node_extension_rows, crate::specs::Scene::node_extension_members))]
     fn start(alloc: Global) -> Node {
-        Node {
-            khr_lights_punctual: None,
-            others: Map::new(alloc),
-        }
+        Node::new(alloc)
     }
 
     #[tactic(auto, unfolding(crate::specs::Scene::node_extension_rows))]

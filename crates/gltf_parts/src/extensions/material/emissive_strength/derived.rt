@@ -45,9 +45,7 @@ impl Object for EmissiveStrength {
 
     #[tactic(auto, unfolding(crate::specs::MaterialExtension::emissive_strength_rows, crate::specs::MaterialExtension::emissive_strength_members))]
     fn start(_alloc: Global) -> EmissiveStrength {
-        EmissiveStrength {
-            emissive_strength: EmissiveStrengthFactor(None),
-        }
+        EmissiveStrength::new()
     }
 
     #[tactic(auto, unfolding(crate::specs::MaterialExtension::emissive_strength_rows))]

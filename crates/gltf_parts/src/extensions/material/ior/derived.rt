@@ -46,10 +46,7 @@ impl Object for Ior {
 
     #[tactic(auto, unfolding(crate::specs::MaterialExtension::ior_rows, crate::specs::MaterialExtension::ior_members))]
     fn start(_alloc: Global) -> Ior {
-        Ior {
-            ior: IndexOfRefraction(None),
-            extras: None,
-        }
+        Ior::new()
     }
 
     #[tactic(auto, unfolding(crate::specs::MaterialExtension::ior_rows))]

@@ -56,15 +56,7 @@ impl Object for PbrSpecularGlossiness {
 
     #[tactic(auto, unfolding(crate::specs::MaterialExtension::pbr_specular_glossiness_rows, crate::specs::MaterialExtension::pbr_specular_glossiness_members))]
     fn start(alloc: Global) -> PbrSpecularGlossiness {
-        PbrSpecularGlossiness {
-            diffuse_factor: PbrDiffuseFactor(None),
-            diffuse_texture: None,
-            specular_factor: PbrSpecularFactor(None),
-            glossiness_factor: StrengthFactor(None),
-            specular_glossiness_texture: None,
-            extras: None,
-            others: Map::new(alloc),
-        }
+        PbrSpecularGlossiness::new(alloc)
     }
 
     #[tactic(auto, unfolding(crate::specs::MaterialExtension::pbr_specular_glossiness_rows))]

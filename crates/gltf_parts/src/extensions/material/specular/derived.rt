@@ -49,13 +49,7 @@ impl Object for Specular {
 
     #[tactic(auto, unfolding(crate::specs::MaterialExtension::specular_rows, crate::specs::MaterialExtension::specular_members))]
     fn start(_alloc: Global) -> Specular {
-        Specular {
-            specular_factor: SpecularFactor(None),
-            specular_texture: None,
-            specular_color_factor: SpecularColorFactor(None),
-            specular_color_texture: None,
-            extras: None,
-        }
+        Specular::new()
     }
 
     #[tactic(auto, unfolding(crate::specs::MaterialExtension::specular_rows))]

@@ -47,11 +47,7 @@ impl Object for Transmission {
 
     #[tactic(auto, unfolding(crate::specs::MaterialExtension::transmission_rows, crate::specs::MaterialExtension::transmission_members))]
     fn start(_alloc: Global) -> Transmission {
-        Transmission {
-            transmission_factor: TransmissionFactor(None),
-            transmission_texture: None,
-            extras: None,
-        }
+        Transmission::new()
     }
 
     #[tactic(auto, unfolding(crate::specs::MaterialExtension::transmission_rows))]

@@ -49,13 +49,7 @@ impl Object for Volume {
 
     #[tactic(auto, unfolding(crate::specs::MaterialExtension::volume_rows, crate::specs::MaterialExtension::volume_members))]
     fn start(_alloc: Global) -> Volume {
-        Volume {
-            thickness_factor: ThicknessFactor(None),
-            thickness_texture: None,
-            attenuation_distance: AttenuationDistance(None),
-            attenuation_color: AttenuationColor(None),
-            extras: None,
-        }
+        Volume::new()
     }
 
     #[tactic(auto, unfolding(crate::specs::MaterialExtension::volume_rows))]

@@ -82,10 +82,7 @@ impl Object for Spot {
 
     #[tactic(auto, unfolding(crate::specs::Light::spot_rows, crate::specs::Light::spot_members))]
     fn start(_alloc: Global) -> Spot {
-        Spot {
-            inner_cone_angle: None,
-            outer_cone_angle: None,
-        }
+        Spot::new()
     }
 
     #[tactic(auto, unfolding(crate::specs::Light::spot_rows))]

@@ -182,6 +182,10 @@ class CrateTexts:
         fields += ["others: Map::new(alloc)"] * (not self.is_plain)
         return struct(self.made.name, fields)
 
+    def takes_alloc(self):
+        """Whether the struct with these values takes an allocator."""
+        return any("(alloc)" in line for line in self.first_values())
+
     def has_new(self):
         """Whether `new` is derived."""
         return not self.made.count_required() and (self.made.base, "new") not in BY_HAND
@@ -189,8 +193,7 @@ class CrateTexts:
     def new(self):
         """`new` of an object in which no member has to be there."""
         made = self.made
-        body = self.first_values()
-        alloc = "alloc: Global" if any("(alloc)" in line for line in body) else ""
+        alloc = "alloc: Global" if self.takes_alloc() else ""
         defaults = f"{{ {made.base}_members result ≡ defaults {made.base}_rows }}"
         clauses = [f"ensures {defaults}"] if self.is_plain else [
             f"ensures known {defaults}",
@@ -198,16 +201,16 @@ class CrateTexts:
         what = NEW.get(made.base, "an object with every member at its default")
         return block(f"impl {made.name}", [
             f"/// Returns {what}.", self.unfolding("rows", "members"),
-            f"pub fn new({alloc}) -> {made.name}", *indented(clauses), "{", *indented(body), "}"])
+            f"pub fn new({alloc}) -> {made.name}", *indented(clauses),
+            "{", *indented(self.first_values()), "}"])
 
     def start(self):
-        made = self.made
-        body = self.first_values()
-        alloc = "alloc" if any("(alloc)" in line for line in body) else "_alloc"
+        name, body = self.made.name, self.first_values()
         if self.has_new():
-            body = [f"{made.name}::new({alloc if alloc == 'alloc' else ''})"]
+            body = [f"{name}::new({'alloc' if self.takes_alloc() else ''})"]
         return [self.unfolding("rows", "members"),
-                f"fn start({alloc}: Global) -> {made.name} {{", *indented(body), "}"]
+                f"fn start({'' if self.takes_alloc() else '_'}alloc: Global) -> {name} {{",
+                *indented(body), "}"]
 
     def first_value(self, row):
         """The value of a row's field before its member is read."""

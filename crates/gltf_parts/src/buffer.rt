@@ -63,7 +63,7 @@ impl Schema for Stride {
 /// Binary data, in a file or in its URI (glTF 2.0, section 5.10).
 #[derive(Clone, Debug)]
 pub struct Buffer {
-    /// The length of the buffer, in bytes.
+    /// How many bytes the data has at least; a `.glb` file may hold up to three more.
     pub byte_length: USize64,
     pub name: Option<String>,
     /// The URI of the data; if absent, the data is in the `.glb` file of the document.

@@ -36,7 +36,9 @@ pub fn decode_text<T: Schema>(alloc: Global, text: &str) -> Result<T, Error>
 /// A place in a document, as a path and as a JSON pointer.
 #[derive(Clone, Debug, Drop, PartialEq)]
 pub struct Place {
-    /// As in a report, for example `accessors[0].count`. Empty for the document itself.
+    /// The names and numbers on the way, for example `accessors[0].count`. An attribute is a member
+    /// like any other, as in `meshes[0].primitives[0].attributes.POSITION`. Empty for the document
+    /// itself.
     pub path: Path,
     /// As a JSON pointer (RFC 6901), for example `/accessors/0/count`.
     pub pointer: String,

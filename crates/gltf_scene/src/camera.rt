@@ -130,7 +130,7 @@ impl Orthographic {
 pub struct Perspective {
     /// The aspect ratio: width divided by height; if absent, that of the viewport.
     pub aspect_ratio: Option<Real>,
-    /// The vertical field of view, in radians.
+    /// The angle between the lowest and the highest direction that the camera sees, in radians.
     pub yfov: Real,
     /// The distance to the far clipping plane, in meters; if absent, it is infinite.
     pub zfar: Option<Real>,

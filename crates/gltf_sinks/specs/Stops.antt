@@ -3,7 +3,7 @@ use Rattle.std.specs.Prelude.{ℕ, List, codes, Option, Some}
 use Rattle.gltf_sinks.specs.declared.sink.Stop.{Stop}
 use Rattle.gltf_sinks.specs.declared.sink.Stop.TheVariants.{StepsFull, Sink}
 
--- of a refusal its own text, where that is known
-abbrev pub stop_text : {R : Type 0} → (R → Option (List ℕ)) → Stop R → Option (List ℕ)
-stop_text refusal_text StepsFull = Some (codes "Path is full")
-stop_text refusal_text (Sink refusal) = refusal_text refusal
+-- the same for every refusal: why a sink refuses is the sink's own
+abbrev pub stop_text : {R : Type 0} → Stop R → Option (List ℕ)
+stop_text StepsFull = Some (codes "Path is full")
+stop_text (Sink refusal) = Some (codes "Report refused")

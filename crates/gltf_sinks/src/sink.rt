@@ -42,22 +42,23 @@ pub enum Stop<R> {
     Sink(R),
 }
 
-impl<R: Display> Display for Stop<R> {
+impl<R> Display for Stop<R> {
     ghost use Rattle.gltf_sinks.specs.Stops.{stop_text};
 
-    ghost output = { stop_text R.output };
+    ghost output = { stop_text };
 
+    /// The text is fixed. The variant holds why the sink refused the report.
     fn fmt<W: Write>(&self, f: &mut Formatter<W>) -> fmt::Result {
         match self {
             Stop::StepsFull => f.write_str("Path is full"),
-            Stop::Sink(refusal) => Display::fmt(refusal, f),
+            Stop::Sink(_) => f.write_str("Report refused"),
         }
     }
 }
 
-impl<R: Debug + Display + Drop> std::error::Error for Stop<R> {}
+impl<R: Debug + Drop> std::error::Error for Stop<R> {}
 
-/// Why a [`Count`] refuses a report. It refuses none, and nothing makes a value of this type.
+/// The [`Sink::Refusal`] of a sink that refuses no report. Nothing makes a value of this type.
 #[derive(Clone, Copy, Debug, Drop, PartialEq, Eq)]
 pub struct NoRefusal {
     _private: (),
@@ -75,8 +76,7 @@ impl Display for NoRefusal {
 
 impl std::error::Error for NoRefusal {}
 
-/// A sink that counts reports. It refuses none, and stops rising at the greatest number it can
-/// hold.
+/// A sink that counts reports. It refuses none. At the greatest number of 64 bits it stops rising.
 #[derive(Clone, Debug, Drop)]
 pub struct Count {
     count: u64,
@@ -99,7 +99,7 @@ impl Count {
 }
 
 impl Sink for Count {
-    type Refusal = NoRefusal;
+    type Refusal = ();
 
     ghost State = { ℕ };
 
@@ -109,7 +109,7 @@ impl Sink for Count {
 
     ghost refuses = { λ _ _ _ _ _. ⊥ };
 
-    fn report(&mut self, _path: &Steps<'_>, _error: Error) -> Result<(), NoRefusal> {
+    fn report(&mut self, _path: &Steps<'_>, _error: Error) -> Result<(), ()> {
         self.count = self.count.saturating_add(1);
         Ok(())
     }

@@ -38,7 +38,7 @@ fn errors_are_printed(rt: HostRuntime) -> Result<(), Fail> {
     )?;
     shows(
         refusals_shown(rt.alloc()),
-        "List is full, Out of memory, Index out of bounds, Path is full, Missing data, device failed",
+        "List is full, Out of memory, Index out of bounds, Path is full, Report refused, device failed",
     )?;
     Ok(())
 }

@@ -9,7 +9,7 @@ mod derived;
 /// The strength and the color of the specular reflection (`KHR_materials_specular`).
 #[derive(Clone, Debug)]
 pub struct Specular {
-    /// The strength of the specular reflection.
+    /// How much of the light is reflected like by a mirror, from 0 to 1.
     pub specular_factor: SpecularFactor,
     /// The texture with the strength in its alpha channel.
     pub specular_texture: Option<Info>,

@@ -2,7 +2,7 @@
 
 `python3 tools/run_readme.py` checks in a moment, without the toolchain: each Rust program is an
 example of `gltf_examples`, each document is a file of `examples/`, each output is part of what
-`rt ci` compares as the output of `gltf_examples`, and README has at most 900 words. The examples of
+`rt ci` compares as the output of `gltf_examples_run`, and README has at most 900 words. The examples of
 a row of its table have each call of the row. Its command that takes the library along copies it
 into a new folder, leaves an equal copy as it is, and refuses a copy that was changed.
 `--run` also runs its commands in a clean copy of this repository: the first one by `rt try`, those
@@ -20,6 +20,8 @@ from pathlib import Path
 
 ROOT = Path(__file__).resolve().parent.parent
 EXAMPLES = ROOT / "crates" / "gltf_examples"
+# The program that runs them: its documents, and what it must print.
+RUN = ROOT / "crates" / "gltf_examples_run"
 LINTER = Path("crates", "gltf_lint", "out", "gltf_lint")
 MOST_WORDS = 900
 BLOCK = re.compile(r"^```(\w+)\n(.*?)^```$", re.S | re.M)
@@ -48,7 +50,7 @@ class Readme:
         for language, body in BLOCK.findall(self.text):
             self.blocks.setdefault(language, []).append(body)
         # What each example prints.
-        parts = re.split(r"^# (\w+)\n", (EXAMPLES / "stdout").read_text(), flags=re.M)
+        parts = re.split(r"^# (\w+)\n", (RUN / "stdout").read_text(), flags=re.M)
         self.outputs = dict(zip(parts[1::2], parts[2::2]))
         self.programs = {}
 
@@ -69,7 +71,7 @@ class Readme:
         for body in self.blocks.get("text", []):
             printed = any(body in output for output in self.outputs.values())
             self.expect(printed, f"no example prints this:\n{body}")
-        for file in (EXAMPLES / "data").glob("*.gltf"):
+        for file in (RUN / "data").glob("*.gltf"):
             shown = ROOT / "examples" / file.name
             same = not shown.exists() or shown.read_text() == file.read_text()
             self.expect(same, f"{file} differs from {shown}")

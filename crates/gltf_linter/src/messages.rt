@@ -2,7 +2,7 @@
 
 ghost use Rattle.std.specs.Prelude.{◌≡◌, ◌++◌, IfOk, OnOk, string_bytes};
 ghost use Rattle.serde_json.specs.View.{view};
-ghost use Rattle.gltf_lint.specs.Lines.{count_text, counts_data, counts_text, files_text, refusals_text, refused_line, severities_text, summary_data, summary_text};
+ghost use Rattle.gltf_linter.specs.Lines.{count_text, counts_data, counts_text, files_text, refusals_text, refused_line, severities_text, summary_data, summary_text};
 
 use crate::refusal::Refusal;
 use crate::tally::Tally;

@@ -5,7 +5,7 @@ use Rattle.serde_json.specs.Data.{Data, number, string, object, member, no_membe
 use Rattle.gltf_lint_lines.specs.Escaped.{escaped}
 use Rattle.gltf_lint_lines.specs.Lines.{line}
 use Rattle.gltf_findings_lines.specs.declared.counts.Counts.{Counts}
-use Rattle.gltf_lint.specs.declared.tally.Tally.{Tally}
+use Rattle.gltf_linter.specs.declared.tally.Tally.{Tally}
 
 -- that a file is refused, as text
 abbrev pub refused_line : List ℕ → List ℕ → List ℕ

@@ -2,7 +2,7 @@
 
 ghost use Rattle.std.specs.Prelude.{◌≡◌, ◌+◌};
 ghost use Rattle.gltf_io.specs.Device.{saturated};
-ghost use Rattle.gltf_lint.specs.Status.{status_of};
+ghost use Rattle.gltf_linter.specs.Status.{status_of};
 
 /// The exit status if a file was refused.
 pub const REFUSED: u8 = 2;

@@ -1,6 +1,5 @@
-//! Runs each example in turn, over the documents in `data/`: those that take paths, over the paths
-//! that it is given. Each module is a whole program: copied to `src/main.rt` of another crate it
-//! runs by itself.
+//! Whole programs to copy: copied to `src/main.rt` of another crate, each module runs by itself. The
+//! program `gltf_examples_run` runs them all, over the documents in its `data/`.
 #![tactic(auto)]
 
 mod builder;
@@ -21,7 +20,8 @@ fn announce(rt: &HostRuntime, name: &str) -> Result<()> {
     Ok(())
 }
 
-fn main(rt: HostRuntime) -> Result<()> {
+/// Runs each example in turn: those that take paths, over the paths that the program is given.
+pub fn run(rt: HostRuntime) -> Result<()> {
     announce(&rt, "checker")?;
     checker::main(rt)?;
     announce(&rt, "exporter")?;

@@ -1,14 +1,11 @@
 pub mod Attributes
-pub mod CodeNames
 pub mod Codes
 pub mod Formats
 pub mod Found
 pub mod Marks
-pub mod Messages
 pub mod Names
 pub mod Places
 pub mod Ranges
 pub mod Repeats
 pub mod Rules
-pub mod Sections
 pub mod Without

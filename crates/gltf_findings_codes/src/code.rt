@@ -4,7 +4,7 @@ ghost use Rattle.std.specs.Prelude.{◌≡◌};
 
 use std::fmt::{self, Display, Formatter, Write};
 
-mod tables;
+mod derived;
 
 /// How severe a finding is.
 #[derive(Clone, Copy, Debug, PartialEq, Eq)]
@@ -292,83 +292,9 @@ pub enum Code {
     UnexpectedExtensionObject,
 }
 
-impl Code {
-    ghost use Rattle.gltf_findings_codes.specs.Codes.{code_severity};
-    ghost use Rattle.gltf_findings_codes.specs.CodeNames.{code_name};
-    ghost use Rattle.gltf_findings_codes.specs.Sections.{code_section};
-    ghost use Rattle.gltf_findings_codes.specs.Messages.{code_message};
-
-    /// Returns the name of the code, as the Khronos glTF-Validator spells it.
-    pub fn name(&self) -> &'static str
-        ensures { result.now ≡ code_name self.now }
-    {
-        tables::name(*self)
-    }
-
-    /// Returns how severe the finding is.
-    pub fn severity(&self) -> Severity
-        ensures { result ≡ code_severity self.now }
-    {
-        match self {
-            Code::ValueNotInList
-            | Code::CameraXmagYmagNegative
-            | Code::CameraYfovGequalPi
-            | Code::KhrMaterialsVolumeDoubleSided
-            | Code::KhrMaterialsVolumeNoTransmission
-            | Code::MaterialAlphaCutoffInvalidMode
-            | Code::AnimationChannelTargetNodeSkin
-            | Code::UnknownAssetMinorVersion
-            | Code::InvalidExtensionNameFormat
-            | Code::MeshPrimitiveNoPosition
-            | Code::MeshPrimitiveIncompatibleMode
-            | Code::MeshPrimitiveGeneratedTangentSpace
-            | Code::MeshPrimitiveTangentWithoutNormal
-            | Code::MeshPrimitiveTangentPoints
-            | Code::MeshPrimitivesUnequalJointsCount
-            | Code::NodeSkinnedMeshWithoutSkin
-            | Code::NodeSkinnedMeshNonRoot
-            | Code::NodeSkinnedMeshLocalTransforms
-            | Code::KhrMaterialsEmissiveStrengthZeroFactor
-            | Code::GlbExtraData
-            | Code::GlbUnknownChunkType
-            | Code::BufferGlbChunkTooBig
-            | Code::NonRelativeUri
-            | Code::UnexpectedProperty => Severity::Warning,
-            Code::UnusedMeshTangent
-            | Code::NodeEmpty
-            | Code::NodeMatrixDefault
-            | Code::UnusedObject
-            | Code::UnusedMeshWeights
-            | Code::UnsupportedExtension
-            | Code::GlbEmptyBinChunk
-            | Code::UriGlb
-            | Code::DataUriGlb
-            | Code::ExtraProperty
-            | Code::NonObjectExtras => Severity::Information,
-            Code::BufferViewTargetMissing => Severity::Hint,
-            _ => Severity::Error,
-        }
-    }
-
-    /// Returns the section of the glTF 2.0 specification that has the rule, or the name of an
-    /// extension. `5` stands for the section of the object.
-    pub fn section(&self) -> &'static str
-        ensures { result.now ≡ code_section self.now }
-    {
-        tables::section(*self)
-    }
-
-    /// Returns what is wrong, as a clause in English.
-    pub fn message(&self) -> &'static str
-        ensures { result.now ≡ code_message self.now }
-    {
-        tables::message(*self)
-    }
-}
-
 impl Display for Code {
     ghost use Rattle.std.specs.Prelude.{Some};
-    ghost use Rattle.gltf_findings_codes.specs.CodeNames.{code_name};
+    ghost use Rattle.gltf_findings_codes.specs.Codes.{code_name};
 
     ghost output = { λ code. Some (code_name code) };
 

@@ -6,7 +6,7 @@ use Rattle.std.proofs.lemmas.Slice.Eq.{bytes_eq-Decides}
 use Rattle.std.specs.BTreeSet.{BTreeSet, contains_text}
 use Rattle.gltf_findings_codes.specs.declared.code.Code.{Code}
 use Rattle.gltf_findings_codes.specs.declared.code.Code.TheVariants.{EmptyEntity, MeshPrimitiveInvalidAttribute}
-use Rattle.gltf_findings_codes.specs.CodeNames.{code_name}
+use Rattle.gltf_findings_codes.specs.Codes.{code_name}
 use Rattle.gltf_findings_members.specs.declared.notice.Notice.{Notice}
 use Rattle.gltf_findings_members.specs.Noted.{noted}
 use Rattle.gltf_findings_lines.specs.Sources.{IsSaidBy, codes_in, has_name, is_named, is_said, pointed, said, says_noted}

@@ -2,8 +2,7 @@
 use Rattle.std.specs.Prelude.{ℕ, List, [], ◌∷◌, Bool, false, ◌&&◌, ◌||◌, ◌==◌, if◌then◌else◌, bytes_eq, length, slice_index, Option, Some, None}
 use Rattle.gltf_base.specs.Names.{behind}
 use Rattle.gltf_findings_codes.specs.declared.code.Severity.{Severity}
-use Rattle.gltf_findings_codes.specs.Codes.{code_severity}
-use Rattle.gltf_findings_codes.specs.CodeNames.{code_name}
+use Rattle.gltf_findings_codes.specs.Codes.{code_name, code_severity}
 use Rattle.gltf_findings_lines.specs.Located.{pointer_of, where_of}
 use Rattle.gltf_findings_lines.specs.declared.choices.Choices.{Choices}
 use Rattle.gltf_findings_lines.specs.declared.choices.Ignored.{Ignored}

@@ -3,10 +3,7 @@ use Rattle.std.specs.Prelude.{◌≡◌, ℕ, List, [], ◌∷◌, ◌++◌, Opt
 use Rattle.std.specs.Fmt.{decimal}
 use Rattle.serde_json.specs.Data.{Data, null, number, string, object, member, no_members, unsigned}
 use Rattle.serde_json.specs.Written.{compact_text}
-use Rattle.gltf_findings_codes.specs.Codes.{severity_name}
-use Rattle.gltf_findings_codes.specs.CodeNames.{code_name}
-use Rattle.gltf_findings_codes.specs.Messages.{code_message}
-use Rattle.gltf_findings_codes.specs.Sections.{code_section}
+use Rattle.gltf_findings_codes.specs.Codes.{code_message, code_name, code_section, severity_name}
 use Rattle.gltf_findings_codes.specs.declared.code.Code.{Code}
 use Rattle.gltf_findings_codes.specs.declared.code.Severity.{Severity}
 use Rattle.gltf_findings_lines.specs.Located.{offset_data, pointer_data, where_of, where_text}

@@ -4,8 +4,7 @@ use Rattle.serde_json.specs.Data.{Data, boolean, number, string, array, object, 
 use Rattle.serde_json.specs.View.{items_of}
 use Rattle.gltf_findings_codes.specs.declared.code.Severity.{Severity}
 use Rattle.gltf_findings_codes.specs.declared.code.Severity.TheVariants.{Error, Warning, Information, Hint}
-use Rattle.gltf_findings_codes.specs.CodeNames.{code_name}
-use Rattle.gltf_findings_codes.specs.Messages.{code_message}
+use Rattle.gltf_findings_codes.specs.Codes.{code_message, code_name}
 use Rattle.gltf_findings_lines.specs.Counted.{counts_of}
 use Rattle.gltf_findings_lines.specs.Info.{info_data}
 use Rattle.gltf_findings_lines.specs.Located.{Where, byte, place, where_of}

@@ -2,8 +2,7 @@
 use Rattle.std.specs.Prelude.{◌≡◌, ℕ, List, [], ◌∷◌, if◌then◌else◌, bytes_eq, Option, Some, None}
 use Rattle.gltf_findings_codes.specs.declared.code.Code.{Code}
 use Rattle.gltf_findings_codes.specs.declared.code.Severity.{Severity}
-use Rattle.gltf_findings_codes.specs.Codes.{severity_name}
-use Rattle.gltf_findings_codes.specs.CodeNames.{code_name}
+use Rattle.gltf_findings_codes.specs.Codes.{code_name, severity_name}
 
 -- the first one of a list with a name
 abbrev pub named_in : {X : Type 0} → (X → List ℕ) → List X → List ℕ → Option X

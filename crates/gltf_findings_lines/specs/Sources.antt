@@ -6,7 +6,7 @@ use Rattle.gltf_base.specs.Pointers.{pointer_text}
 use Rattle.gltf_findings_codes.specs.declared.code.Code.{Code}
 use Rattle.gltf_findings_codes.specs.declared.code.Code.TheVariants.{MeshPrimitiveInvalidAttribute}
 use Rattle.gltf_findings_codes.specs.declared.finding.Finding.{Finding}
-use Rattle.gltf_findings_codes.specs.CodeNames.{code_name}
+use Rattle.gltf_findings_codes.specs.Codes.{code_name}
 use Rattle.gltf_findings_codes.specs.Places.{place_steps}
 use Rattle.gltf_findings_glb.specs.declared.finding.GlbFinding.{GlbFinding}
 use Rattle.gltf_findings_members.specs.declared.notice.Notice.{Notice}

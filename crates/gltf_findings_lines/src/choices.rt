@@ -3,8 +3,7 @@
 ghost use Rattle.std.specs.Prelude.{◌≡◌, IfOk};
 ghost use Rattle.std.specs.Option.{option_copied};
 ghost use Rattle.gltf_base.specs.Names.{behind};
-ghost use Rattle.gltf_findings_codes.specs.CodeNames.{code_name};
-ghost use Rattle.gltf_findings_codes.specs.Codes.{code_severity};
+ghost use Rattle.gltf_findings_codes.specs.Codes.{code_name, code_severity};
 ghost use Rattle.gltf_findings_lines.specs.Chosen.{chosen, is_at_or_below, is_covered, is_ignored, severity_by};
 
 use crate::finding::FileFinding;

@@ -1,8 +1,7 @@
 //! All codes and all severities, by their names.
 
 ghost use Rattle.std.specs.Prelude.{◌≡◌};
-ghost use Rattle.gltf_findings_codes.specs.CodeNames.{code_name};
-ghost use Rattle.gltf_findings_codes.specs.Codes.{severity_name};
+ghost use Rattle.gltf_findings_codes.specs.Codes.{code_name, severity_name};
 ghost use Rattle.gltf_findings_lines.specs.Named.{IsNoCode, IsNoSeverity, named_in};
 
 use gltf_findings_codes::{Code, Severity};

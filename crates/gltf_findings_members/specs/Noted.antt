@@ -5,7 +5,7 @@ use Rattle.gltf_base.specs.Steps.{Step, step_of}
 use Rattle.gltf_findings_codes.specs.declared.code.Code.{Code}
 use Rattle.gltf_findings_members.specs.declared.notice.Notice.{Notice}
 use Rattle.gltf_findings_members.specs.declared.notice.Noticing.{Noticing}
-use Rattle.gltf_findings_codes.specs.CodeNames.{code_name}
+use Rattle.gltf_findings_codes.specs.Codes.{code_name}
 
 -- the JSON pointer (RFC 6901) to a place, and what is wrong there
 abbrev pub Noted : Type 0

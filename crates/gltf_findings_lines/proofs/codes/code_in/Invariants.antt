@@ -1,5 +1,5 @@
 use Rattle.std.proofs.Common.{◌≡◌, drop}
-use Rattle.gltf_findings_codes.specs.CodeNames.{code_name}
+use Rattle.gltf_findings_codes.specs.Codes.{code_name}
 use Rattle.gltf_findings_lines.specs.Named.{named_in}
 use Rattle.gltf_findings_lines.proofs.codes.code_in.Given as goal
 

@@ -1,6 +1,5 @@
 use Rattle.std.proofs.Common.{◌≡◌, drop}
-use Rattle.gltf_findings_codes.specs.CodeNames.{code_name}
-use Rattle.gltf_findings_codes.specs.Codes.{code_severity}
+use Rattle.gltf_findings_codes.specs.Codes.{code_name, code_severity}
 use Rattle.gltf_findings_lines.specs.Chosen.{severity_by}
 use Rattle.gltf_findings_lines.proofs.choices.Choices.severity.Given as goal
 

@@ -4,6 +4,7 @@ import re
 import sys
 
 from gen_pages import anchor
+from settle import parser_of
 from sources import ROOT
 
 PAGES = [*ROOT.glob("*.md"), *ROOT.glob("docs/**/*.md"), *ROOT.glob("examples/**/*.md")]
@@ -32,6 +33,7 @@ def fault(page, link):
 
 
 def main():
+    parser_of(__doc__).parse_args()
     count, faults = 0, []
     for page in sorted(PAGES):
         for link in LINK.findall(BLOCK.sub("", page.read_text())):

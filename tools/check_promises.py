@@ -21,6 +21,7 @@ import sys
 from dataclasses import dataclass, field
 
 from gen_api import ROOT_CRATE, Crates
+from settle import parser_of
 from sources import ROOT, trait_and_type
 from specs import TOKEN, Definitions, bare, paths
 
@@ -320,17 +321,20 @@ def write(check, lines, definitions):
 
 
 def main():
-    arguments = sys.argv[1:]
+    parser = parser_of(__doc__)
+    parser.add_argument("--write", action="store_true", help="record the digests")
+    parser.add_argument("--suggest", metavar="LINE", type=int, nargs="*",
+                        help="print the third cell of these lines, or of those with faults")
+    words = parser.parse_args()
     check = Check()
-    if "--suggest" in arguments:
-        wanted = {int(word) for word in arguments if word.isdigit()}
-        wanted = wanted or {number for number, _ in check.faults}
+    if words.suggest is not None:
+        wanted = set(words.suggest) or {number for number, _ in check.faults}
         for line in check.lines:
             if line.number in wanted:
                 print(f"{line.number}: {check.suggested(line)}")
         return
     lines, definitions = check.found()
-    if "--write" in arguments:
+    if words.write:
         write(check, lines, definitions)
     else:
         check.compare(lines, definitions)
@@ -338,7 +342,7 @@ def main():
         print(f"{PAGE.name}:{number}: {text}" if number else f"{RECORD.name}: {text}")
     print(f"{len(lines)} promises, {len(definitions)} definitions behind them, "
           f"{len(check.faults)} faults")
-    if check.faults and "--write" not in arguments:
+    if check.faults and not words.write:
         print("If a line, or what is behind it, changed: compare it with its clauses, then run "
               "python3 tools/check_promises.py --write")
     sys.exit(1 if check.faults else 0)

@@ -23,7 +23,7 @@ from derive_reported import write_reported
 from derive_rows import definition_lines
 from derive_sources import CRATES
 from derive_walk import Walk
-from settle import settle
+from settle import parser_of, settle
 
 
 def derive(table):
@@ -72,11 +72,15 @@ def report(table, files):
 
 
 def main():
+    parser = parser_of(__doc__)
+    parser.add_argument("--check", action="store_true", help="write nothing, and compare")
+    parser.add_argument("--report", action="store_true", help="only count lines")
+    words = parser.parse_args()
     table = Table()
     if table.problems:
         sys.exit("\n".join(table.problems))
     files = derive(table)
-    if "--report" in sys.argv[1:]:
+    if words.report:
         report(table, files)
         return
     changed = files.changed()
@@ -84,11 +88,10 @@ def main():
         print(problem)
     if not changed and not files.problems:
         print(f"{len(files.after)} files have the lines that derive.py writes")
-    is_check = "--check" in sys.argv[1:]
-    for path in [] if is_check else changed:
+    for path in [] if words.check else changed:
         print(f"{path.relative_to(CRATES.parent)} is written")
         path.parent.mkdir(parents=True, exist_ok=True)
-    settle(changed)
+    settle(changed, words.check)
     sys.exit(1 if files.problems else 0)
 
 

@@ -6,7 +6,7 @@ with status 1 and a short diff if it isn't.
 import re
 import textwrap
 
-from settle import settle
+from settle import is_check, settle
 from sources import ROOT, crates, trait_and_type
 
 PAGE = ROOT / "docs" / "API.md"
@@ -286,7 +286,7 @@ def order(found):
 
 
 def main():
-    settle({PAGE: Page().text()})
+    settle({PAGE: Page().text()}, is_check(__doc__))
 
 
 if __name__ == "__main__":

@@ -12,7 +12,7 @@ What is expected is worked out by hand or by Python's json, never taken from the
 import json
 
 from built_cases import BUILT, FAULTY, FAULTY_WRITTEN, MAPPED, REPORTS, SIX
-from settle import settle
+from settle import is_check, settle
 from sources import ROOT
 
 CORPUS = ROOT / "crates" / "gltf_vectors_corpus"
@@ -673,6 +673,7 @@ def single():
 
 
 def main():
+    check = is_check(__doc__)
     for make in (
         *(numbers, names_twice, lists, places, attributes, texts, nesting, ends, no_text, keeping),
         *(invalid, fronts, single),
@@ -693,7 +694,7 @@ def main():
     ):
         lines = [json.dumps(case_, separators=(",", ":")) + "\n" for case_ in listed]
         files[program / "data" / f"{name}.jsonl"] = "".join(lines)
-    settle(files)
+    settle(files, check)
 
 
 if __name__ == "__main__":

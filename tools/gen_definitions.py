@@ -4,11 +4,11 @@ The definitions are those behind the clauses that docs/PROMISES.md names, as `ch
 finds them. What a file defines is the comment with which it begins. `--check` compares the page
 with both, and ends with status 1 if it has another text.
 """
-import argparse
 import sys
 from collections import defaultdict
 
 from check_promises import Check
+from settle import is_check, settle
 from sources import ROOT
 
 PAGE = ROOT / "docs" / "DEFINITIONS.md"
@@ -109,15 +109,8 @@ def text():
 
 
 def main():
-    parser = argparse.ArgumentParser(description=__doc__.split("\n")[0])
-    parser.add_argument("--check", action="store_true", help="compare the page, and write nothing")
-    arguments = parser.parse_args()
-    made = text()
-    if not arguments.check:
-        PAGE.write_text(made)
-    elif not PAGE.exists() or PAGE.read_text() != made:
-        sys.exit("docs/DEFINITIONS.md isn't current: run python3 tools/gen_definitions.py")
-    print("docs/DEFINITIONS.md is current")
+    check = is_check(__doc__)
+    settle({PAGE: text()}, check)
 
 
 if __name__ == "__main__":

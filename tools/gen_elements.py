@@ -11,7 +11,7 @@ import math
 import struct
 from decimal import Decimal
 
-from settle import settle
+from settle import is_check, settle
 from sources import ROOT
 
 CRATE = ROOT / "crates" / "gltf_vectors_elements"
@@ -456,6 +456,7 @@ def file_at(uri):
 
 
 def main():
+    check = is_check(__doc__)
     files, lines = {}, []
 
     def put(name, content, due):
@@ -496,7 +497,7 @@ def main():
         CRATE / "args": "".join(name + "\n" for name in args),
         CRATE / "stdout": "".join(line + "\n" for line in lines),
         **{CRATE / "data" / name: content for name, content in files.items()},
-    })
+    }, check)
 
 
 def with_uri(made):

@@ -16,7 +16,7 @@ import re
 import sys
 
 from object_forms import FORMS
-from settle import settle
+from settle import is_check, settle
 from sources import ROOT
 from table import ABSENT, CHOICES, INVALID, KEEPERS, MEANT, OBJECTS, REFUSED
 from table import answer, answer_of_object
@@ -229,4 +229,5 @@ def data():
 
 
 if __name__ == "__main__":
-    settle({CORPUS / "data" / "objects.json": "".join(f"{line}\n" for line in data())})
+    check = is_check(__doc__)
+    settle({CORPUS / "data" / "objects.json": "".join(f"{line}\n" for line in data())}, check)

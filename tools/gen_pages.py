@@ -10,7 +10,7 @@ import sys
 
 from gen_api import Page, documented, within
 from run_readme import rows_of
-from settle import settle
+from settle import is_check, settle
 from sources import ROOT, trait_and_type
 
 FOLDER = ROOT / "docs" / "api"
@@ -199,18 +199,19 @@ def contents(pages):
 
 
 def main():
+    check = is_check(__doc__)
     pages, shown, promised = {}, examples(), promises()
     for crate in CRATES:
         pages.update(Pages(crate, shown, promised).pages())
     pages[FOLDER / "README.md"] = contents(pages)
     FOLDER.mkdir(exist_ok=True)
-    settle(pages)
+    settle(pages, check)
     old = [path for path in FOLDER.glob("*.md") if path not in pages]
     for path in old:
         print(f"{path.relative_to(ROOT)} is no module's page any more")
-        if "--check" not in sys.argv[1:]:
+        if not check:
             path.unlink()
-    sys.exit(1 if old and "--check" in sys.argv[1:] else 0)
+    sys.exit(1 if old and check else 0)
 
 
 if __name__ == "__main__":

@@ -11,6 +11,8 @@ import re
 import struct
 import sys
 
+from settle import is_check
+
 CRATE = pathlib.Path(__file__).resolve().parent.parent / "crates" / "gltf_lint"
 BLANKS = b" \t\r\n"
 TEXT = re.compile(rb'"(?:[^"\\]|\\.)*"', re.DOTALL)
@@ -126,11 +128,12 @@ def with_position(line, texts):
 
 
 def main():
+    check = is_check(__doc__)
     path = CRATE / "stdout"
     old = path.read_text()
     texts = {}
     new = "".join(with_position(line, texts) + "\n" for line in old.splitlines())
-    if "--check" not in sys.argv[1:]:
+    if not check:
         path.write_text(new)
         return
     if new != old:

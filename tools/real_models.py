@@ -17,6 +17,7 @@ import tempfile
 from collections import Counter
 from pathlib import Path
 
+from settle import parser_of
 from sources import ROOT
 
 LINTER = ROOT / "crates" / "gltf_lint" / "out" / "gltf_lint"
@@ -83,10 +84,13 @@ def tail(file):
 
 
 def main():
+    parser = parser_of(__doc__)
+    parser.add_argument("folder", nargs="?", metavar="FOLDER", help="where the documents are")
+    given = parser.parse_args().folder
     if not LINTER.exists():
         sys.exit("gltf_lint isn't built: `rt run -- --help` in crates/gltf_lint builds it")
-    if len(sys.argv) > 1:
-        lines = lines_over(sys.argv[1])
+    if given:
+        lines = lines_over(given)
     else:
         with tempfile.TemporaryDirectory() as folder:
             lines = lines_over(unpacked(folder))

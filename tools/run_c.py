@@ -26,6 +26,7 @@ import tempfile
 from pathlib import Path
 
 from gen_positions import places_in, position
+from settle import parser_of
 
 ROOT = Path(__file__).resolve().parent.parent
 CRATE = ROOT / "crates" / "gltf_c"
@@ -178,11 +179,11 @@ def first_of(*names):
     return next((name for name in names if name and shutil.which(name)), None)
 
 
-def libraries():
+def libraries(is_built):
     """Proves and builds the library. Returns it, and the kit's library by which it allocates."""
     if not shutil.which("rt"):
         raise Failed("rt isn't on the PATH: README.md says how to get it there")
-    if "--built" not in sys.argv[1:]:
+    if not is_built:
         run("rt", "lib", cwd=CRATE)
     page = subprocess.run(["rt", "doc"], capture_output=True, text=True, check=True).stdout.strip()
     return CRATE / "out" / "libgltf_c.a", Path(page).parent / "c" / "liblibc_c.a"
@@ -376,7 +377,11 @@ def cmake_faults(home):
 
 
 def main():
-    own, kit = libraries()
+    parser = parser_of(__doc__)
+    parser.add_argument("--built", action="store_true", help="take the library as it is in out/")
+    parser.add_argument("--dist", action="store_true", help="also try the archive")
+    words = parser.parse_args()
+    own, kit = libraries(words.built)
     cc = first_of(os.environ.get("CC"), "cc", "gcc", "clang")
     rustc = first_of(os.environ.get("RUSTC"), "rustc")
     ways = [
@@ -394,7 +399,7 @@ def main():
         if cc:
             count += more_faults(cc, Path(folder), own, kit)
             count += linking_faults(rustc)
-    if "--dist" in sys.argv[1:]:
+    if words.dist:
         count += archive_faults()
     sys.exit(1 if count else 0)
 

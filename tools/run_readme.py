@@ -18,6 +18,8 @@ import sys
 import tempfile
 from pathlib import Path
 
+from settle import parser_of
+
 ROOT = Path(__file__).resolve().parent.parent
 EXAMPLES = ROOT / "crates" / "gltf_examples"
 # The program that runs them: its documents, and what it must print.
@@ -185,9 +187,12 @@ def shell(commands, folder, **names):
 
 
 def main():
+    parser = parser_of(__doc__)
+    parser.add_argument("--run", action="store_true", help="also run commands and programs")
+    words = parser.parse_args()
     readme = Readme()
     readme.check()
-    if "--run" in sys.argv[1:] and not readme.faults:
+    if words.run and not readme.faults:
         readme.run()
     for fault in readme.faults:
         print(fault)

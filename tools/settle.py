@@ -1,5 +1,6 @@
 """Writes files that are made by a script, or with `--check` compares them with what is there. The
 content of a file is a text, or bytes."""
+import argparse
 import difflib
 import sys
 
@@ -13,10 +14,24 @@ def bytes_of(content):
     return content if isinstance(content, bytes) else content.encode()
 
 
-def settle(files):
-    """Writes each content to its path. With `--check` it writes nothing, and ends with status 1 and
-    a short diff if a file has another content."""
-    if "--check" not in sys.argv[1:]:
+def parser_of(words):
+    """What reads the arguments of a script, whose docstring is `words`."""
+    return argparse.ArgumentParser(description=words,
+                                   formatter_class=argparse.RawDescriptionHelpFormatter)
+
+
+def is_check(words):
+    """Reads the arguments of a script that writes, or with `--check` compares."""
+    parser = parser_of(words)
+    parser.add_argument("--check", action="store_true",
+                        help="write nothing, and end with status 1 if something would be written")
+    return parser.parse_args().check
+
+
+def settle(files, check):
+    """Writes each content to its path. To check, it writes nothing, and ends with status 1 and a
+    short diff if a file has another content."""
+    if not check:
         for path, content in files.items():
             path.write_bytes(bytes_of(content))
         return

@@ -1,5 +1,6 @@
 """Reads the items of the crates' sources: what each module declares and re-exports, with
 docstrings, signatures, contract clauses and ghost members. Bodies are skipped."""
+import functools
 import re
 from dataclasses import dataclass, field
 from pathlib import Path
@@ -425,7 +426,8 @@ def crate_lines(text):
     return lines
 
 
+@functools.cache
 def crates():
-    """The crates of the repository, each as its module."""
+    """The crates of the repository, each as its module. They are read once."""
     names = crate_lines((ROOT / "crates.txt").read_text())
     return {name: Reader(name).crate_module() for name in names}

@@ -12,6 +12,7 @@ each object are derived."""
 import re
 import sys
 
+from blocks import Wrong
 from derive_choices import write_choices
 from derive_codes import write_codes
 from derive_crate import Modules
@@ -71,7 +72,7 @@ def report(table, files):
         print(f"  {of}, {what}: {reason}")
 
 
-def main():
+def run():
     parser = parser_of(__doc__)
     parser.add_argument("--check", action="store_true", help="write nothing, and compare")
     parser.add_argument("--report", action="store_true", help="only count lines")
@@ -93,6 +94,13 @@ def main():
         path.parent.mkdir(parents=True, exist_ok=True)
     settle(changed, words.check)
     sys.exit(1 if files.problems else 0)
+
+
+def main():
+    try:
+        run()
+    except Wrong as wrong:
+        sys.exit(str(wrong))
 
 
 if __name__ == "__main__":

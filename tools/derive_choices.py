@@ -6,6 +6,7 @@ import sys
 import textwrap
 from dataclasses import dataclass, field
 
+from blocks import cases_of
 from derive_crate import DERIVED
 from derive_layout import block, ghosts, header, indented
 from derive_names import BASE, ghost_words, use_line, used
@@ -15,11 +16,11 @@ from sources import ROOT
 
 SPECS = CRATES / BASE / "specs"
 NAMES = SPECS / "GlNames.antt"
-SPELLING = re.compile(r"(?m)^abbrev pub (\w+)_spelling : (\w+) → Spelling\n((?:\1_spelling .*\n)+)")
-SPELLED = re.compile(r'_spelling \w+\.(\w+) = (?:by_number (\d+)|by_name \(codes "([^"]*)"\))\n')
+SPELLING = re.compile(r"(?m)^abbrev pub (\w+)_spelling : (\w+) → Spelling\n((?:.+\n)+)")
+SPELLED = r'\w+\.(\w+) = (?:by_number (\d+)|by_name \(codes "([^"]*)"\))'
 INNER = re.compile(r"_spelling c = (\w+)_spelling c\.0\n")
 LISTED = re.compile(r"(?m)^abbrev pub (\w+) : List (\w+)\n\1 =([^\[]*)\[\]$")
-NAMED = re.compile(r'(?m)^(\w+)_name \w+\.(\w+) = codes "([^"]*)"$')
+NAMED = r'\w+\.(\w+) = codes "([^"]*)"'
 DECLARED = re.compile(rf"(?m)^use Rattle\.{BASE}\.specs\.declared\.([\w.]+)\.(\w+)\.{{\2}}$")
 # What the derived text names.
 GHOSTS = {
@@ -117,9 +118,10 @@ class Choices:
         self.choices, self.bases = {}, {}
         for path in sorted(SPECS.glob("*Choices.antt")):
             self.read(path, path.read_text())
-        for base, variant, name in NAMED.findall(NAMES.read_text()):
+        for base in re.findall(r"(?m)^abbrev pub (\w+)_name : ", NAMES.read_text()):
             if base in self.bases:
-                self.bases[base].names[variant] = name
+                named = cases_of(NAMES, f"{base}_name", NAMED)
+                self.bases[base].names.update(groups for _, groups in named)
             else:
                 self.miss(NAMES, f"{base}_name", f"there is no `{base}_spelling`")
         for made in self.choices.values():
@@ -137,7 +139,8 @@ class Choices:
             if inner := INNER.search(lines):
                 made.inner = self.bases[inner.group(1)]
                 made.by_number = made.inner.by_number
-            for variant, number, spelled in SPELLED.findall(lines):
+            for _, (variant, number, spelled) in [] if made.inner else cases_of(
+                    path, f"{base}_spelling", SPELLED):
                 made.spelled[variant], made.by_number = number or spelled, bool(number)
             self.choices[name] = self.bases[base] = made
         for list_name, name, items in LISTED.findall(text):

@@ -7,6 +7,7 @@ and the first four cells of the rows in docs/FINDINGS.md. The cells behind them 
 import re
 from dataclasses import dataclass
 
+from blocks import Wrong, cases_of, variants_of
 from derive_layout import LINE, block, header, indented
 from derive_sources import CRATES
 from sources import ROOT
@@ -18,9 +19,8 @@ LINES = CRATES / "gltf_findings_lines"
 PAGE = ROOT / "docs" / "FINDINGS.md"
 SPEC = "Rattle.gltf_findings_codes.specs"
 TEXT = r'"((?:[^"\\]|\\.)*)"'
-ENTRY = re.compile(rf"code_entry code\.(\w+) = entry {TEXT} (\w+) {TEXT} {TEXT}")
-SPELLED = re.compile(rf"name_text name\.«?(\w+)»? = codes {TEXT}")
-VARIANT = re.compile(r"    (\w+),")
+ENTRY = rf"code\.(\w+) = entry {TEXT} (\w+) {TEXT} {TEXT}"
+SPELLED = rf"name\.«?(\w+)»? = codes {TEXT}"
 # The tables of the page that have severities, and their rows.
 TITLES = "| Code | Severity | Section | Says |"
 ROW = re.compile(r"\| `([A-Z0-9_]+)` \|")
@@ -40,43 +40,19 @@ class Entry:
         return f"| `{self.name}` | {self.severity.lower()} | {self.section} | {self.message} |"
 
 
-def read_block(files, path, head, end, pattern, passed=r"$^"):
-    """The matches of a pattern in the lines between `head` and the next line that is `end`. A line
-    that neither it nor `passed` matches is a fault."""
-    lines = path.read_text().split("\n")
-    if head not in lines:
-        files.miss(path, 1, f"there is no line: {head}")
-        return []
-    first, found = lines.index(head) + 1, []
-    for number, line in enumerate(lines[first:], first + 1):
-        if line == end:
-            break
-        if match := re.fullmatch(pattern, line):
-            found.append((number, match.groups()))
-        elif not re.fullmatch(passed, line):
-            files.miss(path, number, f"the script can't read this line: {line.strip()}")
-    return found
-
-
-def variants(files, path, name):
-    """The variants of an enum, each with its line. A comment stands on lines of its own."""
-    return {groups[0]: number for number, groups in
-            read_block(files, path, f"pub enum {name} {{", "}", VARIANT, r"    ///? .*|    //")}
-
-
-def table_of(files, path, enum, head, pattern, source):
+def table_of(path, name, pattern, source, enum):
     """The lines of a table in specs/, in the order of the enum. Each variant has exactly one."""
-    known, found = variants(files, source, enum), {}
-    for number, groups in read_block(files, path, head, "", pattern):
+    known, found = variants_of(source, enum), {}
+    for number, groups in cases_of(path, name, pattern):
         if groups[0] not in known:
-            files.miss(path, number, f"{enum} has no variant {groups[0]}")
-        elif groups[0] in found:
-            files.miss(path, number, f"{groups[0]} has a line already")
+            raise Wrong(path, number, f"{enum} has no variant {groups[0]}")
+        if groups[0] in found:
+            raise Wrong(path, number, f"{groups[0]} has a line already")
         found[groups[0]] = groups
-    for name, number in known.items():
-        if name not in found:
-            files.miss(source, number, f"{name} has no line in {path.relative_to(ROOT)}")
-    return [found[name] for name in known if name in found]
+    for one, number in known.items():
+        if one not in found:
+            raise Wrong(source, number, f"{one} has no line in {path.relative_to(ROOT)}")
+    return [found[one] for one in known]
 
 
 def function(docs, name, result, clause, arms):
@@ -116,7 +92,7 @@ def write_functions(files, entries):
 
 def write_names(files):
     """Writes `src/name/derived.rt`."""
-    rows = table_of(files, SPELLING, "Name", "abbrev pub name_text : Name → List ℕ", SPELLED, NAME)
+    rows = table_of(SPELLING, "name_text", SPELLED, NAME, "Name")
     arms = [line for name, text in rows for line in arm(f"Name::{name}", f'"{text}"')]
     files.whole(CODES / "src" / "name" / "derived.rt", [
         *header([NAME, SPELLING], "//!"), "",
@@ -165,8 +141,7 @@ def write_page(files, entries):
 
 
 def write_codes(files):
-    entries = [Entry(*groups) for groups in
-               table_of(files, TABLE, "Code", "abbrev pub code_entry : Code → Entry", ENTRY, CODE)]
+    entries = [Entry(*groups) for groups in table_of(TABLE, "code_entry", ENTRY, CODE, "Code")]
     write_functions(files, entries)
     write_names(files)
     write_list(files, entries)

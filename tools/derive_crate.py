@@ -3,11 +3,12 @@
 values of factors, and in `specs/` that its kind is sound and how high it is. An object with rows
 that are written as null, in itself or below it, also has `StrictObject`, and the objects beside
 those rows a lemma."""
+from blocks import Wrong
 from derive_exceptions import BY_HAND, FACTS, NEW, Fact
 from derive_factors import Factor, object_values
 from derive_layout import block, call, ghosts, header, indented, struct
 from derive_names import RUST_NAMES, SCHEMA, antt_uses, rust_uses, tactic_names
-from derive_rows import Wrong, text_of
+from derive_rows import text_of
 from derive_sources import CRATES
 
 # The name of the module with the derived text of a module.

@@ -3,9 +3,10 @@ rows, the kind and the members in `specs/`. What doesn't fit is refused with its
 import re
 from dataclasses import dataclass, field
 
+from blocks import Wrong, cases_of, number_of
 from derive_exceptions import FIELDS
 from derive_names import GHOST_NAMES, SCHEMA
-from derive_rows import Terms, Wrong, inner_kind, read_members, renamed, text_of
+from derive_rows import Terms, inner_kind, read_members, renamed, text_of
 from derive_sources import CRATES, Sources
 from sources import ROOT
 from specs import OWN, Definitions
@@ -13,8 +14,7 @@ from specs import OWN, Definitions
 # A pattern that no type has.
 NO_TYPE = "(?!)"
 # How many members may have to be there, as the crate that reads rows has it.
-MOST_REQUIRED = int(re.search(r"const MOST_REQUIRED: usize = (\d+);",
-                              (CRATES / SCHEMA / "src/stream.rt").read_text())[1])
+READS_ROWS = CRATES / SCHEMA / "src" / "stream.rt"
 
 
 @dataclass
@@ -87,12 +87,12 @@ class Table:
         self.problems, self.objects, self.trees = [], {}, {}
         # The modules of named trees, and the factors that fields have.
         self.tree_modules, self.factors = {}, {}
-        text = (CRATES / SCHEMA / "specs/Silence.antt").read_text()
-        self.silent = set(re.findall(r"(?m)^  is_silent \(?(\w+)(?: n\))? = true", text))
-        self.silent_rules = set(re.findall(r"is_silent_rule (\w+) = true", text))
-        text = (CRATES / SCHEMA / "specs/Height.antt").read_text()
-        self.rule_heights = {rule: int(n) for rule, n in
-                             re.findall(r"rule_height (\w+) = (\d+)", text)}
+        self.most_required = number_of(READS_ROWS, "MOST_REQUIRED")
+        specs = CRATES / SCHEMA / "specs"
+        self.silent = said_of(specs / "Silence.antt", "is_silent", "true")
+        self.silent_rules = said_of(specs / "Silence.antt", "is_silent_rule", "true")
+        heights = cases_of(specs / "Height.antt", "rule_height", r"(\w+) = (\d+)")
+        self.rule_heights = {rule: int(height) for _, (rule, height) in heights}
         self.read_kinds()
         self.read_trees()
         for fit in (self.read_object, self.fit_types):
@@ -175,10 +175,11 @@ class Table:
     def read_object(self, made):
         path = made.spec_path()
         made.rows = Terms(path, f"{made.base}_rows").rows()
-        if made.count_required() > MOST_REQUIRED:
-            row = [row for row in made.rows if row.mark[0] == "required"][MOST_REQUIRED]
+        most = self.most_required
+        if made.count_required() > most:
+            row = [row for row in made.rows if row.mark[0] == "required"][most]
             raise Wrong(path, row.line, f"the row '{row.name}' is required, and an object can have "
-                        f"at most {MOST_REQUIRED} such rows (MOST_REQUIRED of {SCHEMA})")
+                        f"at most {most} such rows (MOST_REQUIRED of {SCHEMA})")
         line = line_of(path, rf"unfoldable pub {made.base}_members : ")
         typed = re.search(rf"(?m)^unfoldable pub {made.base}_members : (\w+) → Trees$",
                           path.read_text())
@@ -438,6 +439,12 @@ class Table:
                 made, inner_kind(kind))
         inner = self.object_of(made, kind)
         return self.height(inner) if inner else 0
+
+
+def said_of(path, name, value):
+    """The first words of the cases in which a definition has a value."""
+    return {first for _, (first, said) in cases_of(path, name, r"\(?(\w+).*? = (.+)")
+            if said == value}
 
 
 def refused(fit, made):

@@ -4,18 +4,11 @@ A term is a tuple of words and terms: `always (whole 0)` is `("always", ("whole"
 import re
 from dataclasses import dataclass
 
-from sources import ROOT
+from blocks import Wrong
 
 # The marks, with the number of words of each.
 MARKS = {"required": 1, "optional": 1, "sometimes": 1, "or_null": 1, "always": 2, "unless": 2}
 TOKEN = re.compile(r'"[^"]*"|[(),]|[^\s(),"]+')
-
-
-class Wrong(Exception):
-    """What is wrong with the text that is written by hand, and where."""
-
-    def __init__(self, path, line, message):
-        super().__init__(f"{path.relative_to(ROOT)}:{line}: {message}")
 
 
 @dataclass

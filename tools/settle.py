@@ -37,12 +37,11 @@ def settle(files, check):
         return
     stale = [path for path, content in files.items()
              if not path.exists() or path.read_bytes() != bytes_of(content)]
-    for path in files:
-        name = path.relative_to(ROOT)
-        if path not in stale:
-            print(f"{name} is current")
-            continue
-        print(f"{name} is not current: run python3 {sys.argv[0]}")
+    if files and not stale:
+        first = next(iter(files)).relative_to(ROOT)
+        print(f"{first} is current" if len(files) == 1 else f"{len(files)} files are current")
+    for path in stale:
+        print(f"{path.relative_to(ROOT)} is not current: run python3 {sys.argv[0]}")
         if isinstance(files[path], bytes):
             continue
         there = path.read_text().split("\n") if path.exists() else []

@@ -2,6 +2,7 @@
 docstrings, signatures, contract clauses and ghost members. Bodies are skipped."""
 import functools
 import re
+import sys
 from dataclasses import dataclass, field
 from pathlib import Path
 
@@ -57,6 +58,8 @@ class Scanner:
             rest = self.text[self.at:self.at + 4]
             if rest[0].isspace():
                 self.at += 1
+            elif rest.startswith("/*"):
+                self.remark()
             elif rest.startswith("//"):
                 line = self.line()
                 if line.startswith("//!"):
@@ -98,11 +101,25 @@ class Scanner:
         while self.at < len(self.text) and self.text[self.at].isspace():
             self.at += 1
 
+    def remark(self):
+        """Goes past a comment between marks, in which others may stand."""
+        depth = 0
+        for mark in re.compile(r"/\*|\*/").finditer(self.text, self.at):
+            depth += 1 if mark[0] == "/*" else -1
+            if depth == 0:
+                self.at = mark.end()
+                return
+        raise ValueError("a comment doesn't end")
+
     def step(self):
         """Goes past one character, or past a whole text, character literal or comment."""
         text, at = self.text, self.at
         if text.startswith("//", at):
             self.line()
+        elif text.startswith("/*", at):
+            self.remark()
+        elif raw := re.compile(r'b?r(#*)"').match(text, at):
+            self.at = text.index(f'"{raw[1]}', raw.end()) + 1 + len(raw[1])
         elif text[at] == '"':
             self.at += 1
             while text[self.at] != '"':
@@ -134,6 +151,8 @@ class Scanner:
                 depth += 1 if here == "<" else -1
             if here in CLOSING:
                 self.balanced()
+            elif re.compile(r'b?r#*"').match(self.text, self.at):
+                self.step()
             elif word := self.word():
                 if word in words:
                     break
@@ -145,7 +164,7 @@ class Scanner:
 
 def shortened(text):
     """A signature in one line, without comments."""
-    text = re.sub(r"//[^\n]*", "", text)
+    text = re.sub(r"//[^\n]*|/\*.*?\*/", "", text, flags=re.S)
     text = SPACE.sub(" ", text).strip().removesuffix(",")
     text = re.sub(r"([(\[<]) ", r"\1", text)
     return re.sub(r",? ([)\]>])(?!=)", lambda m: m.group(1) if m.group(1) != ">" else " >", text)
@@ -225,10 +244,15 @@ class Reader:
 
     def items(self, scanner, module, end=None):
         """Reads items up to `end`, or to the end of the text."""
-        while scanner.skip():
-            if scanner.text[scanner.at] == end:
-                return
-            self.item(scanner, module)
+        file, line = scanner.place()
+        try:
+            while scanner.skip():
+                file, line = scanner.place()
+                if scanner.text[scanner.at] == end:
+                    return
+                self.item(scanner, module)
+        except (AttributeError, IndexError, KeyError, TypeError, ValueError) as error:
+            sys.exit(f"{file}:{line}: the script can't read this, or what is behind it: {error}")
 
     def item(self, scanner, module):
         docs, attributes = scanner.docs, scanner.attributes

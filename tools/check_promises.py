@@ -20,7 +20,7 @@ import re
 import sys
 from dataclasses import dataclass, field
 
-from gen_api import ROOT_CRATE, Crates
+from api_items import ROOT_CRATE, Crates
 from settle import parser_of
 from sources import ROOT, trait_and_type
 from specs import TOKEN, Definitions, bare, paths

@@ -2,13 +2,17 @@
 full: its docstring, its signature, what its call requires, what its clauses promise in the words of
 docs/PROMISES.md, the example that README names, and a link to its line in the source.
 
+An item has a section under the name that users write, on the page of the deepest module that names
+it. docs/api/INDEX.md lists all items and their functions by name. The script fails if a page has two
+equal headings, or if a name that a crate exports has no section.
+
 `python3 tools/gen_pages.py` writes the pages; `--check` says whether they are current, and ends with
 status 1 and a short diff if one isn't.
 """
 import re
 import sys
 
-from gen_api import Page, documented, within
+from api_items import Items, within
 from run_readme import rows_of
 from settle import is_check, settle
 from sources import ROOT, trait_and_type
@@ -61,15 +65,12 @@ def promises():
     return found
 
 
-class Pages(Page):
-    """The pages of one crate."""
+class Pages(Items):
+    """The pages of one crate. `listed` has the sections: a name, its link and its first sentence."""
 
     def __init__(self, crate, shown, promised):
-        self.crate, self.shown, self.promised = crate, shown, promised
-        super().__init__()
-        self.collect(self.crates.roots[crate], (crate,))
-        self.place()
-        self.hide()
+        super().__init__(crate)
+        self.shown, self.promised, self.listed, self.titles = shown, promised, [], {}
 
     def pages(self):
         return {FOLDER / file_name(path): self.page(path, doc, names)
@@ -85,13 +86,14 @@ class Pages(Page):
             lines += [f"Modules: {', '.join(links)}.", ""]
         if items:
             lines += ["| Item | What it is |", "|---|---|"]
-            lines += [f"| [`{item.name}`](#{anchor(item.name)}) | {cell(item.doc)} |"
-                      for item, _ in items]
+            lines += [f"| [`{name}`](#{anchor(self.title(name, item))}) | {cell(item.doc)} |"
+                      for name, item, _ in items]
             lines.append("")
         if others:
             lines += [f"Also named here: {', '.join(others)}.", ""]
-        for item, behind in items:
-            lines += self.item(item, behind)
+        for name, item, behind in items:
+            lines += self.item(path, name, item, behind)
+        check_headings(path, lines)
         return "\n".join(lines).rstrip("\n") + "\n"
 
     def sorted_items(self, path, names):
@@ -100,44 +102,68 @@ class Pages(Page):
         for name in sorted(names, key=str.lower):
             found = names[name]
             if found[0] == "kit":
+                if found[1].split("::")[0].startswith("gltf_"):
+                    sys.exit(f"{'::'.join(path)}: nothing is known of {name} ({found[1]})")
                 others.append(f"`{name}` (of `{found[1].split('::')[0]}`)")
             elif self.places[id(found[2])][2:] != (path, name):
                 place, own = self.places[id(found[2])][2:]
-                others.append(f"[`{name}`]({file_name(place)}#{anchor(own)})")
+                title = self.title(own, found[2])
+                others.append(f"[`{name}`]({file_name(place)}#{anchor(title)})")
             else:
-                items.append((found[2], self.only_behind(found)))
+                items.append((name, found[2], self.only_behind(found)))
         return items, others
 
-    def item(self, item, behind):
-        lines = [f"## {item.name}", "", *prose(item.docs), ""]
-        lines += ["```rust", *self.declared(item), "```", "", *self.facts(item, item.name)]
+    def functions(self, item):
+        """The public functions of a type, each with the impl that it is in."""
+        blocks = self.blocks.get(id(item), []) if item.kind in ("struct", "enum") else []
+        return [(block, made) for block in blocks if not trait_and_type(block)[0]
+                for made in block.members if made.public]
+
+    def title(self, name, item):
+        """What the section of an item is called: its name, unless a function's has the same link."""
+        if name not in self.titles:
+            named = {anchor(f"{other}::{made.name}") for other, one in self.named_items()
+                     for _, made in self.functions(one)}
+            self.titles[name] = f"{name} ({item.kind})" if anchor(name) in named else name
+        return self.titles[name]
+
+    def named_items(self):
+        return [(name, found[2]) for _, _, names in self.modules
+                for name, found in names.items() if found[0] == "item"]
+
+    def list(self, path, name, title, doc):
+        self.listed.append((name, f"{file_name(path)}#{anchor(title)}", cell(doc)))
+
+    def item(self, path, name, item, behind):
+        title = self.title(name, item)
+        self.list(path, name, title, item.doc)
+        lines = [f"## {title}", "", *prose(item.docs), ""]
+        if name != item.name:
+            lines += [f"It is declared as `{item.name}`.", ""]
+        lines += ["```rust", *self.declaration(item), "```", "", *self.facts(item, item.name)]
         shown = behind or item
         blocks = self.blocks.get(id(shown), []) if shown.kind in ("struct", "enum") else []
-        heads = [trait_and_type(block)[0] for block in blocks]
-        traits = self.traits(set(shown.derives) | set(heads))
+        heads = {trait_and_type(block)[0] for block in blocks}
+        traits = self.traits(set(shown.derives) | heads)
         if traits:
             lines += [f"Implements {', '.join(f'`{one}`' for one in traits)}.", ""]
-        for block, trait in zip(blocks, heads):
-            for made in block.members if not trait else []:
-                if made.public:
-                    lines += self.method(item.name, made)
+        own = self.functions(shown)
+        for block, made in own:
+            # Functions of one name, for several parameters, are told apart by the type.
+            twice = sum(made.name == other.name for _, other in own) > 1
+            of = trait_and_type(block)[1] if twice else name
+            lines += self.method(path, of, item.name, made)
         for made in item.members if item.kind == "trait" else []:
-            lines += self.method(item.name, made)
+            lines += self.method(path, name, item.name, made)
         return lines
 
-    def declared(self, item):
-        """An item without the functions of a trait, which follow."""
-        if item.kind == "trait":
-            ghosts = [g for g in item.ghosts if g]
-            inner = [f"    // ghost members: {', '.join(ghosts)}"] if ghosts else []
-            return [f"pub {item.signature} {{", *inner, "}"]
-        return self.declaration(item)
-
-    def method(self, owner, made):
+    def method(self, path, owner, declared, made):
+        """A function or a constant of an item, which `declared` is the own name of."""
         end = "" if made.kind == "fn" else ";"
-        name = f"{owner}::{made.name}"
-        return [f"### {name}", "", *prose(made.docs), "",
-                "```rust", *within(f"{made.signature}{end}"), "```", "", *self.facts(made, name)]
+        self.list(path, f"{owner}::{made.name}", f"{owner}::{made.name}", made.doc)
+        return [f"### {owner}::{made.name}", "", *prose(made.docs), "",
+                "```rust", *within(f"{made.signature}{end}"), "```", "",
+                *self.facts(made, f"{declared}::{made.name}")]
 
     def facts(self, item, name):
         """What a call requires and promises, its example and its place."""
@@ -175,6 +201,18 @@ class Pages(Page):
         return ["Proved ([docs/PROMISES.md](../PROMISES.md)):", "", *lines, ""]
 
 
+def check_headings(path, lines):
+    """Ends the script if a page has two equal headings, between which no link can choose."""
+    seen, in_code = set(), False
+    for line in lines:
+        in_code ^= line.startswith("```")
+        if line.startswith("#") and not in_code:
+            name = anchor(line.lstrip("# ").replace("`", ""))
+            if name in seen:
+                sys.exit(f"docs/api/{file_name(path)} has two headings: {line}")
+            seen.add(name)
+
+
 def listed(names):
     return ", ".join(f"`{one}`" for one in names)
 
@@ -189,7 +227,9 @@ def prose(docs):
 
 
 def contents(pages):
-    lines = [HEAD, "# API", "", "A page for each module of the crates that users name.", ""]
+    lines = [HEAD, "# API", "", "A page for each module of the crates that users name, and an "
+             "[index of all items](INDEX.md) with their functions. What a call promises is written "
+             "beside it; [PROMISES.md](../PROMISES.md) has all promises on one page.", ""]
     for crate in CRATES:
         lines += [f"## `{crate}`", ""]
         names = [path.name for path in pages if path.name.split(".")[0] == crate]
@@ -198,12 +238,26 @@ def contents(pages):
     return "\n".join(lines).rstrip("\n") + "\n"
 
 
+def index(listed_items):
+    """All items and their functions, by name."""
+    lines = [HEAD, "# Index", "", "All items that users name, with their functions, by name. An item "
+             "that several crates name stands here once for each of them.", "",
+             "| Name | In | What it is |", "|---|---|---|"]
+    for name, link, doc in sorted(listed_items, key=lambda one: (one[0].lower(), one[1])):
+        module = "::".join(link.partition("#")[0].split(".")[:-1])
+        lines.append(f"| [`{name}`]({link}) | `{module}` | {doc} |")
+    return "\n".join(lines) + "\n"
+
+
 def main():
     check = is_check(__doc__)
-    pages, shown, promised = {}, examples(), promises()
+    pages, shown, promised, listed_items = {}, examples(), promises(), []
     for crate in CRATES:
-        pages.update(Pages(crate, shown, promised).pages())
+        made = Pages(crate, shown, promised)
+        pages.update(made.pages())
+        listed_items += made.listed
     pages[FOLDER / "README.md"] = contents(pages)
+    pages[FOLDER / "INDEX.md"] = index(listed_items)
     FOLDER.mkdir(exist_ok=True)
     settle(pages, check)
     old = [path for path in FOLDER.glob("*.md") if path not in pages]

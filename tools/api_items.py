@@ -1,28 +1,11 @@
-"""Writes docs/API.md: each public module of `gltf_json`, with its items as users name them.
-
-`python3 tools/gen_api.py` writes the page; `--check` says whether the page is current, and ends
-with status 1 and a short diff if it isn't.
-"""
+"""The items of the crates as users name them: where each is shown, and how its declaration reads."""
 import re
 import textwrap
 
-from settle import is_check, settle
-from sources import ROOT, crates, trait_and_type
+from sources import crates, trait_and_type
 
-PAGE = ROOT / "docs" / "API.md"
+# The crate that users of documents name.
 ROOT_CRATE = "gltf_json"
-HEAD = """# API of `gltf_json`
-
-Made by `tools/gen_api.py` from the sources. Each item has the first sentence of its docstring; its
-contract is in the source. `Value` and `Map` are those of `serde_json`, `Global` is std's allocator.
-
-An item under several names is shown once, in the module where it belongs; the other modules list
-its name. A type that `gltf_json` names only by aliases is shown at its alias, or at the end.
-"""
-TAIL = """## Behind several aliases
-
-Types of other crates that `gltf_json` names only by aliases.
-"""
 WIDTH = 100
 # The traits of std that are shown; of the others those that `gltf_json` names.
 STD_TRAITS = {"Clone", "Copy", "Debug", "Default", "Display", "Eq", "Error", "From", "Hash", "Ord",
@@ -65,25 +48,29 @@ class Crates:
         first, rest = path[0], path[1:]
         if first in module.modules and rest:
             return self.inside(module.modules[first], rest, depth)
+        # A declared item may have the name of a macro that the module uses, as `Error` does.
+        if first in module.items and not rest:
+            return ("item", module, module.items[first])
         if first in module.uses and module.uses[first] != list(path):
             return self.find(module, [*module.uses[first], *rest], depth + 1)
-        if first in module.items:
-            return ("item", module, module.items[first])
         if first in module.modules:
             return ("mod", module, module.modules[first])
         return ("kit", "::".join(path))
 
 
-class Page:
-    """The page, module by module."""
+class Items:
+    """The modules of a crate, each with the items that it names."""
 
-    def __init__(self):
+    def __init__(self, crate):
         self.crates = Crates()
         self.implied = {}
         self.blocks = self.impl_blocks()
         self.modules = []
         self.places = {}
         self.aliases = {}
+        self.collect(self.crates.roots[crate], (crate,))
+        self.place()
+        self.hide()
 
     def impl_blocks(self):
         """The impls of each type: a list of blocks by the item's identity."""
@@ -156,61 +143,12 @@ class Page:
                         aliases = self.aliases.setdefault(id(behind), (behind, {}))[1]
                         aliases[id(found[2])] = found
 
-    def text(self):
-        self.collect(self.crates.roots[ROOT_CRATE], (ROOT_CRATE,))
-        self.place()
-        self.hide()
-        parts = [HEAD]
-        for path, doc, names in self.modules:
-            parts.append(self.module_text(path, doc, names))
-        shared = [behind for behind, aliases in self.aliases.values() if len(aliases) > 1]
-        shown = [self.item_text(behind) for behind in sorted(shared, key=lambda b: b.name)]
-        parts.append("\n".join([TAIL, "```rust", "\n\n".join(shown), "```", ""]))
-        return "\n".join(parts)
-
-    def module_text(self, path, doc, names):
-        lines = [f"## `{'::'.join(path)}`", ""]
-        if doc:
-            lines += [doc, ""]
-        others, shown = [], []
-        for name in sorted(names, key=lambda n: (order(names[n]), n.lower())):
-            found = names[name]
-            if found[0] == "kit":
-                others.append(f"`{name}` (of `{found[1].split('::')[0]}`)")
-            elif self.places[id(found[2])][2:] != (path, name):
-                place, own = self.places[id(found[2])][2:]
-                others.append(f"`{name}` (`{'::'.join((*place[1:], own))}`)")
-            else:
-                shown.append(self.item_text(found[2], self.only_behind(found)))
-        if others:
-            lines += ["Also named here: " + ", ".join(others) + ".", ""]
-        if shown:
-            lines += ["```rust", "\n\n".join(shown), "```", ""]
-        return "\n".join(lines)
-
     def only_behind(self, found):
         """The type that only this alias names."""
         if found[2].kind != "type":
             return None
         behind, aliases = self.aliases.get(id(self.behind(found)), (None, {}))
         return behind if len(aliases) == 1 else None
-
-    def item_text(self, item, behind=None):
-        """An item with its functions; at an alias those of the type that it alone names."""
-        lines = documented(item.doc, self.declaration(item))
-        item = behind or item
-        blocks = self.blocks.get(id(item), []) if item.kind in ("struct", "enum") else []
-        heads = [trait_and_type(block)[0] for block in blocks]
-        traits = self.traits(set(item.derives) | set(heads))
-        if traits:
-            lines.append(f"// implements {', '.join(traits)}")
-        for block, trait in zip(blocks, heads):
-            functions = [m for m in block.members if m.public]
-            if not trait and functions:
-                lines += within(f"{block.signature} {{")
-                lines += [line for m in functions for line in method(m)]
-                lines.append("}")
-        return "\n".join(lines)
 
     def traits(self, names):
         """The traits that are shown, of those that are written and those that follow from them."""
@@ -226,12 +164,9 @@ class Page:
 
     def declaration(self, item):
         if item.kind == "trait":
-            lines = [f"pub {item.signature} {{"]
-            lines += [line for m in item.members for line in method(m, "")]
             ghosts = [g for g in item.ghosts if g]
-            if ghosts:
-                lines.append(f"    // ghost members: {', '.join(ghosts)}")
-            return [*lines, "}"]
+            inner = [f"    // ghost members: {', '.join(ghosts)}"] if ghosts else []
+            return [f"pub {item.signature} {{", *inner, "}"]
         if item.kind not in ("struct", "enum") or item.signature.endswith(")"):
             return within(f"pub {item.signature}" + ("" if item.kind == "fn" else ";"))
         members = [m for m in item.members if m.public]
@@ -245,11 +180,6 @@ class Page:
         if len(members) < len(item.members):
             lines.append("    // and private fields")
         return [*lines, "}"]
-
-
-def method(item, front="pub "):
-    end = "" if item.kind == "fn" else ";"
-    return documented(item.doc, within(f"{front}{item.signature}{end}", "    "), "    ")
 
 
 def documented(doc, lines, indent=""):
@@ -278,16 +208,3 @@ def within(signature, indent=""):
             part += c
     parts.append(part.strip())
     return [f"{indent}{front}(", *(f"{indent}    {p}," for p in parts if p), f"{indent}{end}"]
-
-
-def order(found):
-    kinds = ["trait", "struct", "enum", "type", "fn", "const", "static"]
-    return kinds.index(found[2].kind) if found[0] == "item" else len(kinds)
-
-
-def main():
-    settle({PAGE: Page().text()}, is_check(__doc__))
-
-
-if __name__ == "__main__":
-    main()

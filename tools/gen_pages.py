@@ -1,6 +1,6 @@
 """Writes docs/api/: a page for each public module of the crates that users name, with each item in
 full: its docstring, its signature, what its call requires, what its clauses promise in the words of
-docs/PROMISES.md, the example that README names, and a link to its line in the source.
+docs/PROMISES.md, the example that docs/GUIDE.md names, and a link to its line in the source.
 
 An item has a section under the name that users write, on the page of the deepest module that names
 it. docs/api/INDEX.md lists all items and their functions by name. The script fails if a page has two
@@ -23,9 +23,9 @@ CRATES = ["gltf_json", "gltf_load", "gltf_accessors", "gltf_buffers", "gltf_elem
           "gltf_hierarchy", "gltf_layout", "gltf_lint_lines", "gltf_positions", "gltf_report_lines",
           "gltf_subtrees"]
 HEAD = "<!-- Written by tools/gen_pages.py from the sources. -->\n"
-README = ROOT / "README.md"
+GUIDE = ROOT / "docs" / "GUIDE.md"
 PROMISES = ROOT / "docs" / "PROMISES.md"
-# What README's table writes without its type is a call of this one.
+# What the guide's table writes without its type is a call of this one.
 USUAL_OWNER = "Root"
 
 
@@ -39,9 +39,9 @@ def anchor(title):
 
 
 def examples():
-    """The programs that show a call or a type, by its name with its type's, from README's table."""
+    """The programs that show a call or a type, by its name with its type's, from the guide's table."""
     found = {}
-    for calls, files in rows_of(README.read_text()):
+    for calls, files in rows_of(GUIDE.read_text()):
         owner = USUAL_OWNER
         for call in calls:
             *front, name = call.split("::")

@@ -1,14 +1,14 @@
-"""Compares README.md with the files that it shows.
+"""Compares README.md, docs/GUIDE.md and docs/LINT.md with the files that they show.
 
 `python3 tools/run_readme.py` checks in a moment, without the toolchain: each Rust program is an
-example of `gltf_examples`, each document is a file of `examples/`, each output is part of what
-`rt ci` compares as the output of `gltf_examples_run`, and README has at most 900 words. The examples of
-a row of its table have each call of the row. Its command that takes the library along copies it
-into a new folder, leaves an equal copy as it is, and refuses a copy that was changed.
-`--run` also runs its commands in a clean copy of this repository: the first one by `rt try`, those
-for the linter, those that copy the library, and its programs in the repository that has the copy.
-That takes some minutes. The linter comes from crates/gltf_lint/out if it was built there, else it
-is built first, which takes an hour.
+example of `gltf_examples`, each output is part of what `rt ci` compares as the output of
+`gltf_examples_run`, README has at most 700 words, and the examples of a row of the guide's table have
+each call of the row. The guide's command that takes the library along copies it into a new folder,
+leaves an equal copy as it is, and refuses a copy that was changed.
+`--run` also runs the pages' commands in a clean copy of this repository: the first one by `rt try`,
+those for the linter, those that copy the library, and the guide's programs in the repository that has
+the copy. That takes some minutes. The linter comes from crates/gltf_lint/out if it was built there,
+else it is built first (docs/GATE.md says how long that takes).
 """
 import os
 import re
@@ -21,40 +21,52 @@ from pathlib import Path
 from settle import parser_of
 
 ROOT = Path(__file__).resolve().parent.parent
+PAGES = {name: ROOT / path for name, path in
+         {"README": "README.md", "GUIDE": "docs/GUIDE.md", "LINT": "docs/LINT.md"}.items()}
 EXAMPLES = ROOT / "crates" / "gltf_examples"
 # The program that runs them: its documents, and what it must print.
 RUN = ROOT / "crates" / "gltf_examples_run"
 LINTER = Path("crates", "gltf_lint", "out", "gltf_lint")
-MOST_WORDS = 900
+MOST_WORDS = 700
 BLOCK = re.compile(r"^```(\w+)\n(.*?)^```$", re.S | re.M)
 
 
 def program_of(example):
-    """An example as README shows it: without its first comment, and with `fn main`."""
+    """An example as a page shows it: without its first comment, and with `fn main`."""
     lines = [line for line in example.read_text().split("\n") if not line.startswith("//!")]
     return "\n".join(lines).replace("pub fn main", "fn main")
 
 
 def rows_of(text):
-    """The rows of README's table: the calls of each, which are no pages, and its examples."""
+    """The rows of the guide's table: the calls of each, which are no pages, and its examples."""
     for calls, examples in re.findall(r"(?m)^\| [^|]+ \| ([^|]*`[^|]*) \| ([^|]*) \|$", text):
         names = [name for name in re.findall(r"`([^`]+)`", calls) if "/" not in name]
-        files = [EXAMPLES / "src" / f"{name}.rt" if "/" not in name else ROOT / name
-                 for name in re.findall(r"`([^`]+)`", examples)]
-        yield names, files
+        files = [EXAMPLES / "src" / f"{name}.rt" for name in re.findall(r"`([^`]+)`", examples)]
+        if all(file.exists() for file in files):
+            yield names, files
 
 
-class Readme:
-    def __init__(self):
-        self.text = (ROOT / "README.md").read_text()
-        self.faults = []
-        self.blocks = {}
+class Page:
+    """A page with its blocks by their language."""
+
+    def __init__(self, path):
+        self.name, self.text, self.blocks = path.name, path.read_text(), {}
         for language, body in BLOCK.findall(self.text):
             self.blocks.setdefault(language, []).append(body)
+
+    def commands_with(self, word):
+        """The block of commands that has a word."""
+        return next(body for body in self.blocks["sh"] if word in body)
+
+
+class Pages:
+    def __init__(self):
+        self.faults, self.programs = [], {}
+        for name, path in PAGES.items():
+            setattr(self, name.lower(), Page(path))
         # What each example prints.
         parts = re.split(r"^# (\w+)\n", (RUN / "stdout").read_text(), flags=re.M)
         self.outputs = dict(zip(parts[1::2], parts[2::2]))
-        self.programs = {}
 
     def expect(self, holds, fault):
         if not holds:
@@ -62,36 +74,35 @@ class Readme:
 
     def check(self):
         examples = {program_of(file): file.stem for file in (EXAMPLES / "src").glob("*.rt")}
-        for body in self.blocks.get("rust", []):
+        for body in self.guide.blocks["rust"]:
             name = examples.get(body)
-            self.expect(name, f"no example is this program:\n{body}")
+            self.expect(name, f"GUIDE.md: no example is this program:\n{body}")
             if name:
                 self.programs[name] = body
-        documents = {file.read_text() for file in (ROOT / "examples").glob("*.gltf")}
-        for body in self.blocks.get("json", []):
-            self.expect(body in documents, f"no file of examples/ is this document:\n{body}")
-        for body in self.blocks.get("text", []):
-            printed = any(body in output for output in self.outputs.values())
-            self.expect(printed, f"no example prints this:\n{body}")
+        printed = [body for body in self.guide.blocks["text"]] + self.readme.blocks["text"][:1]
+        for body in printed:
+            found = any(body in output for output in self.outputs.values())
+            self.expect(found, f"no example prints this:\n{body}")
         for file in (RUN / "data").glob("*.gltf"):
             shown = ROOT / "examples" / file.name
             same = not shown.exists() or shown.read_text() == file.read_text()
             self.expect(same, f"{file} differs from {shown}")
-        for path in re.findall(r"`((?:docs|crates|examples|tools)/[\w./]*\w)`", self.text):
-            there = (ROOT / path).exists() or "/my_" in path
-            self.expect(there, f"README names {path}, which isn't there")
-        words = len(self.text.split())
-        self.expect(words <= MOST_WORDS, f"README has {words} words")
+        words = len(self.readme.text.split())
+        self.expect(words <= MOST_WORDS, f"README.md has {words} words")
+        linted = self.readme.blocks["text"][1]
+        for line in self.lint.blocks["text"][0].splitlines(keepends=True):
+            self.expect(line in linted or line.startswith("files:"),
+                        f"LINT.md: README.md doesn't print this: {line}")
         self.check_table()
         self.check_copies()
 
     def check_table(self):
-        """Looks for the calls of each row in its examples. A row may have no example yet."""
-        for calls, examples in rows_of(self.text):
-            shown = "".join(file.read_text() for file in examples if file.exists())
-            for call in calls if examples else []:
+        """Looks for the calls of each row in its examples."""
+        for calls, examples in rows_of(self.guide.text):
+            shown = "".join(file.read_text() for file in examples)
+            for call in calls:
                 name = call.split("::")[-1]
-                self.expect(re.search(rf"\b{name}\b", shown), f"README: no example has {call}")
+                self.expect(re.search(rf"\b{name}\b", shown), f"GUIDE.md: no example has {call}")
 
     def check_copies(self):
         """Copies the library, copies it again, and then over a change."""
@@ -108,8 +119,8 @@ class Readme:
             self.expect(named, f"a changed copy isn't refused: {refused}")
 
     def copied(self, mine):
-        """Runs README's command that copies the library, with this folder in place of its own."""
-        command = re.search(r"^python3 (tools/vendor\.py) \S+(.*)$", self.text, re.M)
+        """Runs the command that copies the library, with this folder in place of its own."""
+        command = re.search(r"^python3 (tools/vendor\.py) \S+(.*)$", self.guide.text, re.M)
         script, crates = command.groups()
         words = [sys.executable, ROOT / script, mine, *crates.split()]
         return subprocess.run(words, capture_output=True, text=True)
@@ -120,7 +131,7 @@ class Readme:
         self.expect(done, f"the library wasn't copied: {ran}")
 
     def run(self):
-        """Runs README's commands and programs in a clean copy of this repository."""
+        """Runs the commands and programs in a clean copy of this repository."""
         with tempfile.TemporaryDirectory() as place:
             top = Path(place) / "yorwelis"
             left_out = shutil.ignore_patterns(".git", "out", "__pycache__")
@@ -129,41 +140,35 @@ class Readme:
             self.run_linter(top)
             self.run_programs(top)
 
-    def commands_with(self, word):
-        """The block of README's commands that has a word."""
-        return next(body for body in self.blocks["sh"] if word in body)
-
     def run_first_command(self, top):
-        command = re.search(r"(?m)^\(cd .*\brt try\b.*$", self.commands_with("rt try")).group()
+        command = self.readme.commands_with("rt try")
         ran = shell(command, top)
-        printed = ran.stdout in self.blocks["text"]
+        printed = ran.stdout == self.readme.blocks["text"][0]
         self.expect(printed, f"{command} printed:\n{ran.stdout}{ran.stderr}")
 
     def run_linter(self, top):
-        """Runs README's commands for the linter, with a home folder of their own."""
-        commands = self.commands_with("gltf_lint")
+        """Builds the linter by LINT.md's commands, with a home folder of their own, and runs it as
+        README.md does."""
+        commands = self.lint.commands_with("install")
         if (ROOT / LINTER).exists():
             commands = "".join(re.findall(r"(?m)^(?!.*\brt run\b).*\n", commands))
-            (top / LINTER).parent.mkdir()
+            (top / LINTER).parent.mkdir(parents=True, exist_ok=True)
             shutil.copy(ROOT / LINTER, top / LINTER)
-        page = (ROOT / "docs" / "SCHEMA.md").read_text()
-        part = page[page.index("`gltf_lint .` in the folder `examples`"):]
-        due = re.search(r"(?ms)^```text\n(.*?)^```", part)
-        ran = shell(commands, top, HOME=str(top.parent / "home"))
-        printed = ran.stdout.replace("examples/", "./")
-        right = (ran.returncode, printed) == (1, due.group(1))
-        self.expect(right, f"the linter: status {ran.returncode}, {printed}{ran.stderr}")
+        home = str(top.parent / "home")
+        ran = shell(f"{commands}gltf_lint examples\n", top, HOME=home)
+        right = (ran.returncode, ran.stdout) == (1, self.readme.blocks["text"][1])
+        self.expect(right, f"the linter: status {ran.returncode}, {ran.stdout}{ran.stderr}")
 
     def run_programs(self, top):
-        """Copies the library by README's commands, and runs README's programs over the copy."""
-        ran = shell(self.commands_with("vendor.py"), top)
+        """Copies the library by the guide's commands, and runs its programs over the copy."""
+        ran = shell(self.guide.commands_with("vendor.py"), top)
         self.expect(ran.returncode == 0, f"the library wasn't copied: {ran.stdout}{ran.stderr}")
         mine = top.parent / "mine"
-        lines = dict(re.findall(r"`(my_\w+): ([\w ]+)`", self.text))
+        lines = dict(re.findall(r"`(my_\w+): ([\w ]+)`", self.guide.text))
         with (mine / "crates.txt").open("a") as file:
             file.write("".join(f"{name}: {uses}\n" for name, uses in lines.items()))
         for name, body in self.programs.items():
-            self.expect(f"my_{name}" in lines, f"README has no line for my_{name}")
+            self.expect(f"my_{name}" in lines, f"GUIDE.md has no line for my_{name}")
             source = mine / "crates" / f"my_{name}" / "src"
             source.mkdir(parents=True)
             (source / "main.rt").write_text(body)
@@ -172,7 +177,7 @@ class Readme:
 
     def run_program(self, crate, name, body):
         # The command that gives a program the file that it reads, else the plain one.
-        commands = re.findall(r"`(rt try --data (\S+?)=\S+)`", self.text)
+        commands = re.findall(r"`(rt try --data (\S+?)=\S+)`", self.guide.text)
         given = (command for command, file in commands if f'"{file}"' in body)
         ran = shell(next(given, "rt try"), crate)
         right = ran.stdout == self.outputs[name]
@@ -190,14 +195,15 @@ def main():
     parser = parser_of(__doc__)
     parser.add_argument("--run", action="store_true", help="also run commands and programs")
     words = parser.parse_args()
-    readme = Readme()
-    readme.check()
-    if words.run and not readme.faults:
-        readme.run()
-    for fault in readme.faults:
+    pages = Pages()
+    pages.check()
+    if words.run and not pages.faults:
+        pages.run()
+    for fault in pages.faults:
         print(fault)
-    print("README is right" if not readme.faults else f"{len(readme.faults)} faults in README")
-    sys.exit(1 if readme.faults else 0)
+    print("README, GUIDE and LINT are right" if not pages.faults
+          else f"{len(pages.faults)} faults in README, GUIDE and LINT")
+    sys.exit(1 if pages.faults else 0)
 
 
 if __name__ == "__main__":

@@ -57,7 +57,7 @@ fn run(rt: &HostRuntime) -> io::Result<u8> {
 }
 
 /// Reads the arguments of the program, does what they say, and returns the exit status
-/// (docs/SCHEMA.md, "Output and exit status of `gltf_lint`").
+/// (docs/LINT.md, "Exit status").
 pub fn lint(rt: &HostRuntime) -> ExitCode {
     match run(rt) {
         Ok(status) => ExitCode::from(status),

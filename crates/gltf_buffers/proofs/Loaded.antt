@@ -27,6 +27,14 @@ pub record AreFirst {E : Type 0} (before after : List ℕ → Result (List ℕ) 
   pub each : (n : ℕ) (b : Buffer) (c : Content) → slice_get buffers n ≡ Some b → slice_get contents n ≡ Some c → IsContent before bin n b (content_bytes c)
   pub kept : (uri : List ℕ) (given : Result (List ℕ) E) → after uri given → before uri given
 
+-- those of no buffer
+pub none_yet : {E : Type 0} (before : Given E) (bin : Option (List ℕ)) (buffers : List Buffer) (contents : List Content) → contents ≡ [] → AreFirst before before bin buffers contents 0
+none_yet before bin buffers contents e = record {
+  len = ap length e;
+  each = λ n b c at_b at_c. let no : None ≡ Some c = ap (λ xs. slice_get xs n) (sym e) ∙ at_c in cc;
+  kept = λ uri given h. h;
+}
+
 other_case : (b : Bool) (P Q R : Type 0) → (Q → R) → MatchBool b P Q → MatchBool b P R
 other_case true P Q R f h = h
 other_case false P Q R f h = f h

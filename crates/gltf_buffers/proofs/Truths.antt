@@ -23,7 +23,7 @@ no_data text bytes NotBase64 h is =
     false≢true (sym h.2 ∙ says)
 no_data text bytes (Undecodable e) h is =
     let same : is.comma ≡ h.0 = same_comma text bytes h.0 is h.1 in
-    h.2.none bytes is.are_bytes (ap (λ n. drop (n + 1) text) (sym same) ∙ is.encoding)
+    h.3.none bytes is.are_bytes (ap (λ n. drop (n + 1) text) (sym same) ∙ is.encoding)
 
 pub only_memory : {T : Type 0} (text bytes : List ℕ) (r : Result T DataError) → IfErr r (IsDataError text) → IsData text bytes → IfErr r IsOutOfMemory
 only_memory text bytes (Ok v) h is = tt

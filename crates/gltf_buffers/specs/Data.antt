@@ -42,11 +42,11 @@ abbrev pub IsDecodeFault : List ℕ → DecodeAllocError → Type 0
 IsDecodeFault text (DecodeFailed e) = IsNoEncoding text
 IsDecodeFault text OutOfMemory = Unit {0}
 
--- what is wrong with a data URI, by the text behind its scheme
+-- what is wrong with a data URI first, by the text behind its scheme
 abbrev pub IsDataFault : List ℕ → DataFault → Type 0
 IsDataFault text NoComma = comma_of text ≡ None
 IsDataFault text NotBase64 = (comma : ℕ) × (comma_of text ≡ Some comma) × (says_base64 (take comma text) ≡ false)
-IsDataFault text (Undecodable e) = (comma : ℕ) × (comma_of text ≡ Some comma) × IsNoEncoding (drop (comma + 1) text)
+IsDataFault text (Undecodable e) = (comma : ℕ) × (comma_of text ≡ Some comma) × (says_base64 (take comma text) ≡ true) × IsNoEncoding (drop (comma + 1) text)
 
 abbrev pub IsDataError : List ℕ → DataError → Type 0
 IsDataError text (Fault f) = IsDataFault text f

@@ -4,6 +4,7 @@ ghost use Rattle.std.specs.Prelude.{◌≡◌, option_map, IfOk, IfErr};
 ghost use Rattle.gltf_buffers.specs.Sources.{AreContents};
 ghost use Rattle.gltf_buffers.specs.Faults.{IsBufferFault};
 ghost use Rattle.gltf_buffers.specs.Buffered.{bytes_at, lent};
+ghost use Rattle.gltf_buffers.specs.Limits.{Takes, resolved_bytes};
 
 use crate::content::{Content, content_of};
 use crate::fault::BufferFault;
@@ -34,6 +35,9 @@ impl<'a> Buffers<'a> {
         // What `bytes` returns.
         ensures contents { IfOk result (λ b. AreContents (R.gives resolve.old) (lent bin.entry)
             (D.listed document.now) (bytes_at b)) }
+        // Where there is a limit of what `resolve` gives, it gives no more for all buffers together.
+        ensures taken { IfOk result (λ _. Takes (resolved_bytes (D.listed document.now))
+            (R.most resolve.old) (R.most resolve.new)) }
         // What the fault says is so, and no buffer before has one.
         ensures fault { IfErr result (IsBufferFault (R.gives resolve.old) (lent bin.entry)
             (D.listed document.now)) }

@@ -4,6 +4,7 @@ ghost use Rattle.std.specs.Prelude.{◌≡◌, ◌≤◌, ◌<◌, take, length,
 ghost use Rattle.gltf_buffers.specs.Buffered.{content_bytes, lent};
 ghost use Rattle.gltf_buffers.specs.Sources.{buffer_of, IsOfUri, IsSource, IsContent};
 ghost use Rattle.gltf_buffers.specs.Faults.{IsFaultOf, IsSourceFault, IsUriFault};
+ghost use Rattle.gltf_buffers.specs.Limits.{Takes, resolved};
 
 use crate::data::{DataError, decode_data_uri, is_data_uri};
 use crate::fault::BufferFault;
@@ -56,6 +57,8 @@ pub fn content_of<'a, R: Resolve>(
 ) -> Result<Content<'a>, BufferFault<R::Error>>
     ensures content { IfOk result (λ c. IsContent (R.gives resolve.old) (lent bin.entry) number
         (buffer_of buffer.now) (content_bytes c)) }
+    ensures taken { IfOk result (λ _. Takes (resolved (buffer_of buffer.now).uri
+        buffer.now.byte_length) (R.most resolve.old) (R.most resolve.new)) }
     ensures fault { IfErr result (IsFaultOf (R.gives resolve.old) (lent bin.entry) number
         (buffer_of buffer.now)) }
     ensures kept { (uri : List ℕ) (given : Result (List ℕ) R.Error)
@@ -85,6 +88,8 @@ fn source<'a, R: Resolve>(
 ) -> Result<Content<'a>, BufferFault<R::Error>>
     ensures source { IfOk result (λ c. IsSource (R.gives resolve.old) (lent bin.entry) number
         (option_map (λ u. u.now) uri.entry) (content_bytes c)) }
+    ensures taken { IfOk result (λ c. Takes (resolved (option_map (λ u. u.now) uri.entry)
+        (length (content_bytes c))) (R.most resolve.old) (R.most resolve.new)) }
     ensures fault { IfErr result (IsSourceFault (R.gives resolve.old) (lent bin.entry) number
         (option_map (λ u. u.now) uri.entry)) }
     ensures kept { (uri : List ℕ) (given : Result (List ℕ) R.Error)
@@ -118,6 +123,8 @@ fn of_uri<R: Resolve>(
     resolve: &mut R,
 ) -> Result<Vec<u8>, BufferFault<R::Error>>
     ensures bytes { IfOk result (λ v. IsOfUri (R.gives resolve.old) uri.now v.items) }
+    ensures taken { IfOk result (λ v. Takes (resolved (Some uri.now) (length v.items))
+        (R.most resolve.old) (R.most resolve.new)) }
     ensures fault { IfErr result (IsUriFault (R.gives resolve.old) number uri.now) }
     ensures kept { (uri : List ℕ) (given : Result (List ℕ) R.Error)
         → R.gives resolve.new uri given → R.gives resolve.old uri given }

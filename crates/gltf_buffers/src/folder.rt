@@ -1,7 +1,8 @@
 //! Files of a folder.
 
-ghost use Rattle.std.specs.Prelude.{◌≡◌, ◌≤◌, length, IfOk, IfErr, string_bytes};
+ghost use Rattle.std.specs.Prelude.{◌≡◌, ◌≤◌, ◌+◌, ℕ, List, Result, Ok, Err, length, Some, IfOk, IfErr, MatchResult, string_bytes};
 ghost use Rattle.gltf_buffers.specs.Files.{MayGive, IsReadFault, joined};
+ghost use Rattle.gltf_buffers.specs.Limits.{Takes};
 
 use crate::path::{PathFault, decode_path};
 use crate::resolve::Resolve;
@@ -60,7 +61,20 @@ impl<R: Files> Resolve for Folder<'_, R> {
 
     ghost gives = { λ folder uri given. MayGive folder.left uri given };
 
-    fn bytes(&mut self, alloc: Global, uri: &str) -> Result<Vec<u8>, FileFault> {
+    ghost most = { λ folder. Some folder.left };
+
+    fn bytes(&mut self, alloc: Global, uri: &str) -> Result<Vec<u8>, FileFault>
+        ensures given { MatchResult result (λ v. MayGive self.old.left uri.now (Ok v.items))
+            (λ e. MayGive self.old.left uri.now (Err e)) }
+        ensures kept { (uri : List ℕ) (given : Result (List ℕ) FileFault)
+            → MayGive self.new.left uri given → MayGive self.old.left uri given }
+        ensures taken { MatchResult result
+            (λ v. Takes (length v.items) (Some self.old.left) (Some self.new.left))
+            (λ _. Takes 0 (Some self.old.left) (Some self.new.left)) }
+        // What is given is taken from what is left.
+        ensures left { MatchResult result (λ v. self.new.left + length v.items ≡ self.old.left)
+            (λ _. self.new.left ≡ self.old.left) }
+    {
         let path = match decode_path(alloc, uri) {
             Ok(path) => path,
             Err(fault) => return Err(FileFault::Path(fault)),

@@ -1,5 +1,5 @@
 -- Where elements and their components end.
-use Rattle.std.proofs.Common.{◌≡◌, ℕ, ◌<◌, ◌≤◌, ◌+◌, ◌*◌, ◌-◌, arith}
+use Rattle.std.proofs.Common.{◌≡◌, ℕ, ◌<◌, ◌≤◌, ◌+◌, ◌*◌, arith}
 use Rattle.std.proofs.lemmas.Nat.{mul-le}
 use Rattle.gltf_layout.specs.declared.span.Span.{Span}
 use Rattle.gltf_elements.specs.Elements.{AreWithin}

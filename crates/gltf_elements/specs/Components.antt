@@ -1,5 +1,5 @@
 -- The components of elements (glTF 2.0, sections 3.6.2.2 and 3.6.2.4).
-use Rattle.std.specs.Prelude.{◌≡◌, ℕ, ◌+◌, ◌*◌, ◌<◌, ◌⊎◌, List, Bool, true, false, length, take, drop, slice_get, Some}
+use Rattle.std.specs.Prelude.{◌≡◌, ℕ, ◌+◌, ◌*◌, ◌<◌, List, Bool, true, false, length, take, drop, slice_get, Some}
 use Rattle.gltf_layout.specs.declared.span.Span.{Span}
 use Rattle.gltf_elements.specs.declared.fault.ComponentsFault.{ComponentsFault}
 use Rattle.gltf_elements.specs.declared.fault.ComponentsFault.TheVariants.{Size, NotFinite}

@@ -5,3 +5,4 @@ pub mod Numbers
 pub mod Components
 pub mod Indices
 pub mod Normalized
+pub mod Parts

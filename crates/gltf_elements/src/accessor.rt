@@ -1,8 +1,9 @@
 //! Accessors whose elements are those of a view or zeros, of which some may deviate.
 
-ghost use Rattle.std.specs.Prelude.{◌≡◌, ◌≢◌, ◌<◌, ◌↔◌, ℕ, ⊤, Some, slice_get, length, unwrap_or, option_map, IfOk, IsOk, IfSome, MatchOption};
+ghost use Rattle.std.specs.Prelude.{◌≡◌, ◌≢◌, ◌<◌, ◌↔◌, ℕ, ⊤, Some, slice_get, length, unwrap_or, option_map, IfOk, IfErr, IsOk, IsSome, IsTrue, IfSome, MatchOption};
 ghost use Rattle.gltf_elements.specs.Indices.{index_at};
 ghost use Rattle.gltf_elements.specs.Components.{AreComponents};
+ghost use Rattle.gltf_elements.specs.Parts.{IsAccessorFault};
 
 use crate::component::Component;
 use crate::components::Components;
@@ -37,6 +38,10 @@ impl<'a, T: Component, const N: usize> Accessor<'a, T, N> {
         ensures only { IsOk result
             ↔ (unwrap_or (option_map (λ b. b.elements.span.count) base.entry) count ≡ count)
             × (unwrap_or (option_map (λ s. s.count) sparse.entry) count ≡ count) }
+        // What the fault says is so, and no fault in front of it is.
+        ensures fault { IfErr result (IsAccessorFault count
+            (unwrap_or (option_map (λ b. b.elements.span.count) base.entry) count)
+            (unwrap_or (option_map (λ s. s.count) sparse.entry) count)) }
     {
         if base_count(&base, count) != count {
             return Err(AccessorFault::Count);
@@ -49,6 +54,14 @@ impl<'a, T: Component, const N: usize> Accessor<'a, T, N> {
             base,
             sparse,
         })
+    }
+
+    /// Returns whether the accessor has a view. Without one its elements are zeros, but for those
+    /// that deviate, and nothing bounds how many there are (section 5.1.1).
+    pub fn is_stored(&self) -> bool
+        ensures { IsTrue result ↔ IsSome self.now.base }
+    {
+        self.base.is_some()
     }
 
     /// How many elements there are.

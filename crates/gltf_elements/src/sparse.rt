@@ -36,7 +36,7 @@ impl<'a, T: Component, const N: usize> Sparse<'a, T, N> {
         ensures indices { IfOk result (λ s. s.indices ≡ indices.entry) }
         ensures values { IfOk result (λ s. s.values ≡ values.entry) }
         ensures count { IfOk result (λ s. s.count ≡ count) }
-        // What the fault says is so.
+        // What the fault says is so, and no fault in front of it is.
         ensures fault { IfErr result (IsSparseFault indices.entry.kind
             indices.entry.elements.bytes.now indices.entry.elements.span
             values.entry.elements.span.count count) }
@@ -122,8 +122,9 @@ fn check_rising(indices: &Indices<'_>) -> Result<(), SparseFault>
         indices.now.elements.span indices.now.elements.span.count) }
     ensures only { AreRising indices.now.kind indices.now.elements.bytes.now
         indices.now.elements.span indices.now.elements.span.count → IsOk result }
-    ensures fault { IfErr result (λ f. (values count : ℕ) → IsSparseFault indices.now.kind
-        indices.now.elements.bytes.now indices.now.elements.span values count f) }
+    ensures fault { IfErr result (λ f. (count : ℕ) → IsSparseFault indices.now.kind
+        indices.now.elements.bytes.now indices.now.elements.span
+        indices.now.elements.span.count count f) }
 {
     for place in 1..indices.len() {
         let before = indices.get(place - 1);
@@ -138,14 +139,17 @@ fn check_rising(indices: &Indices<'_>) -> Result<(), SparseFault>
     Ok(())
 }
 
-/// Checks that each index is below a count.
+/// Checks that each index is below a count. The indices rise.
 fn check_below(indices: &Indices<'_>, count: u64) -> Result<(), SparseFault>
+    requires { AreRising indices.now.kind indices.now.elements.bytes.now
+        indices.now.elements.span indices.now.elements.span.count }
     ensures below { IfOk result (λ _. AreBelow indices.now.kind indices.now.elements.bytes.now
         indices.now.elements.span count indices.now.elements.span.count) }
     ensures only { AreBelow indices.now.kind indices.now.elements.bytes.now
         indices.now.elements.span count indices.now.elements.span.count → IsOk result }
-    ensures fault { IfErr result (λ f. (values : ℕ) → IsSparseFault indices.now.kind
-        indices.now.elements.bytes.now indices.now.elements.span values count f) }
+    ensures fault { IfErr result (IsSparseFault indices.now.kind
+        indices.now.elements.bytes.now indices.now.elements.span
+        indices.now.elements.span.count count) }
 {
     for place in 0..indices.len() {
         let index = indices.get(place);

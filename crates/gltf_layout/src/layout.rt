@@ -1,9 +1,9 @@
 //! Where the elements of every accessor of a document lie.
 
-ghost use Rattle.std.specs.Prelude.{◌≡◌, slice_get, option_map, IfOk, IfErr};
+ghost use Rattle.std.specs.Prelude.{◌≡◌, ◌≤◌, ℕ, slice_get, option_map, IfOk, IfErr};
 ghost use Rattle.gltf_layout.specs.Places.{HasLayout, ArePlaces};
 ghost use Rattle.gltf_layout.specs.Faults.{IsLayoutError, IsOutOfMemory};
-ghost use Rattle.gltf_layout.specs.Layouts.{layout_places};
+ghost use Rattle.gltf_layout.specs.Layouts.{layout_places, AreZerosWithin};
 
 use crate::fault::{LayoutError, StorageFault};
 use crate::faults::next_view_fault;
@@ -60,5 +60,25 @@ impl Layout {
         ensures { option_map (λ p. p.now) result ≡ slice_get (layout_places self.now) accessor }
     {
         self.places.get(accessor)
+    }
+    /// How many elements the accessor has that has most of those without a view, 0 if each has one.
+    /// Such elements are zeros (section 5.1.1), and no byte stands for them, so a few bytes of a
+    /// document may say 2^53 of them. A program that goes over elements compares this with a limit
+    /// of its own first. It takes time in proportion to the accessors.
+    pub fn most_zeros(&self) -> u64
+        // No accessor without a view has more.
+        ensures within { AreZerosWithin (layout_places self.now) result }
+        // No lower number says so.
+        ensures least { (most : ℕ) → AreZerosWithin (layout_places self.now) most
+            → result ≤ most }
+    {
+        let mut most = 0;
+        for number in 0..self.places.len() {
+            let place = &self.places[number];
+            if !place.is_stored() && place.count > most {
+                most = place.count;
+            }
+        }
+        most
     }
 }

@@ -1,6 +1,6 @@
 //! Where the elements of an accessor of a document lie.
 
-ghost use Rattle.std.specs.Prelude.{◌≡◌, ◌↔◌, IsTrue, IfOk, IfErr};
+ghost use Rattle.std.specs.Prelude.{◌≡◌, ◌↔◌, IsTrue, IsSome, IfOk, IfErr};
 ghost use Rattle.gltf_layout.specs.Places.{LieIn, LieTightly, LieInNamed, IsStrided, IsSparsePlace, IsPlaceOfSparse, IsPlace, index_layout, value_layout};
 ghost use Rattle.gltf_layout.specs.Faults.{IsPlaceFault, IsTightFault, IsNamedFault, IsSparseFault, IsFaultOfSparse, IsAccessorFault};
 
@@ -44,6 +44,16 @@ pub struct Place {
     pub elements: Option<Location>,
     /// Where the elements lie that deviate from these.
     pub sparse: Option<SparsePlace>,
+}
+
+impl Place {
+    /// Returns whether the accessor has a view. Without one its elements are zeros, but for those
+    /// that deviate, and nothing bounds how many there are (section 5.1.1).
+    pub fn is_stored(&self) -> bool
+        ensures { IsTrue result ↔ IsSome self.now.elements }
+    {
+        self.elements.is_some()
+    }
 }
 
 /// Where the elements of an accessor lie. Fails with what is wrong first.

@@ -1,6 +1,6 @@
 //! Accessors that are read from buffers, with elements that are worked by hand.
 
-ghost use Rattle.std.specs.Prelude.{⊤};
+ghost use Rattle.std.specs.Prelude.{⊤, None};
 
 use crate::listed::Listed;
 use gltf_accessors::{
@@ -32,6 +32,8 @@ impl Resolve for NoFiles {
     type Error = AllocError;
 
     ghost gives = { λ _ _ _. ⊤ };
+
+    ghost most = { λ _. None };
 
     fn bytes(&mut self, _alloc: Global, _uri: &str) -> Result<Vec<u8>, AllocError> {
         Err(AllocError)

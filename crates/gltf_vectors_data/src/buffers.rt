@@ -1,6 +1,6 @@
 //! Buffers and paths that are worked by hand.
 
-ghost use Rattle.std.specs.Prelude.{⊤};
+ghost use Rattle.std.specs.Prelude.{⊤, None};
 
 use crate::listed::Listed;
 use gltf_buffers::{
@@ -35,6 +35,8 @@ impl Resolve for OneFile {
     type Error = Missing;
 
     ghost gives = { λ _ _ _. ⊤ };
+
+    ghost most = { λ _. None };
 
     fn bytes(&mut self, alloc: Global, uri: &str) -> Result<Vec<u8>, Missing> {
         self.calls = self.calls.saturating_add(1);

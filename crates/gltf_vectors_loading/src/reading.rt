@@ -1,6 +1,6 @@
 //! Documents that are read, with elements and matrices that are worked by hand.
 
-ghost use Rattle.std.specs.Prelude.{⊤};
+ghost use Rattle.std.specs.Prelude.{⊤, None};
 
 use gltf_base::accessor::{AccessorType, ComponentType};
 use gltf_base::animation::Property;
@@ -26,6 +26,8 @@ impl Resolve for NoFiles {
     type Error = AllocError;
 
     ghost gives = { λ _ _ _. ⊤ };
+
+    ghost most = { λ _. None };
 
     fn bytes(&mut self, _alloc: Global, _uri: &str) -> Result<Vec<u8>, AllocError> {
         Err(AllocError)

@@ -1,4 +1,4 @@
-use Rattle.std.proofs.Common.{◌<◌, ◌≤◌, ◌+◌, ◌-◌, ◌/◌, arith}
+use Rattle.std.proofs.Common.{◌<◌, ◌+◌, ◌-◌, ◌/◌, arith}
 use Rattle.gltf_elements.specs.Indices.{index_at}
 use Rattle.gltf_elements.proofs.Rising.{below_middle, above_middle}
 use Rattle.gltf_elements.proofs.sparse.Sparse.find.Goals as goal

@@ -1,7 +1,10 @@
 #!/usr/bin/env python3
-"""shapes.py prints the names of the shapes that gen_document.py --shape takes: documents of one thing repeated, which
-are slow to read, or need much memory, if the reader isn't made for them. All are glTF documents.
+"""shapes.py [--pairs] prints the names of the shapes that gen_document.py --shape takes: documents of one thing repeated,
+which are slow to read, or need much memory, if the reader isn't made for them. All are glTF documents. With --pairs it
+prints the names of documents of two lists instead, which are slow to check if a rule goes through one for each item of the
+other.
 """
+import sys
 
 HEAD = '"asset":{"version":"2.0"}'
 NODE = '{"nodes":[{%s}],' + HEAD + "}"
@@ -92,9 +95,38 @@ SHAPES = {
     "empty-materials": (list_of("materials"), same("{}"), None),
 }
 
+# The same of two lists, each of half the bytes: what is around them, and how the k-th item of each is written.
+MESHES_AND_NODES = '{"meshes":[{"primitives":[%s]},{"primitives":[]}],"nodes":[%s],' + HEAD + "}"
+PAIRS = {
+    "primitives-nodes": (MESHES_AND_NODES, same('{"attributes":{"JOINTS_0":0}}'), same('{"mesh":0}')),
+    "attributes-nodes": (MESHES_AND_NODES.replace("%s", '{"attributes":{%s}}', 1), numbered('"_%s":0'), same('{"mesh":0}')),
+    "skins-nodes": ('{"skins":[%s],"nodes":[%s],' + HEAD + "}", same('{"joints":[0]}'), same("{}")),
+}
+
+
+def items_of(item, size):
+    """So many bytes of items, and one item at least."""
+    parts = [item(0)]
+    left = size - len(parts[0])
+    while True:
+        part = item(len(parts))
+        left -= len(part) + 1
+        if left < 0:
+            return ",".join(parts)
+        parts.append(part)
+
+
+def pair_of(name, size):
+    """The document of a pair of lists, of at most `size` bytes if two items fit in."""
+    around, first, second = PAIRS[name]
+    half = (size - len(around)) // 2
+    return around % (items_of(first, half), items_of(second, half))
+
 
 def document_of(name, size):
     """The document of a shape, of at most `size` bytes if one item fits in."""
+    if name in PAIRS:
+        return pair_of(name, size)
     around, item, first = SHAPES[name]
     front, back = around.split("%s")
     left = size - len(front) - len(back)
@@ -111,4 +143,4 @@ def document_of(name, size):
 
 
 if __name__ == "__main__":
-    print("\n".join(SHAPES))
+    print("\n".join(PAIRS if "--pairs" in sys.argv[1:] else SHAPES))

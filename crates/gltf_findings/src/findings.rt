@@ -24,6 +24,7 @@ use gltf_findings_objects::{
 };
 use gltf_findings_scenes::{
     AnimationRules, NodeRules, PlacedRules, SceneRules, SkinRules, child_marks, joint_marks,
+    skinned_marks,
 };
 use gltf_root::root::Root;
 use gltf_scene::extensions::scene::khr_lights_punctual::Light;
@@ -244,8 +245,10 @@ fn add_placed_nodes(
     ensures { OnOk result (to.new.items ≡ to.old.items
         ++ findings_from (placed_node_findings meshes.now children.now joints.now) 0 nodes.now) }
 {
+    let skinned = skinned_marks(*to.allocator(), meshes)?;
     let placed = PlacedRules {
         meshes,
+        skinned: &skinned,
         children,
         joints,
     };

@@ -1,1 +1,3 @@
 pub mod Without
+pub mod Marked
+pub mod Repeated

@@ -1,5 +1,5 @@
 -- Elements that stand in a list more than once.
-use Rattle.std.specs.Prelude.{ℕ, ◌+◌, List, [], ◌∷◌, ◌++◌, Bool}
+use Rattle.std.specs.Prelude.{ℕ, ◌+◌, ◌<◌, ◌≡◌, List, [], ◌∷◌, ◌++◌, Bool, Some, slice_get}
 use Rattle.std.specs.List.{list_any}
 use Rattle.std.specs.Ordering.{nat_cmp}
 use Rattle.std.specs.BTreeMap.{is_at}
@@ -21,3 +21,11 @@ repeat_findings object name before k [] = []
 repeat_findings object name before k (n ∷ ns) =
     found (broken (is_among before n) DuplicateElements (Entry object name k) ∷ [])
     ++ repeat_findings object name (insert_key nat_cmp before n) (k + 1) ns
+
+-- the finding of the place of number j
+abbrev pub repeat_at : Object → Name → ℕ → Finding
+repeat_at object name j = record { code = DuplicateElements; place = Entry object name j }
+
+-- an equal number stands before the one of number j
+abbrev pub IsRepeat : List ℕ → ℕ → Type 0
+IsRepeat ns j = (i n : ℕ) × (i < j) × (slice_get ns i ≡ Some n) × (slice_get ns j ≡ Some n)

@@ -6,6 +6,7 @@ mod code;
 mod collect;
 mod finding;
 mod formats;
+pub mod laws;
 mod marks;
 mod name;
 mod range;

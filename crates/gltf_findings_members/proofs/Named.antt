@@ -8,7 +8,7 @@ use Rattle.gltf_base.specs.Steps.{Step}
 use Rattle.gltf_schema.specs.declared.outline.Member.{Member}
 use Rattle.gltf_findings_codes.specs.declared.code.Code.TheVariants.{UndeclaredExtension}
 use Rattle.gltf_findings_codes.specs.declared.code.Code.{Code}
-use Rattle.gltf_findings_members.specs.Format.{Format, extension_rows, extras_code, unknown_extension_code}
+use Rattle.gltf_findings_members.specs.Format.{Format, extension_rows_of, extras_code, unknown_extension_code}
 use Rattle.gltf_findings_members.specs.Members.{extension_row}
 use Rattle.gltf_findings_members.specs.Noted.{Noted, maybe_note}
 use Rattle.gltf_findings_members.specs.Walk.{extension_level, extension_notice, extensions_notices, member_notice, named_level, notices, row_notices}
@@ -41,7 +41,7 @@ named_quiet (Some x) m f at rows n d is none = let same : x ≡ m = cc in subst 
 pub member_of_row : (f : Format) (rows : List Member) (m : Member) (at : List Step) (n : List ℕ) (d : Data) → bytes_eq n (codes "extensions") ≡ false → bytes_eq n (codes "extras") ≡ false → row_named n rows ≡ Some m → row_notices f m at d ≡ []
     → member_notice f rows at n d ≡ []
 member_of_row f rows m at n d extensions extras row none =
-    other_level (bytes_eq n (codes "extensions")) (bytes_eq n (codes "extras")) (extensions_notices f (extension_rows f.nodes (row_named n rows)) at d) (maybe_note at (extras_code d))
+    other_level (bytes_eq n (codes "extensions")) (bytes_eq n (codes "extras")) (extensions_notices f (extension_rows_of f.nodes f.known rows (row_named n rows)) at d) (maybe_note at (extras_code d))
     (named_level (λ i. notices f false (slice_get f.nodes i) at d) at rows n (row_named n rows) d) extensions extras (named_quiet (row_named n rows) m f at rows n d row none)
 
 -- ---- unknown members
@@ -64,7 +64,7 @@ named_unknown (Some m) inside at rows n d is none = absurd (cc)
 pub unknown_member : (f : Format) (rows : List Member) (at : List Step) (n : List ℕ) (d : Data) → bytes_eq n (codes "extensions") ≡ false → bytes_eq n (codes "extras") ≡ false → row_named n rows ≡ None → unknown_code rows n ≡ None
     → member_notice f rows at n d ≡ []
 unknown_member f rows at n d extensions extras row none =
-    other_level (bytes_eq n (codes "extensions")) (bytes_eq n (codes "extras")) (extensions_notices f (extension_rows f.nodes (row_named n rows)) at d) (maybe_note at (extras_code d))
+    other_level (bytes_eq n (codes "extensions")) (bytes_eq n (codes "extras")) (extensions_notices f (extension_rows_of f.nodes f.known rows (row_named n rows)) at d) (maybe_note at (extras_code d))
     (named_level (λ i. notices f false (slice_get f.nodes i) at d) at rows n (row_named n rows) d) extensions extras (named_unknown (row_named n rows) (λ i. notices f false (slice_get f.nodes i) at d) at rows n d row none)
 
 -- ---- extension objects

@@ -12,7 +12,7 @@ use Rattle.gltf_schema.specs.declared.outline.Shape.TheVariants.{Object}
 use Rattle.gltf_findings_codes.specs.declared.code.Code.{Code}
 use Rattle.gltf_findings_codes.specs.declared.code.Code.TheVariants.{NonObjectExtras, UndeclaredExtension, UnexpectedExtensionObject}
 use Rattle.gltf_findings_members.specs.Misfits.{mismatch_unless}
-use Rattle.gltf_findings_members.specs.Rows.{row_named}
+use Rattle.gltf_findings_members.specs.Rows.{row_named, is_texture_info}
 use Rattle.gltf_findings_members.specs.declared.table.Table.{Table}
 
 pub record Format : Type 0 where
@@ -50,6 +50,16 @@ extension_lists nodes (s ∷ ss) = option_to_list (extension_list nodes s) ++ ex
 abbrev pub is_known : List (List Member) → List ℕ → Bool
 is_known [] n = false
 is_known (rows ∷ more) n = is_some (row_named n rows) || is_known more n
+
+-- the first rows of extension objects of which one has this name
+abbrev pub rows_with : List ℕ → List (List Member) → Option (List Member)
+rows_with n [] = None
+rows_with n (rows ∷ more) = if is_some (row_named n rows) then Some rows else rows_with n more
+
+-- the rows of the extension objects of an object with these rows: those that its row `extensions` has.
+-- KHR_texture_transform "may be defined on textureInfo structures", so all textureInfos have the same
+abbrev pub extension_rows_of : List Shape → List (List Member) → List Member → Option Member → Option (List Member)
+extension_rows_of nodes known rows m = if is_texture_info rows then rows_with (codes "KHR_texture_transform") known else extension_rows nodes m
 
 -- an extension object of a name that the object's rows don't have: other objects may have it, and one that the table
 -- doesn't know is an object

@@ -47,6 +47,10 @@ missing_notices at d (m ∷ ms) = maybe_note (at ++ field m.name.now ∷ []) (is
 abbrev pub is_target : List Member → Bool
 is_target ms = is_some (row_named (codes "POSITION") ms)
 
+-- sections 5.20, 5.21 and 5.30: normalTextureInfo, occlusionTextureInfo and textureInfo all have `index` and `texCoord`
+abbrev pub is_texture_info : List Member → Bool
+is_texture_info ms = is_some (row_named (codes "index") ms) && is_some (row_named (codes "texCoord") ms)
+
 -- a member that no row names; a morph target may have attributes that the table doesn't name
 abbrev pub unknown_code : List Member → List ℕ → Option Code
 unknown_code ms n = if is_target ms then (if is_attribute n then None else Some MeshPrimitiveInvalidAttribute) else Some UnexpectedProperty

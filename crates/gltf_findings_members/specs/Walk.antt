@@ -12,7 +12,7 @@ use Rattle.gltf_findings_members.specs.Misfits.{misfit_in}
 use Rattle.gltf_findings_members.specs.Lists.{empty_code, length_code, repeat_notices}
 use Rattle.gltf_findings_members.specs.Rows.{row_named, reads_null_as_absent, own_notices, unknown_code}
 use Rattle.gltf_findings_members.specs.Members.{attributes_notices, extension_row}
-use Rattle.gltf_findings_members.specs.Format.{Format, extension_rows, undeclared_code, unknown_extension_code, extras_code}
+use Rattle.gltf_findings_members.specs.Format.{Format, extension_rows_of, undeclared_code, unknown_extension_code, extras_code}
 
 -- ---- one level, with what is noticed inside
 
@@ -79,7 +79,7 @@ abbrev mutual
   member_notices f rows at json.no_members = []
   member_notices f rows at (json.member n d ms) =
       member_level (λ i. notices f false (slice_get f.nodes i) (at ++ field n ∷ []) d)
-      (extensions_notices f (extension_rows f.nodes (row_named n rows)) (at ++ field n ∷ []) d) (at ++ field n ∷ []) rows n d
+      (extensions_notices f (extension_rows_of f.nodes f.known rows (row_named n rows)) (at ++ field n ∷ []) d) (at ++ field n ∷ []) rows n d
       ++ member_notices f rows at ms
 
   -- the extension objects of an object
@@ -104,7 +104,7 @@ abbrev pub row_notices : Format → Member → List Step → Data → List Noted
 row_notices f m at d = row_level (λ i. notices f false (slice_get f.nodes i) at d) m d
 
 abbrev pub member_notice : Format → List Member → List Step → List ℕ → Data → List Noted
-member_notice f rows at n d = member_level (λ i. notices f false (slice_get f.nodes i) at d) (extensions_notices f (extension_rows f.nodes (row_named n rows)) at d) at rows n d
+member_notice f rows at n d = member_level (λ i. notices f false (slice_get f.nodes i) at d) (extensions_notices f (extension_rows_of f.nodes f.known rows (row_named n rows)) at d) at rows n d
 
 abbrev pub extension_notice : Format → Option (List Member) → List Step → List ℕ → Data → List Noted
 extension_notice f rows at n d = extension_level f (λ i. notices f false (slice_get f.nodes i) at d) at n (extension_row rows n) d

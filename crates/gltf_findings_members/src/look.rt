@@ -234,7 +234,7 @@ pub(crate) fn look_member(
         reader.new) }
 {
     match name {
-        "extensions" => look_extensions(reader, depth, table.extension_rows(row), table),
+        "extensions" => look_extensions(reader, depth, table.extension_rows(rows, row), table),
         "extras" => look_extras(reader, depth),
         _ => match row {
             Some(row) => look_row(reader, depth, row, table),

@@ -2,7 +2,7 @@
 
 ghost use Rattle.std.specs.Prelude.{◌≡◌, option_map};
 ghost use Rattle.serde_json.specs.View.{view, members_view};
-ghost use Rattle.gltf_findings_members.specs.Rows.{row_named, reads_null_as_absent, is_missing, is_needed, is_required, missing_notices, own_notices, empty_target_code, is_target, unknown_code};
+ghost use Rattle.gltf_findings_members.specs.Rows.{row_named, reads_null_as_absent, is_missing, is_needed, is_required, missing_notices, own_notices, empty_target_code, is_target, is_texture_info, unknown_code};
 ghost use Rattle.gltf_findings_members.specs.Noted.{steps_in, Adds};
 
 use crate::attribute::is_attribute;
@@ -105,6 +105,13 @@ pub(crate) fn is_target(rows: &[Member]) -> bool
     ensures { result ≡ is_target rows.now }
 {
     row_named(rows, "POSITION").is_some()
+}
+
+/// Whether the object refers to a texture: it has the rows `index` and `texCoord`.
+pub(crate) fn is_texture_info(rows: &[Member]) -> bool
+    ensures { result ≡ is_texture_info rows.now }
+{
+    row_named(rows, "index").is_some() && row_named(rows, "texCoord").is_some()
 }
 
 /// The code of a member that no row names.

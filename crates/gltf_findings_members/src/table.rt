@@ -2,10 +2,10 @@
 
 ghost use Rattle.std.specs.Prelude.{◌≡◌, ◌++◌, IfOk, OnOk, option_map, option_to_list, slice_get};
 ghost use Rattle.serde_json.specs.View.{view};
-ghost use Rattle.gltf_findings_members.specs.Format.{format_of, undeclared_code, unknown_extension_code, extension_rows, extension_list, extension_lists, lists_in, is_known, extras_code, rows_of};
+ghost use Rattle.gltf_findings_members.specs.Format.{format_of, undeclared_code, unknown_extension_code, extension_rows, extension_rows_of, rows_with, extension_list, extension_lists, lists_in, is_known, extras_code, rows_of};
 
 use crate::misfit::mismatch_unless;
-use crate::rows::row_named;
+use crate::rows::{is_texture_info, row_named};
 use gltf_findings_codes::Code;
 use gltf_schema::{Member, Shape};
 use serde_json::Value;
@@ -31,12 +31,22 @@ impl<'a> Table<'a> {
         self.nodes.get(number)
     }
 
-    /// The rows of the extension objects that a row has.
-    pub(crate) fn extension_rows(&self, row: Option<&Member>) -> Option<&'a Vec<Member>>
+    /// The rows of the extension objects of an object with these rows, one of which is that of
+    /// `extensions`. They are the same for all references to textures.
+    pub(crate) fn extension_rows(
+        &self,
+        rows: &[Member],
+        row: Option<&Member>,
+    ) -> Option<&'a Vec<Member>>
         ensures { option_map (λ rows. rows.now.items) result
-            ≡ extension_rows self.now.nodes.now (option_map (λ m. m.now) row.entry) }
+            ≡ extension_rows_of self.now.nodes.now (lists_in self.now.known.now) rows.now
+            (option_map (λ m. m.now) row.entry) }
     {
-        extension_rows(self.nodes, row)
+        if is_texture_info(rows) {
+            rows_with(self.known, "KHR_texture_transform")
+        } else {
+            extension_rows(self.nodes, row)
+        }
     }
 
     /// The code of an extension that `extensionsUsed` doesn't list.
@@ -80,6 +90,19 @@ fn is_known(known: &[&Vec<Member>], name: &str) -> bool
         }
     }
     false
+}
+
+/// The first rows that have the name.
+fn rows_with<'a>(known: &'a [&'a Vec<Member>], name: &str) -> Option<&'a Vec<Member>>
+    ensures { option_map (λ rows. rows.now.items) result
+        ≡ rows_with name.now (lists_in known.now) }
+{
+    for rows in known {
+        if row_named(rows, name).is_some() {
+            return Some(*rows);
+        }
+    }
+    None
 }
 
 /// The rows of the extension objects that a row has.

@@ -108,7 +108,7 @@ fn note_member<'a>(
 {
     let row = row_named(rows, name);
     match name {
-        "extensions" => note_extensions(value, table.extension_rows(row), table, to),
+        "extensions" => note_extensions(value, table.extension_rows(rows, row), table, to),
         "extras" => to.note_some(extras_code(value)),
         _ => match row {
             Some(row) => note_row(value, row, table, to),

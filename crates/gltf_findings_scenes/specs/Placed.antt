@@ -137,3 +137,8 @@ child_marks (x ∷ xs) marks = child_marks xs (mark_children x.children marks)
 abbrev pub joint_marks : List Skin → List Bool → List Bool
 joint_marks [] marks = marks
 joint_marks (s ∷ ss) marks = joint_marks ss (mark_all marks (map index_number s.joints.items))
+
+-- whether each mesh is skinned
+abbrev pub skinned_marks : List Mesh → List Bool
+skinned_marks [] = []
+skinned_marks (m ∷ ms) = is_skinned m.primitives.items ∷ skinned_marks ms

@@ -8,5 +8,5 @@ mod skins;
 
 pub use animations::AnimationRules;
 pub use nodes::{NodeRules, SceneRules};
-pub use placed::{PlacedRules, child_marks, joint_marks};
+pub use placed::{PlacedRules, child_marks, joint_marks, skinned_marks};
 pub use skins::SkinRules;

@@ -2,7 +2,7 @@
 
 ghost use Rattle.std.specs.Prelude.{◌≡◌, ◌<◌, ◌++◌, length, replicate, false, Option, option_copied, OnOk, IfOk};
 ghost use Rattle.gltf_findings_codes.specs.Found.{found};
-ghost use Rattle.gltf_findings_scenes.specs.Placed.{placed_findings, skin_rules, content_rules, mesh_of, has_other_weights, is_unskinned, is_skinned_mesh, is_empty, is_identity, is_some_identity, is_identity_at, identity_number, is_non_unit, is_some_oblique, are_oblique, dot, float_at, some_float, child_marks, joint_marks};
+ghost use Rattle.gltf_findings_scenes.specs.Placed.{placed_findings, skin_rules, content_rules, mesh_of, has_other_weights, is_unskinned, is_skinned_mesh, is_empty, is_identity, is_some_identity, is_identity_at, identity_number, is_non_unit, is_some_oblique, are_oblique, dot, float_at, some_float, child_marks, joint_marks, skinned_marks};
 
 use crate::nodes::has_transforms;
 use gltf_base::Real;
@@ -20,10 +20,13 @@ use std::alloc::{AllocError, Global};
 pub struct PlacedRules<'a> {
     /// The meshes of the document.
     pub meshes: &'a [Mesh],
+    /// Which meshes are skinned, by `skinned_marks`.
+    pub skinned: &'a [bool],
     /// Which nodes are children.
     pub children: &'a [bool],
     /// Which nodes are joints.
     pub joints: &'a [bool],
+    ghost marked: { skinned.now ≡ skinned_marks meshes.now },
 }
 
 impl Rules<Node> for PlacedRules<'_> {
@@ -34,31 +37,36 @@ impl Rules<Node> for PlacedRules<'_> {
     fn add(&self, number: usize, item: &Node, to: &mut Vec<Finding>) -> Result<(), AllocError> {
         let is_child = is_marked(self.children, number);
         let is_joint = is_marked(self.joints, number);
-        add_found(to, &skin_rules(self.meshes, is_child, number, item))?;
+        add_found(to, &skin_rules(self, is_child, number, item))?;
         add_found(to, &content_rules(is_joint, number, item))
     }
 }
 
 /// The rules for the mesh and the skin of a node, which may be a child.
-fn skin_rules(meshes: &[Mesh], is_child: bool, number: usize, node: &Node) -> [Option<Finding>; 5]
-    ensures { result ≡ skin_rules meshes.now is_child number node.now }
+fn skin_rules(
+    lists: &PlacedRules<'_>,
+    is_child: bool,
+    number: usize,
+    node: &Node,
+) -> [Option<Finding>; 5]
+    ensures { result ≡ skin_rules lists.now.meshes.now is_child number node.now }
 {
     let at = Object::Item(Name::Nodes, number);
     let has_skin = node.skin.is_some();
     let has_both = has_skin && node.mesh.is_some();
     [
         broken(
-            has_other_weights(meshes, node),
+            has_other_weights(lists.meshes, node),
             Code::NodeWeightsInvalid,
             Place::Member(at, Name::Weights),
         ),
         broken(
-            has_skin && is_unskinned(meshes, node),
+            has_skin && is_unskinned(lists, node),
             Code::NodeSkinWithNonSkinnedMesh,
             Place::Member(at, Name::Skin),
         ),
         broken(
-            !has_skin && is_skinned_mesh(meshes, node),
+            !has_skin && is_skinned_mesh(lists, node),
             Code::NodeSkinnedMeshWithoutSkin,
             Place::Object(at),
         ),
@@ -127,21 +135,22 @@ fn has_other_weights(meshes: &[Mesh], node: &Node) -> bool
 }
 
 /// Whether a node has a mesh with a primitive that has no joints.
-fn is_unskinned(meshes: &[Mesh], node: &Node) -> bool
-    ensures { result ≡ is_unskinned (mesh_of meshes.now node.now) }
+fn is_unskinned(lists: &PlacedRules<'_>, node: &Node) -> bool
+    ensures { result ≡ is_unskinned (mesh_of lists.now.meshes.now node.now) }
 {
-    match mesh_of(meshes, node) {
-        Some(mesh) => !is_skinned(&mesh.primitives),
+    match mesh_of(lists.meshes, node) {
+        Some(_) => !is_skinned_mesh(lists, node),
         None => false,
     }
 }
 
 /// Whether a node has a mesh whose primitives have joints.
-fn is_skinned_mesh(meshes: &[Mesh], node: &Node) -> bool
-    ensures { result ≡ is_skinned_mesh (mesh_of meshes.now node.now) }
+#[tactic(auto, using(crate::proofs::Marked::marked_mesh))]
+fn is_skinned_mesh(lists: &PlacedRules<'_>, node: &Node) -> bool
+    ensures { result ≡ is_skinned_mesh (mesh_of lists.now.meshes.now node.now) }
 {
-    match mesh_of(meshes, node) {
-        Some(mesh) => is_skinned(&mesh.primitives),
+    match node.mesh {
+        Some(mesh) => is_marked(lists.skinned, mesh.value()),
         None => false,
     }
 }
@@ -280,6 +289,17 @@ pub fn joint_marks(alloc: Global, count: usize, skins: &[Skin]) -> Result<Vec<bo
     let mut marks = vec![in alloc; false; count]?;
     for skin in skins {
         mark_all(&mut marks, &skin.joints);
+    }
+    Ok(marks)
+}
+
+/// Marks the meshes that are skinned, in one pass. Fails only if out of memory.
+pub fn skinned_marks(alloc: Global, meshes: &[Mesh]) -> Result<Vec<bool>, AllocError>
+    ensures { IfOk result (λ marks. marks.items ≡ skinned_marks meshes.now) }
+{
+    let mut marks = Vec::new(alloc);
+    for mesh in meshes {
+        marks.push(is_skinned(&mesh.primitives))?;
     }
     Ok(marks)
 }

@@ -6,3 +6,4 @@ pub mod Rooted
 pub mod Lawful
 pub mod Skinned
 pub mod Named
+pub mod Digited

@@ -6,3 +6,4 @@ pub mod Uses
 pub mod Versions
 pub mod Skeletons
 pub mod Rooting
+pub mod Digits

@@ -6,13 +6,17 @@
 use anyhow::{Result, ensure};
 use gltf_json::{Node, Root, Scene};
 use gltf_load::{
-    Accessor, Buffers, Document, Folder, Forest, Glb, Layout, Reader, is_scene_of, local_matrix,
+    Accessor, Accessors, Buffers, Document, Folder, Forest, Glb, Layout, Reader, is_scene_of,
+    local_matrix,
 };
 use std::alloc::{AllocError, Global};
 use std::{env, fs};
 
 /// The most bytes that the buffers of a file may have.
 const MOST_BYTES: u64 = 1 << 30;
+
+/// The most elements that an accessor may have of which the file has no bytes.
+const MOST_ZEROS: u64 = 1 << 24;
 
 /// The matrix that changes nothing.
 const IDENTITY: [f32; 16] = [
@@ -36,21 +40,15 @@ fn load<'a>(rt: &'a HostRuntime, path: &'a str) -> Result<()> {
     let document = Document::of(&root);
     let forest = Forest::of(alloc, &document)?;
     let layout = Layout::of(alloc, &document)?;
+    // The file bounds all other counts: loops over such elements could run for years.
+    ensure!(
+        layout.most_zeros() <= MOST_ZEROS,
+        "an accessor without a buffer view has more than {MOST_ZEROS} elements"
+    );
     let mut folder = Folder::new(rt, folder_of(path), MOST_BYTES);
     let buffers = Buffers::of(alloc, &document, bin, &mut folder)?;
-    print_document(rt, &root, &forest, &layout, &buffers)
-}
-
-/// Prints the scenes and the meshes of a document.
-fn print_document(
-    rt: &HostRuntime,
-    root: &Root,
-    forest: &Forest,
-    layout: &Layout,
-    buffers: &Buffers<'_>,
-) -> Result<()> {
-    print_scenes(rt, root, forest)?;
-    print_meshes(rt, root, layout, buffers)
+    print_scenes(rt, &root, &forest)?;
+    print_meshes(rt, &root, &Accessors::of(&document, &layout, &buffers))
 }
 
 /// The document in a file, and the data of its first buffer, if that is in it too.
@@ -167,17 +165,11 @@ fn nodes_of(alloc: Global, scene: &Scene, forest: &Forest) -> Result<Vec<u32>, A
 }
 
 /// Prints the primitives of each mesh.
-fn print_meshes<'a>(
-    rt: &HostRuntime,
-    root: &'a Root,
-    layout: &'a Layout,
-    buffers: &'a Buffers<'a>,
-) -> Result<()> {
-    let document = Document::of(root);
+fn print_meshes<'a>(rt: &HostRuntime, root: &'a Root, accessors: &Accessors<'a>) -> Result<()> {
     for mesh in &root.meshes {
         println!(rt; "  mesh {}", mesh.name.as_deref().unwrap_or("(unnamed)"))?;
         for primitive in &mesh.primitives {
-            print_primitive(rt, &Reader::of(&document, layout, buffers, primitive))?;
+            print_primitive(rt, &accessors.reader(primitive))?;
         }
     }
     Ok(())

@@ -6,7 +6,11 @@ use Rattle.gltf_schema.specs.Fields.{entry_of}
 use Rattle.gltf_parts.specs.declared.accessor.Accessor.{Accessor}
 use Rattle.gltf_scene.specs.declared.mesh.Primitive.{Primitive}
 use Rattle.gltf_layout.specs.declared.place.Place.{Place}
+use Rattle.gltf_layout.specs.declared.layout.Layout.{Layout}
+use Rattle.gltf_layout.specs.Places.{ArePlaces}
 use Rattle.gltf_layout.specs.Layouts.{layout_places}
+use Rattle.gltf_document.specs.declared.document.Document.{Document}
+use Rattle.gltf_document.specs.Documents.{stored_in}
 use Rattle.gltf_accessors.specs.declared.data.AccessorData.{AccessorData}
 use Rattle.gltf_accessors.specs.declared.format.Usage.{Usage}
 use Rattle.gltf_accessors.specs.declared.fault.AccessorDataFault.{AccessorDataFault}
@@ -15,6 +19,10 @@ use Rattle.gltf_accessors.specs.Reads.{ReadsData}
 use Rattle.gltf_load.specs.declared.accessors.Accessors.{Accessors}
 use Rattle.gltf_load.specs.declared.fault.ReadFault.{ReadFault}
 use Rattle.gltf_load.specs.declared.fault.ReadFault.TheVariants as read
+
+-- a layout is that of a document: it has the place of each of its accessors
+abbrev pub IsLayoutOf : Document → Layout → Type 0
+IsLayoutOf d l = ArePlaces (stored_in d.buffers.now d.views.now d.accessors.now) (layout_places l)
 
 -- an accessor of the document, its place in the layout, and the bytes of the buffers
 pub record IsDataOf (s : Accessors) (n : ℕ) (d : AccessorData) : Type 0 where

@@ -7,9 +7,10 @@ ghost use Rattle.gltf_accessors.specs.declared.format.Usage.TheVariants as usage
 ghost use Rattle.gltf_accessors.specs.Data.{IsAccessorAt};
 ghost use Rattle.gltf_accessors.specs.Formats.{usage_of};
 ghost use Rattle.gltf_accessors.specs.Reads.{IsFloatsFault, IsOutputsAt, IsOutputsFault};
-ghost use Rattle.gltf_load.specs.Read.{IsDataOf, IsMissing, IsMissingFault, ReadsAt, ReadsNamed, with_number, optional_with_number};
+ghost use Rattle.gltf_load.specs.Read.{IsLayoutOf, IsDataOf, IsMissing, IsMissingFault, ReadsAt, ReadsNamed, with_number, optional_with_number};
 
 use crate::fault::ReadFault;
+use crate::reader::Reader;
 use gltf_accessors::{AccessFault, AccessorData, Outputs};
 use gltf_base::Index;
 use gltf_base::animation::Property;
@@ -18,7 +19,7 @@ use gltf_document::Document;
 use gltf_layout::Layout;
 use gltf_parts::accessor::Accessor;
 use gltf_scene::animation::Sampler;
-use gltf_scene::mesh::MorphTarget;
+use gltf_scene::mesh::{MorphTarget, Primitive};
 use gltf_scene::skin::Skin;
 
 /// Elements of N floats.
@@ -35,12 +36,14 @@ pub struct Accessors<'a> {
 }
 
 impl<'a> Accessors<'a> {
-    /// Returns the accessors of a document, with its layout and its buffers.
+    /// Returns the accessors of a document, with its own layout, as `Layout::of` returns it, and
+    /// the bytes of its buffers.
     pub fn of(
         document: &Document<'a>,
         layout: &'a Layout,
         buffers: &'a Buffers<'a>,
     ) -> Accessors<'a>
+        requires { IsLayoutOf document.now layout.now }
         ensures accessors { result.accessors.now ≡ document.now.accessors.now }
         ensures layout { result.layout.now ≡ layout.now }
         ensures buffers { result.buffers.now ≡ buffers.now }
@@ -49,6 +52,17 @@ impl<'a> Accessors<'a> {
             accessors: document.accessors,
             layout,
             buffers,
+        }
+    }
+
+    /// Returns a reader of a primitive of the document.
+    pub fn reader(&self, primitive: &'a Primitive) -> Reader<'a>
+        ensures accessors { result.accessors ≡ self.now }
+        ensures primitive { result.primitive.now ≡ primitive.now }
+    {
+        Reader {
+            accessors: *self,
+            primitive,
         }
     }
 

@@ -7,7 +7,7 @@ ghost use Rattle.gltf_base.specs.Semantics.{semantic_key};
 ghost use Rattle.gltf_accessors.specs.declared.format.Usage.TheVariants as usages;
 ghost use Rattle.gltf_accessors.specs.Data.{IsAccessorAt};
 ghost use Rattle.gltf_accessors.specs.Reads.{IsFloatsFault, IsVectorsAt, IsVectorsFault, IsColorsAt, IsColorsFault, IsJointsAt, IsJointsFault, IsIndicesAt, IsPrimitiveIndicesFault};
-ghost use Rattle.gltf_load.specs.Read.{ReadsNamed, attribute_at};
+ghost use Rattle.gltf_load.specs.Read.{IsLayoutOf, ReadsNamed, attribute_at};
 
 use crate::accessors::{Accessors, optional_with_number};
 use crate::attribute::accessor_of;
@@ -25,27 +25,26 @@ use gltf_scene::mesh::Primitive;
 /// it says. It takes time in proportion to the components, and no memory.
 #[derive(Clone, Copy)]
 pub struct Reader<'a> {
-    accessors: Accessors<'a>,
-    primitive: &'a Primitive,
+    pub(crate) accessors: Accessors<'a>,
+    pub(crate) primitive: &'a Primitive,
 }
 
 impl<'a> Reader<'a> {
-    /// Returns a reader of a primitive of a document, with its layout and its buffers.
+    /// Returns a reader of a primitive of a document, with the document's own layout, as
+    /// `Layout::of` returns it, and the bytes of its buffers.
     pub fn of(
         document: &Document<'a>,
         layout: &'a Layout,
         buffers: &'a Buffers<'a>,
         primitive: &'a Primitive,
     ) -> Reader<'a>
+        requires { IsLayoutOf document.now layout.now }
         ensures accessors { result.accessors.accessors.now ≡ document.now.accessors.now }
         ensures layout { result.accessors.layout.now ≡ layout.now }
         ensures buffers { result.accessors.buffers.now ≡ buffers.now }
         ensures primitive { result.primitive.now ≡ primitive.now }
     {
-        Reader {
-            accessors: Accessors::of(document, layout, buffers),
-            primitive,
-        }
+        Accessors::of(document, layout, buffers).reader(primitive)
     }
 
     /// The accessors of the document.

@@ -9,9 +9,7 @@ mod reads;
 
 use anyhow::Result;
 use elements::print_accessor;
-use gltf_load::{
-    Accessors, Buffers, Document, Folder, Glb, Layout, LayoutError, LayoutFaults, Reader,
-};
+use gltf_load::{Accessors, Buffers, Document, Folder, Glb, Layout, LayoutError, LayoutFaults};
 use gltf_root::root::Root;
 use reads::{print_animation, print_primitive, print_skin};
 use std::{env, fs};
@@ -41,11 +39,12 @@ fn print_file(rt: &HostRuntime, path: &str) -> Result<()> {
     };
     let mut folder = Folder::new(rt, "", MOST_BYTES);
     let buffers = Buffers::of(rt.alloc(), &document, bin, &mut folder)?;
-    print_document(rt, &root, &layout, &buffers)
+    print_accessors(rt, &root, &layout, &buffers)?;
+    print_readers(rt, &root, &Accessors::of(&document, &layout, &buffers))
 }
 
-/// Prints the elements of each accessor, and what the rest of the document reads of them.
-fn print_document(
+/// Prints the elements of each accessor.
+fn print_accessors(
     rt: &HostRuntime,
     root: &Root,
     layout: &Layout,
@@ -56,33 +55,22 @@ fn print_document(
             print_accessor(rt, buffers, place, number, accessor.normalized)?;
         }
     }
-    print_readers(rt, root, layout, buffers)
+    Ok(())
 }
 
 /// Prints what the primitives, skins and animations of a document read.
-fn print_readers<'a>(
-    rt: &HostRuntime,
-    root: &'a Root,
-    layout: &'a Layout,
-    buffers: &'a Buffers<'a>,
-) -> Result<()> {
-    let document = Document::of(root);
+fn print_readers<'a>(rt: &HostRuntime, root: &'a Root, accessors: &Accessors<'a>) -> Result<()> {
     for mesh in &root.meshes {
         for primitive in &mesh.primitives {
             println!(rt; "a primitive")?;
-            print_primitive(
-                rt,
-                &Reader::of(&document, layout, buffers, primitive),
-                primitive,
-            )?;
+            print_primitive(rt, &accessors.reader(primitive), primitive)?;
         }
     }
-    let accessors = Accessors::of(&document, layout, buffers);
     for skin in &root.skins {
-        print_skin(rt, &accessors, skin)?;
+        print_skin(rt, accessors, skin)?;
     }
     for animation in &root.animations {
-        print_animation(rt, &accessors, animation)?;
+        print_animation(rt, accessors, animation)?;
     }
     Ok(())
 }

@@ -1,6 +1,9 @@
 //! Documents that are read, with elements and matrices that are worked by hand.
 
 ghost use Rattle.std.specs.Prelude.{⊤, None};
+ghost use Rattle.gltf_layout.specs.Layouts.{layout_places};
+ghost use Rattle.gltf_layout.specs.Places.{ArePlaces};
+ghost use Rattle.gltf_document.specs.Documents.{stored_in};
 
 use gltf_base::accessor::{AccessorType, ComponentType};
 use gltf_base::animation::Property;
@@ -63,6 +66,8 @@ struct Loaded {
     layout: Layout,
     buffers: Buffers<'static>,
     root: Root,
+    ghost own_layout: { ArePlaces (stored_in root.buffers.items root.buffer_views.items
+        root.accessors.items) (layout_places layout) },
 }
 
 /// The document that has only the point.
@@ -93,15 +98,17 @@ fn first_primitive(root: &Root) -> Result<&Primitive, &'static str> {
 
 /// The reader of the first primitive of a document.
 fn first_reader(loaded: &Loaded) -> Result<Reader<'_>, &'static str> {
-    let document = Document::of(&loaded.root);
     let primitive = first_primitive(&loaded.root)?;
+    let document = Document::of(&loaded.root);
     Ok(Reader::of(&document, &loaded.layout, &loaded.buffers, primitive))
 }
 
 /// The position of the only vertex.
 fn only_position(reader: &Reader<'_>) -> Option<[f32; 3]> {
     match reader.read_positions() {
-        Ok(Some(positions)) if positions.len() == 1 => Some(positions.get(0)),
+        Ok(Some(positions)) if positions.is_stored() && positions.len() == 1 => {
+            Some(positions.get(0))
+        }
         _ => None,
     }
 }
@@ -154,7 +161,7 @@ fn are_sets_told_apart(reader: &Reader<'_>) -> bool {
 /// What a morph target adds to the only vertex.
 fn only_displacement(accessors: &Accessors<'_>, target: &MorphTarget) -> Option<[f32; 3]> {
     match accessors.read_morph_positions(target) {
-        Ok(Some(added)) if added.len() == 1 => Some(added.get(0)),
+        Ok(Some(added)) if !added.is_stored() && added.len() == 1 => Some(added.get(0)),
         _ => None,
     }
 }
@@ -251,6 +258,41 @@ fn what_samplers_and_skins_name_is_read(rt: HostRuntime) -> Result<(), Fail> {
         accessors_of(&point).data(5).is_none(),
         "there is no accessor 5",
     )
+}
+
+/// A mesh whose positions are 2^53 zeros, of which the document has no bytes.
+const ZEROS: &str = r#"{"asset":{"version":"2.0"},"accessors":[
+{"componentType":5126,"count":2,"type":"VEC3"},
+{"componentType":5126,"count":9007199254740992,"type":"VEC3"},
+{"componentType":5126,"count":3,"type":"VEC3"}],
+"meshes":[{"primitives":[{"attributes":{"POSITION":1}}]}]}"#;
+
+/// How many elements the largest accessor without a view has.
+fn most_zeros(alloc: Global, text: &str) -> Result<u64, Fail> {
+    let root = Root::from_str(alloc, text)?;
+    let layout = Layout::of(alloc, &Document::of(&root))?;
+    Ok(layout.most_zeros())
+}
+
+/// Whether an accessor has a view.
+fn is_stored(loaded: &Loaded, accessor: usize) -> Option<bool> {
+    match loaded.layout.place(accessor) {
+        Some(place) => Some(place.is_stored()),
+        None => None,
+    }
+}
+
+#[test]
+fn zeros_without_bytes_are_told(rt: HostRuntime) -> Result<(), Fail> {
+    holds(
+        most_zeros(rt.alloc(), ZEROS)? == 1 << 53,
+        "the most elements without a view",
+    )?;
+    holds(most_zeros(rt.alloc(), NODES)? == 0, "no accessor")?;
+    let point = loaded_point(rt.alloc())?;
+    holds(is_stored(&point, 0) == Some(true), "one has a view")?;
+    holds(is_stored(&point, 3) == Some(false), "one has none")?;
+    holds(point.layout.most_zeros() == 1, "the one without a view")
 }
 
 /// Whether the elements of accessors have these sizes.

@@ -1,9 +1,6 @@
 //! Documents that are read, with elements and matrices that are worked by hand.
 
 ghost use Rattle.std.specs.Prelude.{⊤, None};
-ghost use Rattle.gltf_layout.specs.Layouts.{layout_places};
-ghost use Rattle.gltf_layout.specs.Places.{ArePlaces};
-ghost use Rattle.gltf_document.specs.Documents.{stored_in};
 
 use gltf_base::accessor::{AccessorType, ComponentType};
 use gltf_base::animation::Property;
@@ -60,32 +57,9 @@ const BIN: [u8; 17] = [
     0, 0, 0x80, 0x3F, 0, 0, 0, 0xC0, 0, 0, 0, 0x3F, 0, 0, 0, 0x40, 0,
 ];
 
-/// A document that is read, where its elements lie, and the bytes in which they do.
-#[derive(Drop)]
-struct Loaded {
-    layout: Layout,
-    buffers: Buffers<'static>,
-    root: Root,
-    ghost own_layout: { ArePlaces (stored_in root.buffers.items root.buffer_views.items
-        root.accessors.items) (layout_places layout) },
-}
-
-/// The document that has only the point.
-fn loaded_point(alloc: Global) -> Result<Loaded, Fail> {
-    let root = Root::from_str(alloc, POINT)?;
-    let document = Document::of(&root);
-    let layout = Layout::of(alloc, &document)?;
-    let buffers = Buffers::of(alloc, &document, Some(&BIN), &mut NoFiles)?;
-    Ok(Loaded {
-        layout,
-        buffers,
-        root,
-    })
-}
-
-/// The accessors of a document.
-fn accessors_of(loaded: &Loaded) -> Accessors<'_> {
-    Accessors::of(&Document::of(&loaded.root), &loaded.layout, &loaded.buffers)
+/// The bytes of the buffers of the document that has only the point.
+fn point_buffers(alloc: Global, document: &Document<'_>) -> Result<Buffers<'static>, Fail> {
+    Ok(Buffers::of(alloc, document, Some(&BIN), &mut NoFiles)?)
 }
 
 /// The first primitive of a document.
@@ -94,13 +68,6 @@ fn first_primitive(root: &Root) -> Result<&Primitive, &'static str> {
         Some(mesh) => mesh.primitives.first().ok_or("no primitive"),
         None => Err("no mesh"),
     }
-}
-
-/// The reader of the first primitive of a document.
-fn first_reader(loaded: &Loaded) -> Result<Reader<'_>, &'static str> {
-    let primitive = first_primitive(&loaded.root)?;
-    let document = Document::of(&loaded.root);
-    Ok(Reader::of(&document, &loaded.layout, &loaded.buffers, primitive))
 }
 
 /// The position of the only vertex.
@@ -181,8 +148,8 @@ fn are_zeros_added(accessors: &Accessors<'_>, target: &MorphTarget) -> bool {
 }
 
 /// Whether that is so for the first morph target of a document.
-fn is_target_read(loaded: &Loaded, reader: &Reader<'_>) -> Result<bool, &'static str> {
-    match &first_primitive(&loaded.root)?.targets {
+fn is_target_read(root: &Root, reader: &Reader<'_>) -> Result<bool, &'static str> {
+    match &first_primitive(root)?.targets {
         Some(targets) => {
             let target = targets.first().ok_or("no morph target")?;
             Ok(are_zeros_added(&reader.accessors(), target))
@@ -193,12 +160,15 @@ fn is_target_read(loaded: &Loaded, reader: &Reader<'_>) -> Result<bool, &'static
 
 #[test]
 fn what_a_primitive_names_is_read(rt: HostRuntime) -> Result<(), Fail> {
-    let point = loaded_point(rt.alloc())?;
-    let reader = first_reader(&point)?;
+    let root = Root::from_str(rt.alloc(), POINT)?;
+    let document = Document::of(&root);
+    let layout = Layout::of(rt.alloc(), &document)?;
+    let buffers = point_buffers(rt.alloc(), &document)?;
+    let reader = Reader::of(&document, &layout, &buffers, first_primitive(&root)?);
     holds(is_vertex_read(&reader), "the position and the index")?;
     holds(are_integers_refused(&reader), "integers are no normals")?;
     holds(are_sets_told_apart(&reader), "texture coordinates")?;
-    holds(is_target_read(&point, &reader)?, "the morph target")
+    holds(is_target_read(&root, &reader)?, "the morph target")
 }
 
 /// The first sampler of a document.
@@ -230,9 +200,8 @@ fn is_scale_read(accessors: &Accessors<'_>, sampler: &Sampler) -> bool {
 }
 
 /// Whether that is so for the first sampler of a document.
-fn is_sampler_read(loaded: &Loaded) -> Result<bool, &'static str> {
-    let sampler = first_sampler(&loaded.root)?;
-    Ok(is_scale_read(&accessors_of(loaded), sampler))
+fn is_sampler_read(root: &Root, accessors: &Accessors<'_>) -> Result<bool, &'static str> {
+    Ok(is_scale_read(accessors, first_sampler(root)?))
 }
 
 /// Whether a skin has matrices.
@@ -244,20 +213,21 @@ fn has_matrices(accessors: &Accessors<'_>, skin: &Skin) -> Result<bool, ReadFaul
 }
 
 /// Whether the first skin of a document is found to have no matrices.
-fn is_skin_read(loaded: &Loaded) -> Result<bool, &'static str> {
-    let skin = loaded.root.skins.first().ok_or("no skin")?;
-    Ok(has_matrices(&accessors_of(loaded), skin) == Ok(false))
+fn is_skin_read(root: &Root, accessors: &Accessors<'_>) -> Result<bool, &'static str> {
+    let skin = root.skins.first().ok_or("no skin")?;
+    Ok(has_matrices(accessors, skin) == Ok(false))
 }
 
 #[test]
 fn what_samplers_and_skins_name_is_read(rt: HostRuntime) -> Result<(), Fail> {
-    let point = loaded_point(rt.alloc())?;
-    holds(is_sampler_read(&point)?, "the sampler")?;
-    holds(is_skin_read(&point)?, "the skin")?;
-    holds(
-        accessors_of(&point).data(5).is_none(),
-        "there is no accessor 5",
-    )
+    let root = Root::from_str(rt.alloc(), POINT)?;
+    let document = Document::of(&root);
+    let layout = Layout::of(rt.alloc(), &document)?;
+    let buffers = point_buffers(rt.alloc(), &document)?;
+    let accessors = Accessors::of(&document, &layout, &buffers);
+    holds(is_sampler_read(&root, &accessors)?, "the sampler")?;
+    holds(is_skin_read(&root, &accessors)?, "the skin")?;
+    holds(accessors.data(5).is_none(), "there is no accessor 5")
 }
 
 /// A mesh whose positions are 2^53 zeros, of which the document has no bytes.
@@ -275,8 +245,8 @@ fn most_zeros(alloc: Global, text: &str) -> Result<u64, Fail> {
 }
 
 /// Whether an accessor has a view.
-fn is_stored(loaded: &Loaded, accessor: usize) -> Option<bool> {
-    match loaded.layout.place(accessor) {
+fn is_stored(layout: &Layout, accessor: usize) -> Option<bool> {
+    match layout.place(accessor) {
         Some(place) => Some(place.is_stored()),
         None => None,
     }
@@ -289,10 +259,11 @@ fn zeros_without_bytes_are_told(rt: HostRuntime) -> Result<(), Fail> {
         "the most elements without a view",
     )?;
     holds(most_zeros(rt.alloc(), NODES)? == 0, "no accessor")?;
-    let point = loaded_point(rt.alloc())?;
-    holds(is_stored(&point, 0) == Some(true), "one has a view")?;
-    holds(is_stored(&point, 3) == Some(false), "one has none")?;
-    holds(point.layout.most_zeros() == 1, "the one without a view")
+    let root = Root::from_str(rt.alloc(), POINT)?;
+    let layout = Layout::of(rt.alloc(), &Document::of(&root))?;
+    holds(is_stored(&layout, 0) == Some(true), "one has a view")?;
+    holds(is_stored(&layout, 3) == Some(false), "one has none")?;
+    holds(layout.most_zeros() == 1, "the one without a view")
 }
 
 /// Whether the elements of accessors have these sizes.

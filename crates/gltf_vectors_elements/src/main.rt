@@ -34,7 +34,7 @@ fn print_file(rt: &HostRuntime, path: &str) -> Result<()> {
     let document = Document::of(&root);
     let layout = match Layout::of(rt.alloc(), &document) {
         Ok(layout) => layout,
-        Err(LayoutError::Fault(_)) => return print_faults(rt, document),
+        Err(LayoutError::Fault(_)) => return print_faults(rt, Document::of(&root)),
         Err(error) => return Err(error.into()),
     };
     let mut folder = Folder::new(rt, "", MOST_BYTES);

@@ -3,6 +3,10 @@
 //! primitive how many vertices and indices it has and the box around its vertices.
 #![tactic(auto)]
 
+ghost use Rattle.gltf_layout.specs.Layouts.{layout_places};
+ghost use Rattle.gltf_layout.specs.Places.{ArePlaces};
+ghost use Rattle.gltf_document.specs.Documents.{stored_in};
+
 use anyhow::{Result, ensure};
 use gltf_json::{Node, Root, Scene};
 use gltf_load::{
@@ -47,8 +51,22 @@ fn load<'a>(rt: &'a HostRuntime, path: &'a str) -> Result<()> {
     );
     let mut folder = Folder::new(rt, folder_of(path), MOST_BYTES);
     let buffers = Buffers::of(alloc, &document, bin, &mut folder)?;
-    print_scenes(rt, &root, &forest)?;
-    print_meshes(rt, &root, &Accessors::of(&document, &layout, &buffers))
+    print_document(rt, &root, &forest, &layout, &buffers)
+}
+
+/// Prints the scenes and the meshes of a document, whose own layout this is.
+fn print_document(
+    rt: &HostRuntime,
+    root: &Root,
+    forest: &Forest,
+    layout: &Layout,
+    buffers: &Buffers<'_>,
+) -> Result<()>
+    requires { ArePlaces (stored_in root.now.buffers.items root.now.buffer_views.items
+        root.now.accessors.items) (layout_places layout.now) }
+{
+    print_scenes(rt, root, forest)?;
+    print_meshes(rt, root, layout, buffers)
 }
 
 /// The document in a file, and the data of its first buffer, if that is in it too.
@@ -165,7 +183,17 @@ fn nodes_of(alloc: Global, scene: &Scene, forest: &Forest) -> Result<Vec<u32>, A
 }
 
 /// Prints the primitives of each mesh.
-fn print_meshes<'a>(rt: &HostRuntime, root: &'a Root, accessors: &Accessors<'a>) -> Result<()> {
+fn print_meshes<'a>(
+    rt: &HostRuntime,
+    root: &'a Root,
+    layout: &'a Layout,
+    buffers: &'a Buffers<'a>,
+) -> Result<()>
+    requires { ArePlaces (stored_in root.now.buffers.items root.now.buffer_views.items
+        root.now.accessors.items) (layout_places layout.now) }
+{
+    let document = Document::of(root);
+    let accessors = Accessors::of(&document, layout, buffers);
     for mesh in &root.meshes {
         println!(rt; "  mesh {}", mesh.name.as_deref().unwrap_or("(unnamed)"))?;
         for primitive in &mesh.primitives {

@@ -3,6 +3,10 @@
 //! the files in `data/`, and works out what is due in `stdout` from the numbers that it packs.
 #![tactic(auto)]
 
+ghost use Rattle.gltf_layout.specs.Layouts.{layout_places};
+ghost use Rattle.gltf_layout.specs.Places.{ArePlaces};
+ghost use Rattle.gltf_document.specs.Documents.{stored_in};
+
 mod elements;
 mod number;
 mod reads;
@@ -39,27 +43,39 @@ fn print_file(rt: &HostRuntime, path: &str) -> Result<()> {
     };
     let mut folder = Folder::new(rt, "", MOST_BYTES);
     let buffers = Buffers::of(rt.alloc(), &document, bin, &mut folder)?;
-    print_accessors(rt, &root, &layout, &buffers)?;
-    print_readers(rt, &root, &Accessors::of(&document, &layout, &buffers))
+    print_document(rt, &root, &layout, &buffers)
 }
 
-/// Prints the elements of each accessor.
-fn print_accessors(
+/// Prints the elements of each accessor, and what the rest of the document reads of them.
+fn print_document(
     rt: &HostRuntime,
     root: &Root,
     layout: &Layout,
     buffers: &Buffers<'_>,
-) -> Result<()> {
+) -> Result<()>
+    requires { ArePlaces (stored_in root.now.buffers.items root.now.buffer_views.items
+        root.now.accessors.items) (layout_places layout.now) }
+{
     for (number, accessor) in root.accessors.iter().enumerate() {
         if let Some(place) = layout.place(number) {
             print_accessor(rt, buffers, place, number, accessor.normalized)?;
         }
     }
-    Ok(())
+    print_readers(rt, root, layout, buffers)
 }
 
 /// Prints what the primitives, skins and animations of a document read.
-fn print_readers<'a>(rt: &HostRuntime, root: &'a Root, accessors: &Accessors<'a>) -> Result<()> {
+fn print_readers<'a>(
+    rt: &HostRuntime,
+    root: &'a Root,
+    layout: &'a Layout,
+    buffers: &'a Buffers<'a>,
+) -> Result<()>
+    requires { ArePlaces (stored_in root.now.buffers.items root.now.buffer_views.items
+        root.now.accessors.items) (layout_places layout.now) }
+{
+    let document = Document::of(root);
+    let accessors = Accessors::of(&document, layout, buffers);
     for mesh in &root.meshes {
         for primitive in &mesh.primitives {
             println!(rt; "a primitive")?;
@@ -67,10 +83,10 @@ fn print_readers<'a>(rt: &HostRuntime, root: &'a Root, accessors: &Accessors<'a>
         }
     }
     for skin in &root.skins {
-        print_skin(rt, accessors, skin)?;
+        print_skin(rt, &accessors, skin)?;
     }
     for animation in &root.animations {
-        print_animation(rt, accessors, animation)?;
+        print_animation(rt, &accessors, animation)?;
     }
     Ok(())
 }

@@ -1,6 +1,9 @@
 //! Documents that are read, with elements and matrices that are worked by hand.
 
 ghost use Rattle.std.specs.Prelude.{⊤, None};
+ghost use Rattle.gltf_layout.specs.Layouts.{layout_places};
+ghost use Rattle.gltf_layout.specs.Places.{ArePlaces};
+ghost use Rattle.gltf_document.specs.Documents.{stored_in};
 
 use gltf_base::accessor::{AccessorType, ComponentType};
 use gltf_base::animation::Property;
@@ -60,6 +63,15 @@ const BIN: [u8; 17] = [
 /// The bytes of the buffers of the document that has only the point.
 fn point_buffers(alloc: Global, document: &Document<'_>) -> Result<Buffers<'static>, Fail> {
     Ok(Buffers::of(alloc, document, Some(&BIN), &mut NoFiles)?)
+}
+
+/// The accessors of a document, whose own layout this is.
+fn accessors_of<'a>(root: &'a Root, layout: &'a Layout, buffers: &'a Buffers<'a>) -> Accessors<'a>
+    requires { ArePlaces (stored_in root.now.buffers.items root.now.buffer_views.items
+        root.now.accessors.items) (layout_places layout.now) }
+{
+    let document = Document::of(root);
+    Accessors::of(&document, layout, buffers)
 }
 
 /// The first primitive of a document.
@@ -158,17 +170,26 @@ fn is_target_read(root: &Root, reader: &Reader<'_>) -> Result<bool, &'static str
     }
 }
 
+/// Tries what the first primitive of the document names.
+fn try_primitive(root: &Root, layout: &Layout, buffers: &Buffers<'_>) -> Result<(), Fail>
+    requires { ArePlaces (stored_in root.now.buffers.items root.now.buffer_views.items
+        root.now.accessors.items) (layout_places layout.now) }
+{
+    let document = Document::of(root);
+    let reader = Reader::of(&document, layout, buffers, first_primitive(root)?);
+    holds(is_vertex_read(&reader), "the position and the index")?;
+    holds(are_integers_refused(&reader), "integers are no normals")?;
+    holds(are_sets_told_apart(&reader), "texture coordinates")?;
+    holds(is_target_read(root, &reader)?, "the morph target")
+}
+
 #[test]
 fn what_a_primitive_names_is_read(rt: HostRuntime) -> Result<(), Fail> {
     let root = Root::from_str(rt.alloc(), POINT)?;
     let document = Document::of(&root);
     let layout = Layout::of(rt.alloc(), &document)?;
     let buffers = point_buffers(rt.alloc(), &document)?;
-    let reader = Reader::of(&document, &layout, &buffers, first_primitive(&root)?);
-    holds(is_vertex_read(&reader), "the position and the index")?;
-    holds(are_integers_refused(&reader), "integers are no normals")?;
-    holds(are_sets_told_apart(&reader), "texture coordinates")?;
-    holds(is_target_read(&root, &reader)?, "the morph target")
+    try_primitive(&root, &layout, &buffers)
 }
 
 /// The first sampler of a document.
@@ -218,16 +239,24 @@ fn is_skin_read(root: &Root, accessors: &Accessors<'_>) -> Result<bool, &'static
     Ok(has_matrices(accessors, skin) == Ok(false))
 }
 
+/// Tries what samplers and skins of the document name.
+fn try_others(root: &Root, layout: &Layout, buffers: &Buffers<'_>) -> Result<(), Fail>
+    requires { ArePlaces (stored_in root.now.buffers.items root.now.buffer_views.items
+        root.now.accessors.items) (layout_places layout.now) }
+{
+    let accessors = accessors_of(root, layout, buffers);
+    holds(is_sampler_read(root, &accessors)?, "the sampler")?;
+    holds(is_skin_read(root, &accessors)?, "the skin")?;
+    holds(accessors.data(5).is_none(), "there is no accessor 5")
+}
+
 #[test]
 fn what_samplers_and_skins_name_is_read(rt: HostRuntime) -> Result<(), Fail> {
     let root = Root::from_str(rt.alloc(), POINT)?;
     let document = Document::of(&root);
     let layout = Layout::of(rt.alloc(), &document)?;
     let buffers = point_buffers(rt.alloc(), &document)?;
-    let accessors = Accessors::of(&document, &layout, &buffers);
-    holds(is_sampler_read(&root, &accessors)?, "the sampler")?;
-    holds(is_skin_read(&root, &accessors)?, "the skin")?;
-    holds(accessors.data(5).is_none(), "there is no accessor 5")
+    try_others(&root, &layout, &buffers)
 }
 
 /// A mesh whose positions are 2^53 zeros, of which the document has no bytes.

@@ -5,5 +5,5 @@
 use std::process::ExitCode;
 
 fn main(rt: HostRuntime) -> ExitCode {
-    gltf_linter::lint(&rt)
+    gltf_linter::lint_by_arguments(&rt)
 }

@@ -58,7 +58,7 @@ fn run(rt: &HostRuntime) -> io::Result<u8> {
 
 /// Reads the arguments of the program, does what they say, and returns the exit status
 /// (docs/LINT.md, "Exit status").
-pub fn lint(rt: &HostRuntime) -> ExitCode {
+pub fn lint_by_arguments(rt: &HostRuntime) -> ExitCode {
     match run(rt) {
         Ok(status) => ExitCode::from(status),
         Err(error) => {

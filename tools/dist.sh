@@ -34,7 +34,7 @@ mkdir -p "$root"/{bin,include,lib/pkgconfig,lib/cmake/gltf_c,share/gltf_c}
 cp "$lint" "$report" "$root/bin"
 cp "$top/crates/gltf_c/include/gltf_c.h" "$root/include"
 cp -R "$top/examples" "$root/share/gltf_c"
-cp "$top/LICENSE" "$top/NOTICE" "$top/docs/C.md" "$top/docs/SCHEMA.md" "$root/share/gltf_c"
+cp "$top/LICENSE" "$top/NOTICE" "$top/docs/C.md" "$top/docs/SCHEMA.md" "$top/docs/LINT.md" "$root/share/gltf_c"
 
 # One static library, with the kit's functions that take memory.
 cp "$own" "$work/own.a"

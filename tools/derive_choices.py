@@ -139,8 +139,8 @@ class Choices:
             if inner := INNER.search(lines):
                 made.inner = self.bases[inner.group(1)]
                 made.by_number = made.inner.by_number
-            for _, (variant, number, spelled) in [] if made.inner else cases_of(
-                    path, f"{base}_spelling", SPELLED):
+            cases = [] if made.inner else cases_of(path, f"{base}_spelling", SPELLED)
+            for _, (variant, number, spelled) in cases:
                 made.spelled[variant], made.by_number = number or spelled, bool(number)
             self.choices[name] = self.bases[base] = made
         for list_name, name, items in LISTED.findall(text):

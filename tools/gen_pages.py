@@ -9,6 +9,7 @@ equal headings, or if a name that a crate exports has no section.
 `python3 tools/gen_pages.py` writes the pages; `--check` says whether they are current, and ends with
 status 1 and a short diff if one isn't.
 """
+import functools
 import re
 import sys
 
@@ -70,7 +71,7 @@ class Pages(Items):
 
     def __init__(self, crate, shown, promised):
         super().__init__(crate)
-        self.shown, self.promised, self.listed, self.titles = shown, promised, [], {}
+        self.shown, self.promised, self.listed = shown, promised, []
 
     def pages(self):
         return {FOLDER / file_name(path): self.page(path, doc, names)
@@ -113,23 +114,25 @@ class Pages(Items):
                 items.append((name, found[2], self.only_behind(found)))
         return items, others
 
+    def blocks_of(self, item):
+        """The impls of a type."""
+        return self.blocks.get(id(item), []) if item.kind in ("struct", "enum") else []
+
     def functions(self, item):
         """The public functions of a type, each with the impl that it is in."""
-        blocks = self.blocks.get(id(item), []) if item.kind in ("struct", "enum") else []
-        return [(block, made) for block in blocks if not trait_and_type(block)[0]
+        return [(block, made) for block in self.blocks_of(item) if not trait_and_type(block)[0]
                 for made in block.members if made.public]
+
+    @functools.cached_property
+    def function_links(self):
+        """What the sections of all functions are called in links."""
+        return {anchor(f"{name}::{made.name}") for _, _, names in self.modules
+                for name, found in names.items() if found[0] == "item"
+                for _, made in self.functions(found[2])}
 
     def title(self, name, item):
         """What the section of an item is called: its name, unless a function's has the same link."""
-        if name not in self.titles:
-            named = {anchor(f"{other}::{made.name}") for other, one in self.named_items()
-                     for _, made in self.functions(one)}
-            self.titles[name] = f"{name} ({item.kind})" if anchor(name) in named else name
-        return self.titles[name]
-
-    def named_items(self):
-        return [(name, found[2]) for _, _, names in self.modules
-                for name, found in names.items() if found[0] == "item"]
+        return f"{name} ({item.kind})" if anchor(name) in self.function_links else name
 
     def list(self, path, name, title, doc):
         self.listed.append((name, f"{file_name(path)}#{anchor(title)}", cell(doc)))
@@ -142,8 +145,7 @@ class Pages(Items):
             lines += [f"It is declared as `{item.name}`.", ""]
         lines += ["```rust", *self.declaration(item), "```", "", *self.facts(item, item.name)]
         shown = behind or item
-        blocks = self.blocks.get(id(shown), []) if shown.kind in ("struct", "enum") else []
-        heads = {trait_and_type(block)[0] for block in blocks}
+        heads = {trait_and_type(block)[0] for block in self.blocks_of(shown)}
         traits = self.traits(set(shown.derives) | heads)
         if traits:
             lines += [f"Implements {', '.join(f'`{one}`' for one in traits)}.", ""]

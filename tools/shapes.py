@@ -4,7 +4,7 @@ which are slow to read, or need much memory, if the reader isn't made for them. 
 prints the names of documents of two lists instead, which are slow to check if a rule goes through one for each item of the
 other.
 """
-import sys
+from settle import parser_of
 
 HEAD = '"asset":{"version":"2.0"}'
 NODE = '{"nodes":[{%s}],' + HEAD + "}"
@@ -143,4 +143,6 @@ def document_of(name, size):
 
 
 if __name__ == "__main__":
-    print("\n".join(PAIRS if "--pairs" in sys.argv[1:] else SHAPES))
+    parser = parser_of(__doc__)
+    parser.add_argument("--pairs", action="store_true", help="print the documents of two lists")
+    print("\n".join(PAIRS if parser.parse_args().pairs else SHAPES))

@@ -10,8 +10,9 @@ from sources import ROOT
 # In the order in which one reads what another writes. Those with True also write.
 SCRIPTS = {
     "derive": True, "gen_objects": True, "gen_cases": True, "gen_elements": True,
-    "gen_positions": True, "check_promises": False, "gen_definitions": True,
-    "gen_pages": True, "schema_check": False, "check_links": False, "run_readme": False,
+    "gen_positions": True, "gen_promises": True, "check_promises": False, "gen_definitions": True,
+    "gen_guide": True, "gen_pages": True, "schema_check": False, "check_links": False,
+    "run_readme": False,
 }
 
 

@@ -1,4 +1,4 @@
-"""What gltf_vectors_calls reads of documents that are built by calls, and of reports in other ways than a
+"""What gltf_corpus reads of documents that are built by calls, and of reports in other ways than a
 run gives them. `gen_cases.py` writes both.
 
 A case of `REPORTS` has a document and one of these: rules, another document against which it is

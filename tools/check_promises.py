@@ -1,9 +1,7 @@
 """Compares docs/PROMISES.md with the sources.
 
 Each call that a line names is there. Each clause that the line names is a clause of one of these
-calls. Behind each clause the line names definitions that the clause's text uses, as in
-`` `printed` (`IsCompactOf`, `IsPrettyOf`) ``: at least one, if the text uses one of `specs/` or a
-ghost member of a trait.
+calls. `gen_promises.py` writes what stands in brackets behind a clause.
 
 `promises.json` has what the clauses and definitions were when somebody last compared them with the
 page: a digest of the clauses of each line and of what its calls require, and one of each definition
@@ -11,13 +9,12 @@ behind a clause, however far behind. The script ends with status 1 if a name isn
 digest has changed.
 
 `--write` records the digests again, after the lines that were printed were looked at.
-`--suggest` prints the third cell that the script would write for each line that lacks something;
-`--suggest 101 110` prints that of the lines with these numbers.
 """
 import hashlib
 import json
 import re
 import sys
+from collections import Counter
 from dataclasses import dataclass, field
 
 from api_items import ROOT_CRATE, Crates
@@ -29,16 +26,15 @@ PAGE = ROOT / "docs" / "PROMISES.md"
 RECORD = ROOT / "tools" / "promises.json"
 # Crates whose types only try or show what is promised.
 TRIALS = {
-    *("gltf_bench", "gltf_examples", "gltf_vectors", "gltf_vectors_calls", "gltf_vectors_corpus"),
-    *("gltf_vectors_data", "gltf_vectors_elements", "gltf_vectors_loading", "gltf_vectors_shared"),
-    "gltf_vectors_support",
+    *("gltf_bench", "gltf_corpus", "gltf_corpus_files", "gltf_examples", "gltf_vectors"),
+    "gltf_vectors_loading",
 }
 # What contracts see of a value. A line names one of these only if its clause has nothing else.
-VIEWS = {
-    *("index_number", "index_tree", "item_kind", "item_place", "members_in", "path_of"),
-    *("root_held", "root_kind", "root_tree", "row_of", "rules_held", "rules_of", "steps_of"),
-    *("tree_at", "tree_held", "under", "kind", "tree"),
-}
+VIEW = re.compile(
+    r"index_number|item_kind|item_place|kind|members_in|path_of|root_held|root_kind|row_of|"
+    r"rules_held|rules_of|steps_of|tree|tree_at|tree_held|under|\w+_(?:members|rows|tree)")
+# A line names at most so many definitions behind a clause if its calls have some in common.
+MOST = 7
 # A clause in a third cell: its name, and the definitions behind it.
 CLAUSE = re.compile(
     r"(?:`([^`]+)`|\b(ensures)\b)( of its `Display`)?(?: \((`[^`]+`(?:, `[^`]+`)*)\))?")
@@ -66,9 +62,8 @@ class Line:
     clauses: list = field(default_factory=list)
 
     def named(self):
-        """The clauses that it names, each with the definitions behind it."""
-        return [(m[1] or m[2], re.findall("`([^`]+)`", m[4] or ""))
-                for m in CLAUSE.finditer(self.cells[2])]
+        """The names of the clauses that it names."""
+        return [found[1] or found[2] for found in CLAUSE.finditer(self.cells[2])]
 
     def of(self, label):
         return [clause for clause in self.clauses if clause.label == label]
@@ -80,6 +75,14 @@ class Line:
 
 def digest(parts):
     return hashlib.sha256("\n".join(parts).encode()).hexdigest()[:8]
+
+
+def telling(definitions, members):
+    """What says most of what a clause uses: definitions, or else ghost members of traits."""
+    for names in (definitions, members):
+        if found := {name for name in names if not VIEW.fullmatch(name)}:
+            return found
+    return definitions or members
 
 
 def meaning(text, uses):
@@ -224,45 +227,30 @@ class Check:
         named = line.named()
         if not named and "by " not in line.cells[2]:
             self.fault(line, "it names no clause")
-        for label, definitions in named:
+        for label in named:
             if not line.of(label):
                 known = ", ".join(dict.fromkeys(clause.label for clause in line.clauses))
                 self.fault(line, f"no clause {label}; the calls have: {known or 'none'}")
-            else:
-                self.definitions(line, label, definitions)
         return line
 
-    def definitions(self, line, label, definitions):
-        """The definitions that a line names behind a clause."""
+    def behind(self, line, label):
+        """The definitions behind a clause, in the order of its text. If these are many because each
+        call has its own, those that several calls use stand for them."""
         clauses = line.of(label)
-        tokens = {part for clause in clauses for token in TOKEN.findall(bare(clause.text))
-                  for part in token.split(".")}
-        uses = set().union(*(names for clause in clauses for names in self.sources.short(clause)))
-        for name in definitions:
-            if name not in tokens:
-                known = ", ".join(sorted(uses))
-                self.fault(line, f"{label} doesn't use {name}; it uses: {known or 'none'}")
-        if uses and not uses & set(definitions):
-            self.fault(line, f"{label} lacks a definition: {self.behind(line, label, [])}")
+        order = [part for clause in clauses for token in TOKEN.findall(bare(clause.text))
+                 for part in token.split(".")]
+        uses = Counter(name for clause in clauses for name in telling(*self.sources.short(clause)))
+        shared = {name for name in uses if uses[name] > 1}
+        return sorted(shared if shared and len(uses) > MOST else uses, key=order.index)
 
-    def behind(self, line, label, definitions):
-        """What the script would write behind a clause: what stands there and is right, or the
-        definitions that all calls use, or those that some use, or else the ghost members."""
-        each = [self.sources.short(clause) for clause in line.of(label)]
-        if kept := [name for name in definitions if any(name in d | m for d, m in each)]:
-            return listed(kept)
-        each = [names - VIEWS or names for names in (d or m for d, m in each) if names]
-        shared = set.intersection(*each) if each else set()
-        return listed(sorted(shared or set().union(*each)))
-
-    def suggested(self, line):
-        """The third cell that the script would write."""
+    def cell(self, line):
+        """The third cell of a line, with the definitions behind each clause. An empty cell gets all
+        clauses of the line's calls."""
         def written(found):
-            label = found[1] or found[2]
-            names = self.behind(line, label, re.findall("`([^`]+)`", found[4] or ""))
+            names = listed(self.behind(line, found[1] or found[2]))
             front = f"`{found[1]}`" if found[1] else found[2]
             return f"{front}{found[3] or ''}{names and f' ({names})'}"
-        return CLAUSE.sub(written, line.cells[2])
+        return CLAUSE.sub(written, line.cells[2] or all_clauses(line))
 
     def found(self):
         """The digest of each line's clauses, and the lines of each definition behind them."""
@@ -270,7 +258,7 @@ class Check:
         for line in self.lines:
             clauses = line.clauses
             if "and others" not in line.cells[2]:
-                clauses = [c for label, _ in line.named() for c in line.of(label)]
+                clauses = [c for label in line.named() for c in line.of(label)]
                 clauses += [c for c in line.clauses if c.kind == "requires"]
             texts = [part for c in clauses for part in (c.label, *meaning(c.text, c.uses))]
             lines[line.key()] = digest(texts)
@@ -286,7 +274,7 @@ class Check:
             if line.key() not in was:
                 self.fault(line, "the line isn't recorded as it stands")
             elif was[line.key()] != lines[line.key()]:
-                labels = ", ".join(label for label, _ in line.named())
+                labels = ", ".join(line.named())
                 self.fault(line, f"its clauses changed ({labels})")
         for key in was.keys() - lines.keys():
             self.fault(None, f"recorded, but no line of the page any more: {key}")
@@ -298,6 +286,14 @@ class Check:
                 self.fault(None, f"{name} {what}; it is behind the lines {shown}")
         for name in was.keys() - definitions.keys():
             self.fault(None, f"recorded, but behind no line any more: {name}")
+
+
+def all_clauses(line):
+    """The names of all clauses of a line's calls."""
+    named = {c.label: " of its `Display`" if c.trait == "Display" else ""
+             for c in line.clauses if c.kind == "ensures"}
+    return ", ".join(label if label == "ensures" else f"`{label}`{of}"
+                     for label, of in named.items())
 
 
 def listed(names):
@@ -323,16 +319,8 @@ def write(check, lines, definitions):
 def main():
     parser = parser_of(__doc__)
     parser.add_argument("--write", action="store_true", help="record the digests")
-    parser.add_argument("--suggest", metavar="LINE", type=int, nargs="*",
-                        help="print the third cell of these lines, or of those with faults")
     words = parser.parse_args()
     check = Check()
-    if words.suggest is not None:
-        wanted = set(words.suggest) or {number for number, _ in check.faults}
-        for line in check.lines:
-            if line.number in wanted:
-                print(f"{line.number}: {check.suggested(line)}")
-        return
     lines, definitions = check.found()
     if words.write:
         write(check, lines, definitions)

@@ -4,15 +4,17 @@ Writes what follows from the struct, the rows, the kind and the members of each 
 in files of their own: derive_crate.py says what of its own crate, derive_walk.py and
 derive_values.py what of the crates above, derive_reported.py what a law depends on,
 derive_defaults.py which constants the corpus compares, derive_choices.py what follows from a
-choice of gltf_base, and derive_codes.py the list of the codes of findings. `Drop` has to stand
-beside the struct: it is between two marks. What can't be derived is in derive_exceptions.py, and
+choice of gltf_base, derive_codes.py the list of the codes of findings, and derive_rules.py the
+bodies of functions from the definitions of their names. `Drop` has to stand beside the struct: it
+is between two marks. What can't be derived is in derive_exceptions.py and derive_by_hand.py, and
 the names of crates are in derive_names.py. With `--check` it writes nothing, prints what differs,
 and ends with status 1 if a file has another text. With `--report` it only prints how many lines of
-each object are derived."""
+each object and how many bodies are derived."""
 import re
 import sys
 
 from blocks import Wrong
+from derive_by_hand import BY_HAND as FUNCTIONS
 from derive_choices import write_choices
 from derive_codes import write_codes
 from derive_crate import Modules
@@ -22,6 +24,7 @@ from derive_layout import Files
 from derive_objects import Table
 from derive_reported import write_reported
 from derive_rows import definition_lines
+from derive_rules import write_rules
 from derive_sources import CRATES
 from derive_walk import Walk
 from settle import parser_of, settle
@@ -36,6 +39,7 @@ def derive(table):
     write_defaults(table, files)
     write_choices(table.sources, files)
     write_codes(files)
+    write_rules(table.sources, files)
     made = CRATES.glob("*/*/**/*")
     # What rt keeps of a crate is no text of it.
     for path in sorted(path for path in made if path.relative_to(CRATES).parts[1] != "out"):
@@ -59,7 +63,7 @@ def definitions(made):
 def report(table, files):
     """Prints how many lines of each object are derived, and how many define it: its struct with
     docs, its rows, kind and members. The lines of a factor count for the first object that has
-    it."""
+    it. Then it prints how many bodies of functions are derived."""
     sums = [0, 0]
     print(f"{'object':<26} derived  definitions")
     for made in table.objects.values():
@@ -70,6 +74,11 @@ def report(table, files):
     print("written by hand (tools/derive_exceptions.py):")
     for (of, what), reason in BY_HAND.items():
         print(f"  {of}, {what}: {reason}")
+    count = sum(files.bodies.values())
+    print(f"{len(files.bodies)} functions have derived bodies, of {count} lines")
+    print("written by hand (tools/derive_by_hand.py):")
+    for name, reason in FUNCTIONS.items():
+        print(f"  {name}: {reason}")
 
 
 def run():

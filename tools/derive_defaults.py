@@ -1,4 +1,4 @@
-"""The constants for absent numbers, which gltf_vectors_corpus compares with docs/SCHEMA.md."""
+"""The constants for absent numbers, which gltf_corpus compares with docs/SCHEMA.md."""
 import re
 
 from derive_layout import call, header

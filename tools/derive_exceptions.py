@@ -162,8 +162,8 @@ returns-in-§-clause-comes g c =
     let context = g.C.HasContext.context c.args.context.now in
     let above = closed_object (animation_members c.args.self.now) in
     rw c.in-§.is (c.member.ensures _ (ap (λ ps. down (field (codes "samplers")) (place ps []))
-    (items_same (λ t. outline animation_sampler_kind t context absent)
-    (λ t. outline animation_sampler_kind t context above)
+    (items_same (λ t. checklist animation_sampler_kind t context absent)
+    (λ t. checklist animation_sampler_kind t context above)
     (λ x. closed_object (animation_sampler_members x))
     (λ x. refl) c.args.self.now.samplers.items 0)))
 """),
@@ -189,11 +189,11 @@ VARIANT_NAMES = {
 @dataclass
 class Variant:
     """A variant of `ValueRef` that is no object of the table and no list of one: what it holds, its
-    shapes in `specs/` with the outline of each, what its parts are called in a match, and its
+    shapes in `specs/` with the checklist of each, what its parts are called in a match, and its
     event."""
     name: str
     holds: str
-    outlines: list
+    checklists: list
     bound: str
     event: str
     doc: tuple = ()
@@ -206,29 +206,29 @@ VARIANTS = [
     Variant("Leaf", "Option<Error>", [("Leaf e", "leaf e")], "fault", "leaf_at(fault, number)",
             ("A place with nothing below, and the fault there.",), is_found=True),
     Variant("RequiredExtensions", "&'a Vec<String>",
-            [("RequiredExtensions xs", "place (item_outlines (name_outline context.rules.enabled) "
+            [("RequiredExtensions xs", "place (item_checklists (name_checklist context.rules.enabled) "
               "0 (items_in (list_tree text_tree xs.now.items))) []")],
             "names", "E::from_event(extension_at(names, number))",
             ("The names of the extensions that a document requires, and one of them.",)),
     Variant("RequiredExtension", "&'a String",
-            [("RequiredExtension x", "name_outline context.rules.enabled (text_tree x.now)")],
+            [("RequiredExtension x", "name_checklist context.rules.enabled (text_tree x.now)")],
             "name", "E::from_event(in_extension(name, number, context))", is_looked_at=True),
     Variant("Channels", "&'a {animation}",
-            [("Channels a", "outline (ListOf {animation_channel_kind}) (list_tree "
+            [("Channels a", "checklist (ListOf {animation_channel_kind}) (list_tree "
               "({animation_channel_tree}) a.now.channels.items) context "
               "(closed_object (animation_members a.now))")],
             "animation", "E::from_event(channel_at(animation, number))",
             ("The channels of an animation, and one of them with the animation whose samplers it "
              "names.",)),
     Variant("Channel", "&'a {animation_channel}, &'a {animation}",
-            [("Channel x a", "outline {animation_channel_kind} (closed_object "
+            [("Channel x a", "checklist {animation_channel_kind} (closed_object "
               "(animation_channel_members x.now)) context "
               "(closed_object (animation_members a.now))")],
             "channel, animation", "in_channel(channel, animation, number, context)",
             is_looked_at=True),
     Variant("Material", "Option<MaterialFaults>, &'a {material_extension}",
-            [("Material (Some m) e", "material_outline context m (material_extensions e.now)"),
-             ("Material None e", "extensions_outline context (material_extensions e.now)")],
+            [("Material (Some m) e", "material_checklist context m (material_extensions e.now)"),
+             ("Material None e", "extensions_checklist context (material_extensions e.now)")],
             "faults, extensions", "at_material(faults, extensions, number, context)",
             ("What is wrong in the members of a material, with its extensions; or extensions "
              "alone. One",
@@ -237,12 +237,12 @@ VARIANTS = [
              "\"What references may reach\")."),
             is_looked_at=True),
     Variant("PlainMaterial", "MaterialFaults",
-            [("PlainMaterial m", "material_outline context m absent")],
+            [("PlainMaterial m", "material_checklist context m absent")],
             "faults", "in_material(faults, None, number, context)",
             ("What is wrong in the members of a material without extensions.",),
             is_looked_at=True),
     Variant("TextureReference", "ReferenceState",
-            [("TextureReference s", "reference_outline s")],
+            [("TextureReference s", "reference_checklist s")],
             "state", "in_reference(state, number)", is_found=True),
     Variant("OneTexture", "ReferenceState, MemberName", [("OneTexture s n", "one_texture s n")],
             "state, name", "E::from_event(in_one_texture(state, name, number))",
@@ -254,20 +254,20 @@ VARIANTS = [
             "E::from_event(in_two_textures(first, second, first_name, second_name, number))",
             is_found=True),
     Variant("Attributes", "&'a BTreeMap<Checked<Semantic>, Index<{accessor}>>",
-            [("Attributes m", "outline (Attributes ListName.accessors) (attributes_tree m.now) "
+            [("Attributes m", "checklist (Attributes ListName.accessors) (attributes_tree m.now) "
               "context absent")], "_", "unreachable!()", is_numbered=False),
-    Variant("Attribute", "Option<Error>, Option<Error>", [("Attribute k i", "entry_outline k i")],
+    Variant("Attribute", "Option<Error>, Option<Error>", [("Attribute k i", "entry_checklist k i")],
             "key, index", "in_attribute(key, index, number)",
             ("The faults of an attribute's key and of its index.",), is_found=True),
     Variant("AtPositions", "PositionFaults",
-            [("AtPositions f", "at_positions (faults_outline f)")],
+            [("AtPositions f", "at_positions (faults_checklist f)")],
             "faults", "E::from_event(at_attributes(faults, number))",
             ("The attributes as their primitive's rule looks at them, and the positions in them.",),
             is_found=True),
-    Variant("Positions", "PositionFaults", [("Positions f", "faults_outline f")],
+    Variant("Positions", "PositionFaults", [("Positions f", "faults_checklist f")],
             "faults", "in_positions(faults, number)", is_found=True),
     Variant("NodeIndexes", "&'a Vec<Index<{node}>>",
-            [("NodeIndexes xs", "outline (ListOf (IndexInto ListName.nodes)) "
+            [("NodeIndexes xs", "checklist (ListOf (IndexInto ListName.nodes)) "
               "(list_tree index_tree xs.now.items) context absent")],
             "indexes", "item_at(indexes, number, context)"),
 ]

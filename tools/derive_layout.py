@@ -36,9 +36,12 @@ def ghosts(pairs):
     """Ghost members, with an empty line after each."""
     lines = []
     for name, text in pairs:
-        lines += textwrap.wrap(f"ghost {name} = {{ {text} }};", LINE - 4, subsequent_indent="    ",
-                               break_long_words=False)
-        lines.append("")
+        made = textwrap.wrap(f"ghost {name} = {{ {text} }};", LINE - 4, subsequent_indent="    ",
+                             break_long_words=False)
+        # A closing brace never stands alone: rt fmt lets it hang over.
+        if made[-1].strip() == "};":
+            made[-2:] = [f"{made[-2]} }};"]
+        lines += [*made, ""]
     return lines
 
 
@@ -57,6 +60,8 @@ class Files:
         self.before, self.after = {}, {}
         # What is missing, and how many lines of each object are derived.
         self.problems, self.derived = [], {}
+        # How many lines the derived body of each function has, by where the function stands.
+        self.bodies = {}
 
     def lines(self, path):
         if path not in self.after:

@@ -7,8 +7,11 @@ LINE = 100
 
 # The crates, by what they have.
 SCHEMA, RULES, ROOT_CRATE = "gltf_schema", "gltf_validation_rules", "gltf_root"
-OBJECTS, VALUES, VALIDATION = "gltf_validation_objects", "gltf_validation_values", "gltf_validation"
-BASE, CORPUS, FACADE = "gltf_base", "gltf_vectors_corpus", "gltf_json"
+OBJECTS, VALUES, VALIDATION = "gltf_validation_objects", "gltf_validation_walk", "gltf_validation"
+BASE, CORPUS, FACADE = "gltf_base", "gltf_corpus", "gltf_json"
+
+# The crates whose functions follow from the definitions of their names begin so.
+FINDINGS = "gltf_findings"
 
 # Definitions of std, the kit and the crates without objects, by their modules.
 MODULES = {
@@ -33,13 +36,13 @@ MODULES = {
     f"Rattle.{SCHEMA}.specs.Fields":
         "closed_object list_tree real_tree reals_tree index_tree text_tree attributes_tree",
     f"Rattle.{RULES}.specs.Context": "Context context_of",
-    f"Rattle.{OBJECTS}.specs.Outline": "Outline place leaf quiet move_at down",
-    f"Rattle.{OBJECTS}.specs.OutlineOf":
-        "outline entry_outline at_positions item_outlines name_outline faults_outline",
+    f"Rattle.{OBJECTS}.specs.Checklist": "Checklist place leaf quiet move_at down",
+    f"Rattle.{OBJECTS}.specs.ChecklistOf":
+        "checklist entry_checklist at_positions item_checklists name_checklist faults_checklist",
     f"Rattle.{OBJECTS}.specs.References":
-        "reference_outline one_texture two_textures material_outline extensions_outline",
+        "reference_checklist one_texture two_textures material_checklist extensions_checklist",
     f"Rattle.{OBJECTS}.specs.MemberNames": "member_text",
-    f"Rattle.{OBJECTS}.specs.ValueRefs": "outline_of is_looked_at IsNumbered",
+    f"Rattle.{OBJECTS}.specs.ValueRefs": "checklist_of is_looked_at IsNumbered",
     f"Rattle.{OBJECTS}.specs.Moves": "IsGiven IsMore",
 }
 

@@ -26,7 +26,7 @@ pub(crate) fn event_of<'a, E: FromEvent<'a>, C: HasContext>(
 ) -> E
     requires { IsNumbered value }
     ensures comes { E.describes_move (C.context context.now)
-        (move_at (outline_of (C.context context.now) value.entry) number) result }
+        (move_at (checklist_of (C.context context.now) value.entry) number) result }
     ensures small { E.is_more result → number + 1 < 2 ^ 64 }
 """
 QUIET_DOC = """
@@ -35,7 +35,7 @@ QUIET_DOC = """
 /// look, which keeps a walk linear: a fault is looked at once for each list above it.
 pub fn is_quiet<C: HasContext>(value: &ValueRef<'_>, context: &C) -> bool
     ensures { result ≡ is_looked_at value.now
-        && quiet (outline_of (C.context context.now) value.now) }
+        && quiet (checklist_of (C.context context.now) value.now) }
 """
 
 
@@ -71,7 +71,7 @@ class Values:
 
     def write(self):
         self.write_enum()
-        self.write_outlines()
+        self.write_checklists()
         self.write_events()
 
     def write_enum(self):
@@ -98,33 +98,33 @@ class Values:
         self.files.whole(CRATES / OBJECTS / "src/value_ref.rt", [
             *header(FROM, "//!"), "", *rust_uses(enum, {}, used), *enum])
 
-    def write_outlines(self):
-        outlines, numbered, looked = [], [], []
+    def write_checklists(self):
+        checklists, numbered, looked = [], [], []
         for variant in VARIANTS:
-            for shape, outline in variant.outlines:
-                outlines.append(f"outline_of context (value_ref.{shape}) = {self.filled(outline)}")
-            shape = variant.outlines[0][0]
+            for shape, checklist in variant.checklists:
+                checklists.append(f"checklist_of context (value_ref.{shape}) = {self.filled(checklist)}")
+            shape = variant.checklists[0][0]
             if not variant.is_numbered:
                 numbered.append(f"IsNumbered (value_ref.{shape}) = ⊥")
             if variant.is_looked_at:
                 looked.append(f"is_looked_at (value_ref.{shape}) = true")
         for made, name, is_list in self.variants():
             if is_list:
-                lines = [f"outline_of context (value_ref.{name} xs) = outline (ListOf {made.kind}) "
+                lines = [f"checklist_of context (value_ref.{name} xs) = checklist (ListOf {made.kind}) "
                          f"(list_tree ({made.tree_function('x')}) xs.now.items) context absent"]
             else:
-                lines = [f"outline_of context (value_ref.{name} x) = outline {made.kind} "
+                lines = [f"checklist_of context (value_ref.{name} x) = checklist {made.kind} "
                          f"({made.of_tree('x.now')}) context absent"]
-            outlines += lines
+            checklists += lines
             self.files.count(made, lines)
             if not is_list and made.base in self.lists:
                 looked.append(f"is_looked_at (value_ref.{name} x) = true")
                 self.files.count(made, looked[-1:])
-        found = [f"is_found (value_ref.{variant.outlines[0][0]}) = true" for variant in VARIANTS
+        found = [f"is_found (value_ref.{variant.checklists[0][0]}) = true" for variant in VARIANTS
                  if variant.is_found]
         lines = [
-            "-- the outline of a value, in a context",
-            "abbrev pub outline_of : Context → ValueRef → Outline", *outlines, "",
+            "-- the checklist of a value, in a context",
+            "abbrev pub checklist_of : Context → ValueRef → Checklist", *checklists, "",
             "-- a value whose moves are numbered; attributes are gone through by their keys",
             "abbrev pub IsNumbered : ValueRef → Type 0", *numbered, "IsNumbered _ = ⊤", "",
             "-- ---- what a walk looks at", "",
@@ -132,7 +132,7 @@ class Values:
             "abbrev pub is_found : ValueRef → Bool", *found, "is_found _ = false", "",
             "-- an item of a list, or a value that holds all its faults",
             "abbrev pub is_looked_at : ValueRef → Bool", *looked, "is_looked_at v = is_found v"]
-        own = ("outline_of", "is_looked_at", "IsNumbered", "is_found")
+        own = ("checklist_of", "is_looked_at", "IsNumbered", "is_found")
         known = {name: path for name, path in self.table.ghost_names().items() if name not in own}
         declared = f"use Rattle.{OBJECTS}.specs.declared.value_ref.ValueRef"
         self.files.whole(CRATES / OBJECTS / "specs/ValueRefs.antt", [
@@ -173,7 +173,7 @@ class Values:
                  for name, module in RUST_NAMES.items()}
         calls = re.findall(r"[a-z_]+(?=\()", "\n".join(events + looks))
         names.update({name: OBJECTS for name in calls if name not in METHODS})
-        names.update({"FromEvent": "super", "HasContext": RULES})
+        names.update({"FromEvent": "crate::values", "HasContext": RULES})
         self.files.whole(CRATES / VALUES / "src/derived.rt", [
             *header(FROM, "//!"), "",
             *rust_uses(lines, self.table.ghost_names(), names, ["Events", "Quiet"]), *lines])

@@ -41,7 +41,7 @@ class Walk:
         for path, (_, base) in self.table.factors.items():
             self.made = self.table.objects[base]
             self.group = self.group_of(self.made)
-            self.add("AlwaysValid", ghosts([("outline_is_quiet", "λ _ _. refl")]), path)
+            self.add("AlwaysValid", ghosts([("quiet_checklist", "λ _ _. refl")]), path)
         for group in self.groups.values():
             self.write_group(group)
         names = [f"mod {group.name};" for group in self.groups.values() if group.blocks]
@@ -127,7 +127,7 @@ class Walk:
         made = self.made
         rows = [f"{one.base}_rows" for one in [made, *self.deciding()]]
         return ghosts([*self.kind_and_tree(),
-                       ("outline_is_quiet", f"λ _ _. unfold {' '.join(rows)} {made.base}_members in refl")])
+                       ("quiet_checklist", f"λ _ _. unfold {' '.join(rows)} {made.base}_members in refl")])
 
     def kind_and_tree(self):
         return [("kind", self.made.kind), ("tree", self.made.tree_function("v"))]

@@ -6,9 +6,20 @@
 #
 # It packs the proved builds: `rt run` in crates/gltf_lint and crates/gltf_report and `rt lib` in
 # crates/gltf_c make them, and `rt ci` too. It needs cc, ar, python3, tar, gzip and sha256sum.
-# docs/C.md says what is in the archive. The same builds and tools give the same bytes.
+# docs/C.md says what is in the archive. The same builds and tools, at one commit, give the same
+# bytes. It doesn't ask whether the builds are current: `rt ci` at this commit makes them so.
 set -euo pipefail
 export LC_ALL=C
+case ${1:-} in
+    -h | --help)
+        sed -n '2,/^set /{/^#/s/^# \?//p}' "$0"
+        exit
+        ;;
+    -*)
+        echo "dist.sh: there is no option $1; --help says what it takes" >&2
+        exit 2
+        ;;
+esac
 top=$(cd "$(dirname "$0")/.." && pwd)
 out=$(mkdir -p "${1:-$top/out}" && cd "${1:-$top/out}" && pwd)
 version=$(sed -n 's/^## \([0-9].*\)$/\1/p' "$top/CHANGELOG.md" | head -n 1)
@@ -34,7 +45,14 @@ mkdir -p "$root"/{bin,include,lib/pkgconfig,lib/cmake/gltf_c,share/gltf_c}
 cp "$lint" "$report" "$root/bin"
 cp "$top/crates/gltf_c/include/gltf_c.h" "$root/include"
 cp -R "$top/examples" "$root/share/gltf_c"
-cp "$top/LICENSE" "$top/NOTICE" "$top/docs/C.md" "$top/docs/SCHEMA.md" "$top/docs/LINT.md" "$root/share/gltf_c"
+cp "$top/LICENSE" "$top/NOTICE" "$root/share/gltf_c"
+# The pages for users of the programs and of the library, and those that they name most.
+for page in C CODES FINDINGS LINT PERFORMANCE PROMISES SCHEMA; do
+    cp "$top/docs/$page.md" "$root/share/gltf_c"
+done
+printf 'version: %s\ncommit: %s\nkit: %s\n' "$version" \
+    "$(git -C "$top" describe --always --dirty --abbrev=40 --exclude='*' || echo unknown)" "$(rt version)" \
+    > "$root/share/gltf_c/BUILD"
 
 # One static library, with the kit's functions that take memory.
 cp "$own" "$work/own.a"

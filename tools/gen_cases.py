@@ -1,22 +1,19 @@
 #!/usr/bin/env python3
-"""gen_cases.py: documents that gltf_vectors_corpus reads and writes in two ways, and what becomes of them.
+"""gen_cases.py: documents that gltf_corpus reads and writes in two ways, and what becomes of them.
 
-It writes cases.jsonl in crates/gltf_vectors_corpus/data, reports.jsonl and built.jsonl in
-crates/gltf_vectors_calls/data, a case a line, and their numbers into the last lines of both programs'
-stdout, or compares all (`--check`). The latter two files are those of built_cases.py. A case of the
-first has a title, a text or bytes, and what becomes of them: the line that the document is written
-as, or the error. A case may also have members that objects are to keep in `others`, under the names
-of src/kept.rt, and extras, and the place that the table refuses, as a path and as a JSON pointer.
+It writes cases.jsonl, reports.jsonl and built.jsonl in crates/gltf_corpus_run/data, a case a line,
+and their numbers into the program's stdout, or compares all (`--check`). The latter two files are
+those of built_cases.py. A case of the first has a title, a text or bytes, and what becomes of them:
+the line that the document is written as, or the error. A case may also have members that objects
+are to keep in `others`, under the names of kept.rt in gltf_corpus, and extras, and the place that
+the table refuses, as a path and as a JSON pointer.
 What is expected is worked out by hand or by Python's json, never taken from the program.
 """
 import json
 
 from built_cases import BUILT, FAULTY, FAULTY_WRITTEN, MAPPED, REPORTS, SIX
+from corpus import DATA, STDOUT, printed, with_parts
 from settle import is_check, settle
-from sources import ROOT
-
-CORPUS = ROOT / "crates" / "gltf_vectors_corpus"
-CALLS = ROOT / "crates" / "gltf_vectors_calls"
 
 NO_JSON = "not JSON"
 NO_DOCUMENT = "not a glTF document"
@@ -25,7 +22,7 @@ INVALID = "invalid item"
 ASSET = '"asset":{"version":"2.0"}'
 LEAST = "{" + ASSET + "}"
 
-# What gltf_vectors_corpus prints in front of the line that is written here.
+# What the program prints of documents in front of the line that is written here.
 FIRST_LINE = "# objects: as expected\n"
 
 CASES = []
@@ -679,21 +676,17 @@ def main():
         *(invalid, fronts, single),
     ):
         make()
-    there = (CORPUS / "stdout").read_text()
+    there = printed()["documents"]
     before = there[:there.index(FIRST_LINE)] + FIRST_LINE
     calls = (
         f"# reports, {len(REPORTS)} cases: as expected\n"
         f"# documents by calls, {len(BUILT)} cases: as expected\n"
     )
-    files = {
-        CORPUS / "stdout": before + f"# both ways, and {len(CASES)} cases: as expected\n",
-        CALLS / "stdout": calls,
-    }
-    for program, name, listed in (
-        (CORPUS, "cases", CASES), (CALLS, "reports", REPORTS), (CALLS, "built", BUILT),
-    ):
+    documents = before + f"# both ways, and {len(CASES)} cases: as expected\n"
+    files = {STDOUT: with_parts({"documents": documents, "calls": calls})}
+    for name, listed in (("cases", CASES), ("reports", REPORTS), ("built", BUILT)):
         lines = [json.dumps(case_, separators=(",", ":")) + "\n" for case_ in listed]
-        files[program / "data" / f"{name}.jsonl"] = "".join(lines)
+        files[DATA / f"{name}.jsonl"] = "".join(lines)
     settle(files, check)
 
 

@@ -1,9 +1,9 @@
 #!/usr/bin/env python3
-"""gen_elements.py: documents whose elements gltf_vectors_elements prints, and what it must print.
+"""gen_elements.py: documents whose elements gltf_corpus_files prints, and what it must print.
 
-It writes data/, args and stdout in crates/gltf_vectors_elements, or compares all (`--check`). What
-is expected follows from the numbers that are packed here, by the table of glTF 2.0, section 3.6.2.2,
-and is never taken from the program.
+It writes them into data/ of crates/gltf_corpus_run, with args and a part of stdout, or compares all
+(`--check`). What is expected follows from the numbers that are packed here, by the table of glTF
+2.0, section 3.6.2.2, and is never taken from the program.
 """
 import base64
 import json
@@ -11,10 +11,8 @@ import math
 import struct
 from decimal import Decimal
 
+from corpus import ARGS, DATA, STDOUT, with_parts
 from settle import is_check, settle
-from sources import ROOT
-
-CRATE = ROOT / "crates" / "gltf_vectors_elements"
 
 # Each component type: its number, its name, how it is packed, and what 1 is packed as if normalized.
 COMPONENTS = {
@@ -494,9 +492,9 @@ def main():
         ["fault: buffer 0: the path has a segment .."])
     args = [name for name in files if not name.endswith(".bin")]
     settle({
-        CRATE / "args": "".join(name + "\n" for name in args),
-        CRATE / "stdout": "".join(line + "\n" for line in lines),
-        **{CRATE / "data" / name: content for name, content in files.items()},
+        ARGS: "".join(name + "\n" for name in args),
+        STDOUT: with_parts({"elements": "".join(line + "\n" for line in lines)}),
+        **{DATA / name: content for name, content in files.items()},
     }, check)
 
 

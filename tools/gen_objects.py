@@ -1,7 +1,7 @@
 #!/usr/bin/env python3
-"""gen_objects.py: what gltf_vectors_corpus tries at each object of the format, and what it expects.
+"""gen_objects.py: what gltf_corpus tries at each object of the format, and what it expects.
 
-It writes crates/gltf_vectors_corpus/data/objects.json, or compares it (`--check`). What is expected is
+It writes crates/gltf_corpus_run/data/objects.json, or compares it (`--check`). What is expected is
 worked out by table.py, never taken from the program.
 
 objects.json has the values that stand in for each member in turn; the names of the fields that a
@@ -15,13 +15,11 @@ import json
 import re
 import sys
 
+from corpus import DATA
 from object_forms import FORMS
 from settle import is_check, settle
-from sources import ROOT
 from table import ABSENT, CHOICES, INVALID, KEEPERS, MEANT, OBJECTS, REFUSED
 from table import answer, answer_of_object
-
-CORPUS = ROOT / "crates" / "gltf_vectors_corpus"
 
 # The name of a member that no object has.
 UNKNOWN = "zz"
@@ -230,4 +228,4 @@ def data():
 
 if __name__ == "__main__":
     check = is_check(__doc__)
-    settle({CORPUS / "data" / "objects.json": "".join(f"{line}\n" for line in data())}, check)
+    settle({DATA / "objects.json": "".join(f"{line}\n" for line in data())}, check)

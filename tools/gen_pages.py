@@ -19,10 +19,10 @@ from settle import is_check, settle
 from sources import ROOT, trait_and_type
 
 FOLDER = ROOT / "docs" / "api"
-CRATES = ["gltf_json", "gltf_load", "gltf_accessors", "gltf_buffers", "gltf_elements", "gltf_findings",
-          "gltf_findings_glb", "gltf_findings_lines", "gltf_findings_members", "gltf_glb",
-          "gltf_hierarchy", "gltf_layout", "gltf_lint_lines", "gltf_positions", "gltf_report_lines",
-          "gltf_subtrees"]
+CRATES = ["gltf_json", "gltf_load", "gltf_accessors", "gltf_buffers", "gltf_accessors", "gltf_findings",
+          "gltf_findings_files", "gltf_findings_lines", "gltf_findings_members", "gltf_buffers",
+          "gltf_hierarchy", "gltf_layout", "gltf_report_lines", "gltf_findings_lines", "gltf_report_lines",
+          "gltf_hierarchy"]
 HEAD = "<!-- Written by tools/gen_pages.py from the sources. -->\n"
 GUIDE = ROOT / "docs" / "GUIDE.md"
 PROMISES = ROOT / "docs" / "PROMISES.md"

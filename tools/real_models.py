@@ -24,13 +24,17 @@ LINTER = ROOT / "crates" / "gltf_lint" / "out" / "gltf_lint"
 PACKAGES = ("assimp-testmodels", "castle-game-engine-doc", "qt3d5-examples")
 GRAVE = {"error", "warning"}
 
-# What is found in a document, and how often. Most are wrong on purpose, or of a glTF before 1.0.
+# What is found in a document, and how often. Those without a comment are wrong on purpose.
 EXPECTED = {
+    # A container of glTF 1.0.
     "glTF/BoxTextured-glTF-Binary/BoxTextured.glb": {"GLB_INVALID_VERSION": 1},
+    # Older than glTF 1.0: `asset.version` is a number.
     "glTF/CesiumMilkTruck/CesiumMilkTruck.gltf": {"TYPE_MISMATCH": 14, "UNEXPECTED_PROPERTY": 5},
+    # The accessor of positions has no `min` and `max`.
     "glTF2/BoxWithInfinites-glTF-Binary/BoxWithInfinites.glb": {
         "MESH_PRIMITIVE_POSITION_ACCESSOR_WITHOUT_BOUNDS": 1,
     },
+    # Members of an extension of glTF 1.0, without its object.
     "glTF2/BoxTextured-glTF-techniqueWebGL/BoxTextured.gltf": {"UNEXPECTED_PROPERTY": 5},
     "glTF2/IncorrectVertexArrays/Cube.gltf": {
         "BUFFER_VIEW_TOO_LONG": 3,
@@ -41,6 +45,7 @@ EXPECTED = {
     "glTF2/RecursiveNodes/RecursiveNodes.gltf": {"NODE_LOOP": 1, "SCENE_NON_ROOT_NODE": 1},
     "glTF2/SchemaFailures/sceneWrongType.gltf": {"TYPE_MISMATCH": 1},
     "glTF2/TestNoRootNode/NoScene.gltf": {"UNRESOLVED_REFERENCE": 1},
+    # Sets of texture coordinates are missing.
     "glTF2/issue_3269/texcoord_crash.gltf": {
         "MESH_PRIMITIVE_INDEXED_SEMANTIC_CONTINUITY": 1,
         "MESH_PRIMITIVE_TOO_FEW_TEXCOORDS": 1,
@@ -51,6 +56,7 @@ EXPECTED = {
     "glTF2/wrongTypes/badObject.gltf": {"TYPE_MISMATCH": 1},
     "glTF2/wrongTypes/badString.gltf": {"TYPE_MISMATCH": 1},
     "glTF2/wrongTypes/badUint.gltf": {"INVALID_INDEX": 1},
+    # Older than glTF 1.0 too.
     "qt3d/exampleresources/assets/gltf/wine/wine.gltf": {
         "TYPE_MISMATCH": 15,
         "UNEXPECTED_PROPERTY": 5,

@@ -3,8 +3,8 @@ documents of examples/, and compares output and exit status with what docs/SCHEM
 tries what no program here does: null pointers at the length 0, every size of buffer, the version,
 and how much stack a call needs.
 
-`rt lib` proves the crate first. Where all crates below it are proved that takes a minute, else an
-hour; the programs take some seconds. A program whose compiler is missing is left out, and said so.
+`rt lib` proves the crate first. If all crates below it are proved that takes a minute, else as long
+as docs/GATE.md says; the programs take some seconds. A program whose compiler is missing is left out, and said so.
 `--built` takes the library as it lies in crates/gltf_c/out.
 
 `--dist` also makes the archive and the wheel (tools/dist.sh), for which `rt run` must have built
@@ -206,7 +206,7 @@ def python_program(cc, folder, own, kit):
 def rust_program(rustc, folder, own, kit):
     source, program = EXAMPLES / "rust" / "check.rs", folder / "check_rust"
     found_in = ["-L", f"native={own.parent}", "-L", f"native={kit.parent}"]
-    run(rustc, "--edition", "2024", "-O", source, *found_in, "-o", program)
+    run(rustc, "--edition", "2024", "-O", source, *found_in, "-l", "static=libc_c", "-o", program)
     return [program]
 
 

@@ -2,8 +2,9 @@
 
 `python3 tools/run_readme.py` checks in a moment, without the toolchain: each Rust program is an
 example of `gltf_examples`, each output is part of what `rt ci` compares as the output of
-`gltf_examples_run`, README has at most 700 words, and the examples of a row of the guide's table have
-each call of the row. The guide's command that takes the library along copies it into a new folder,
+`gltf_examples_run`, README has at most 700 words, the examples of a row of the guide's table have
+each call of the row, and each finding has the severity and the message of docs/FINDINGS.md (in
+docs/C.md too). The guide's command that takes the library along copies it into a new folder,
 leaves an equal copy as it is, and refuses a copy that was changed.
 `--run` also runs the pages' commands in a clean copy of this repository: the first one by `rt try`,
 those for the linter, those that copy the library, and the guide's programs in the repository that has
@@ -27,6 +28,9 @@ EXAMPLES = ROOT / "crates" / "gltf_examples"
 # The program that runs them: its documents, and what it must print.
 RUN = ROOT / "crates" / "gltf_examples_run"
 LINTER = Path("crates", "gltf_lint", "out", "gltf_lint")
+FINDINGS = ROOT / "docs" / "FINDINGS.md"
+# A line of the linter: the severity, the message and the code.
+FINDING = re.compile(r"(?m)^\S+:\d+:\d+: (\w+): \S+: (.*) \[([A-Z0-9_]+)\]$")
 MOST_WORDS = 700
 BLOCK = re.compile(r"^```(\w+)\n(.*?)^```$", re.S | re.M)
 
@@ -93,8 +97,18 @@ class Pages:
         for line in self.lint.blocks["text"][0].splitlines(keepends=True):
             self.expect(line in linted or line.startswith("files:"),
                         f"LINT.md: README.md doesn't print this: {line}")
+        self.check_findings()
         self.check_table()
         self.check_copies()
+
+    def check_findings(self):
+        """Compares the findings that pages print with the table of their codes."""
+        rows = r"(?m)^\| `([A-Z0-9_]+)` \| (\w+) \| [^|]+ \| ([^|]+) \|"
+        said = {code: rest for code, *rest in re.findall(rows, FINDINGS.read_text())}
+        for page in (self.readme, self.lint, Page(ROOT / "docs" / "C.md")):
+            for severity, message, code in re.findall(FINDING, "".join(page.blocks["text"])):
+                self.expect([severity, message] == said.get(code),
+                            f"{page.name}: {code} isn't {severity}: {message}")
 
     def check_table(self):
         """Looks for the calls of each row in its examples."""
@@ -137,6 +151,7 @@ class Pages:
             left_out = shutil.ignore_patterns(".git", "out", "__pycache__")
             shutil.copytree(ROOT, top, ignore=left_out)
             self.run_first_command(top)
+            self.try_linter(top)
             self.run_linter(top)
             self.run_programs(top)
 
@@ -145,6 +160,13 @@ class Pages:
         ran = shell(command, top)
         printed = ran.stdout == self.readme.blocks["text"][0]
         self.expect(printed, f"{command} printed:\n{ran.stdout}{ran.stderr}")
+
+    def try_linter(self, top):
+        """Runs the linter by LINT.md's first command, which names its file by a whole path."""
+        ran = shell(self.lint.commands_with("rt try"), top)
+        file = f"{top}/crates/gltf_lint/../../examples/first.gltf"
+        due = self.lint.blocks["text"][0].replace("examples/first.gltf", file)
+        self.expect(ran.stdout == due, f"LINT.md's first command: {ran.stdout}{ran.stderr}")
 
     def run_linter(self, top):
         """Builds the linter by LINT.md's commands, with a home folder of their own, and runs it as

@@ -3,6 +3,22 @@
 which are slow to read, or need much memory, if the reader isn't made for them. All are glTF documents. With --pairs it
 prints the names of documents of two lists instead, which are slow to check if a rule goes through one for each item of the
 other.
+
+The shares of docs/PERFORMANCE.md, at the top of the repository:
+
+    for mb in 1 10; do
+        python3 tools/gen_document.py --mb $mb > usual.gltf
+        for name in $(python3 tools/shapes.py); do
+            python3 tools/gen_document.py --mb $mb --shape $name > shape.gltf
+            for file in usual shape; do
+                echo "$name, $mb MB, $file"
+                crates/gltf_bench/out/gltf_bench $file.gltf | grep 'slice and drop'
+            done
+        done
+    done
+
+The share of the usual document is one `Root::from_slice and drop` divided by the other. The share of the floor is it divided
+by `Value::from_slice and drop` of the same file.
 """
 from settle import parser_of
 

@@ -2,7 +2,7 @@
 of each, what it means if it is absent, and the values of each choice; and `answer`, which says what
 the marks and kinds of SCHEMA.md mean for a value.
 
-Nothing here is taken from the program: the tests of gltf_vectors_corpus are worked out by it
+Nothing here is taken from the program: what gltf_corpus tries at objects is worked out by it
 (gen_objects.py).
 """
 import json

@@ -6,11 +6,11 @@ copies `gltf_json`. A program or a crate of tests is copied only if it is named.
 out/ stay here. DEST/yorwelis has the LICENSE, the NOTICE and copied.json: the version, the commit,
 and a digest of each file.
 
-A second run updates the copy. Crates that it names take the place of those that were named before,
-and without a CRATE these stay. It changes nothing if DEST has changed a file that an earlier run
-wrote, and prints the names of such files. A run that was interrupted can be repeated.
+A second run updates the copy, and adds the crates that it names; with `--only` they take the place of
+those that were named before. It changes nothing if DEST has changed a file that an earlier run wrote,
+or if a crate of DEST depends on one that would be removed, and prints the names of such files or
+crates. A run that was interrupted can be repeated.
 """
-import argparse
 import hashlib
 import json
 import re
@@ -19,6 +19,7 @@ import sys
 from dataclasses import dataclass, field
 from pathlib import Path
 
+from settle import parser_of
 from sources import ROOT, crate_lines
 
 DEFAULT = ["gltf_json"]
@@ -163,6 +164,11 @@ class Destination:
             foreign = name not in names_of(earlier) and self.is_foreign(f"crates/{name}", copy)
             if foreign or name in own:
                 raise Refused(f"{self.root} has a crate {name} that this script didn't write")
+        removed = set(names_of(earlier)) - set(names_of(copy))
+        for name, line in own.items():
+            if needed := removed & set(line.partition("#")[0].partition(":")[2].split()):
+                raise Refused(f"{name} depends on {', '.join(sorted(needed))}, which this run would "
+                              "remove. Nothing was written.")
         if not self.earlier and self.is_foreign(FOLDER, copy):
             raise Refused(f"{self.root / FOLDER} is there, but this script didn't write it")
         if changed := self.changed(earlier, copy):
@@ -224,18 +230,23 @@ class Destination:
 
 
 def given():
-    arguments = argparse.ArgumentParser(
-        description=__doc__, formatter_class=argparse.RawDescriptionHelpFormatter)
+    arguments = parser_of(__doc__)
     arguments.add_argument("dest", metavar="DEST", help="the top of the other repository")
     arguments.add_argument("crates", metavar="CRATE", nargs="*", default=[],
                            help="what to copy, with all below it (gltf_json)")
-    return arguments.parse_args()
+    arguments.add_argument("--only", action="store_true",
+                           help="remove what no CRATE of this run needs")
+    words = arguments.parse_intermixed_args()
+    if words.only and not words.crates:
+        arguments.error("--only needs a CRATE")
+    return words
 
 
 def main():
     words = given()
     dest = Destination(words.dest)
-    asked = words.crates or (dest.earlier.crates if dest.earlier else DEFAULT)
+    kept = dest.earlier.crates if dest.earlier and not words.only else []
+    asked = [*kept, *words.crates] or DEFAULT
     copy, there = contents(list(dict.fromkeys(asked)))
     dest.check(copy)
     written, removed = dest.write(copy, there)

@@ -26,7 +26,6 @@ mod gltf {
     }
 
     #[link(name = "gltf_c", kind = "static")]
-    #[link(name = "libc_c", kind = "static")]
     unsafe extern "C" {
         fn gltf_c_check(
             document: *const u8,

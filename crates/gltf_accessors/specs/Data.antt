@@ -3,11 +3,11 @@ use Rattle.std.specs.Prelude.{◌≡◌, ℕ, List, Bool, Option, Some, None}
 use Rattle.gltf_layout.specs.declared.place.Location.{Location}
 use Rattle.gltf_layout.specs.declared.place.SparsePlace.{SparsePlace}
 use Rattle.gltf_layout.specs.declared.place.Place.{Place}
-use Rattle.gltf_elements.specs.declared.components.Components.{Components}
-use Rattle.gltf_elements.specs.declared.index_type.IndexType.{IndexType}
-use Rattle.gltf_elements.specs.Indices.{IsIndexType}
-use Rattle.gltf_elements.specs.declared.accessor.Accessor.{Accessor}
-use Rattle.gltf_elements.specs.declared.sparse.Sparse.{Sparse}
+use Rattle.gltf_accessors.specs.declared.components.Components.{Components}
+use Rattle.gltf_accessors.specs.declared.index_type.IndexType.{IndexType}
+use Rattle.gltf_accessors.specs.Indices.{IsIndexType}
+use Rattle.gltf_accessors.specs.declared.accessor.Accessor.{Accessor}
+use Rattle.gltf_accessors.specs.declared.sparse.Sparse.{Sparse}
 use Rattle.gltf_accessors.specs.declared.format.Format.{Format}
 use Rattle.gltf_accessors.specs.declared.fault.PartFault.{PartFault}
 use Rattle.gltf_accessors.specs.declared.fault.DeviatingFault.{DeviatingFault}
@@ -15,7 +15,7 @@ use Rattle.gltf_accessors.specs.declared.fault.DeviatingFault.TheVariants as dev
 use Rattle.gltf_accessors.specs.declared.fault.AccessorDataFault.{AccessorDataFault}
 use Rattle.gltf_accessors.specs.declared.fault.AccessorDataFault.TheVariants as fault
 use Rattle.gltf_accessors.specs.Parts.{IsPart, IsComponentsFault, IsIndicesFault}
-use Rattle.gltf_elements.specs.Sparse.{IsSparseFault}
+use Rattle.gltf_accessors.specs.Sparse.{IsSparseFault}
 
 -- what the elements of an accessor are
 abbrev pub format_of : Place → Bool → Format

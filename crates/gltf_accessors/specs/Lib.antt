@@ -1,6 +1,14 @@
 pub mod Data
 pub mod Formats
 pub mod Parts
+pub mod AccessorFaults
 pub mod Reads
 pub mod Values
 pub mod Vectors
+pub mod Elements
+pub mod Iter
+pub mod Sparse
+pub mod Numbers
+pub mod Components
+pub mod Indices
+pub mod Normalized

@@ -3,9 +3,9 @@ use Rattle.std.specs.Prelude.{◌≡◌, ℕ, List, Bool, length, Option, Some, 
 use Rattle.gltf_base.specs.declared.accessor.ComponentType.{ComponentType}
 use Rattle.gltf_layout.specs.declared.span.Span.{Span}
 use Rattle.gltf_layout.specs.declared.place.Location.{Location}
-use Rattle.gltf_elements.specs.Elements.{AreWithin}
-use Rattle.gltf_elements.specs.Components.{IsComponentsFault as AreNoComponents}
-use Rattle.gltf_elements.specs.Indices.{IsIndicesFault as AreNoIndices}
+use Rattle.gltf_accessors.specs.Elements.{AreWithin}
+use Rattle.gltf_accessors.specs.Components.{IsComponentsFault as AreNoComponents}
+use Rattle.gltf_accessors.specs.Indices.{IsIndicesFault as AreNoIndices}
 use Rattle.gltf_accessors.specs.declared.fault.PartFault.{PartFault}
 use Rattle.gltf_accessors.specs.declared.fault.PartFault.TheVariants.{NoSuchBuffer, Elements, Components, Indices}
 

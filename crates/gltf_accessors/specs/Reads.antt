@@ -7,7 +7,7 @@ use Rattle.gltf_base.specs.declared.animation.Property.{Property}
 use Rattle.gltf_base.specs.declared.animation.Property.TheVariants as property
 use Rattle.gltf_layout.specs.declared.place.Place.{Place}
 use Rattle.gltf_buffers.specs.Buffered.{bytes_at}
-use Rattle.gltf_elements.specs.Numbers.{is_finite, is_any}
+use Rattle.gltf_accessors.specs.Numbers.{is_finite, is_any}
 use Rattle.gltf_accessors.specs.declared.data.AccessorData.{AccessorData}
 use Rattle.gltf_accessors.specs.declared.vectors.Vectors.{Vectors}
 use Rattle.gltf_accessors.specs.declared.vectors.Vectors.TheVariants.{F32, I8, U8, I16, U16}

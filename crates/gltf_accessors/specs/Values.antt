@@ -1,8 +1,8 @@
 -- The elements of an accessor, by its view and by those that deviate (glTF 2.0, sections 3.6.2.3 and 5.1.1).
 use Rattle.std.specs.Prelude.{◌≡◌, ◌≢◌, ℕ, ◌<◌, ⊤, List, length, slice_get, Some, IfSome, MatchOption}
-use Rattle.gltf_elements.specs.Indices.{index_at}
-use Rattle.gltf_elements.specs.Components.{AreComponents}
-use Rattle.gltf_elements.specs.declared.accessor.Accessor.{Accessor}
+use Rattle.gltf_accessors.specs.Indices.{index_at}
+use Rattle.gltf_accessors.specs.Components.{AreComponents}
+use Rattle.gltf_accessors.specs.declared.accessor.Accessor.{Accessor}
 
 -- each of ys is what f makes of the one of xs at its place
 pub record AreEach {X Y : Type 0} (f : X → Y) (xs : List X) (ys : List Y) : Type 0 where

@@ -6,12 +6,12 @@ use Rattle.gltf_base.specs.declared.accessor.AccessorType.TheVariants.{Vec3, Vec
 use Rattle.gltf_base.specs.declared.accessor.ComponentType.{ComponentType}
 use Rattle.gltf_base.specs.declared.accessor.ComponentType.TheVariants as component
 use Rattle.gltf_layout.specs.declared.place.Place.{Place}
-use Rattle.gltf_elements.specs.declared.index_type.IndexType.{IndexType}
-use Rattle.gltf_elements.specs.declared.index_type.IndexType.TheVariants as index
-use Rattle.gltf_elements.specs.declared.fault.VertexFault.{VertexFault}
-use Rattle.gltf_elements.specs.Numbers.{u8_of, i8_of, u16_of, i16_of, u32_of, f32_of}
-use Rattle.gltf_elements.specs.Normalized.{normalized_u8, normalized_i8, normalized_u16, normalized_i16}
-use Rattle.gltf_elements.specs.Indices.{IsVertex}
+use Rattle.gltf_accessors.specs.declared.index_type.IndexType.{IndexType}
+use Rattle.gltf_accessors.specs.declared.index_type.IndexType.TheVariants as index
+use Rattle.gltf_accessors.specs.declared.fault.VertexFault.{VertexFault}
+use Rattle.gltf_accessors.specs.Numbers.{u8_of, i8_of, u16_of, i16_of, u32_of, f32_of}
+use Rattle.gltf_accessors.specs.Normalized.{normalized_u8, normalized_i8, normalized_u16, normalized_i16}
+use Rattle.gltf_accessors.specs.Indices.{IsVertex}
 use Rattle.gltf_accessors.specs.declared.vectors.Vectors.{Vectors}
 use Rattle.gltf_accessors.specs.declared.vectors.Vectors.TheVariants.{F32, I8, U8, I16, U16}
 use Rattle.gltf_accessors.specs.declared.attributes.Colors.{Colors}

@@ -4,8 +4,8 @@ ghost use Rattle.std.specs.Prelude.{◌≡◌, ◌<◌};
 ghost use Rattle.gltf_accessors.specs.Values.{AreEach};
 ghost use Rattle.gltf_accessors.specs.Vectors.{colors_len, IsColor, joints_len, AreJoints};
 
+use crate::Accessor;
 use crate::vectors::Vectors;
-use gltf_elements::Accessor;
 
 /// The colors of vertices (glTF 2.0, sections 3.7.2.1 and 3.9.2).
 #[derive(Debug, Drop)]

@@ -7,8 +7,8 @@ ghost use Rattle.gltf_accessors.specs.Data.{format_of, IsBase, IsBaseFault, IsSp
 use crate::fault::{AccessorDataFault, DeviatingFault, PartFault};
 use crate::format::Format;
 use crate::part::{components_at, indices_at};
+use crate::{Accessor, Component, Components, Sparse};
 use gltf_buffers::Buffers;
-use gltf_elements::{Accessor, Component, Components, Sparse};
 use gltf_layout::{Location, Place, SparsePlace};
 
 /// An accessor, and the buffers in which its elements lie (glTF 2.0, section 5.1).

@@ -1,7 +1,7 @@
 //! The values of keyframes.
 
+use crate::Accessor;
 use crate::vectors::Vectors;
-use gltf_elements::Accessor;
 
 /// The values of keyframes, by the property that they animate (glTF 2.0, section 3.11). For cubic
 /// splines there are three for each keyframe: an in-tangent, a value and an out-tangent.

@@ -2,13 +2,13 @@
 
 ghost use Rattle.std.specs.Prelude.{◌≡◌, IfOk, IfErr};
 ghost use Rattle.gltf_buffers.specs.Buffered.{bytes_at};
-ghost use Rattle.gltf_elements.specs.Indices.{IsIndexType};
+ghost use Rattle.gltf_accessors.specs.Indices.{IsIndexType};
 ghost use Rattle.gltf_accessors.specs.Parts.{IsPart, IsComponentsFault, IsIndicesFault};
 
 use crate::fault::PartFault;
+use crate::{Component, Components, Elements, Indices};
 use gltf_base::accessor::ComponentType;
 use gltf_buffers::Buffers;
-use gltf_elements::{Component, Components, Elements, Indices};
 use gltf_layout::Location;
 
 /// The elements of N components at a place.

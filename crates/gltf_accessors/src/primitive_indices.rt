@@ -1,10 +1,10 @@
 //! The indices of a primitive.
 
 ghost use Rattle.std.specs.Prelude.{◌≡◌, ◌<◌, ◌↔◌, IsTrue, IfErr, IfOk};
-ghost use Rattle.gltf_elements.specs.Indices.{IsVertex};
+ghost use Rattle.gltf_accessors.specs.Indices.{IsVertex};
 ghost use Rattle.gltf_accessors.specs.Vectors.{indices_len, indices_type, IsIndex, NamesVertex, NamesNoVertex, NameVertices, IsVertexFault};
 
-use gltf_elements::{Accessor, IndexType, VertexFault};
+use crate::{Accessor, IndexType, VertexFault};
 
 /// The indices of a primitive, by how they are stored (glTF 2.0, section 5.24.2).
 #[derive(Debug, Drop)]

@@ -7,6 +7,7 @@ ghost use Rattle.gltf_accessors.specs.Formats.{Allows, usage_of};
 ghost use Rattle.gltf_accessors.specs.Data.{format_of, IsAccessorAt};
 ghost use Rattle.gltf_accessors.specs.Reads.{ReadsData, IsFormatFault, IsFloatsFault, IsVectorsAt, IsVectorsFault, IsColorsAt, IsColorsFault, IsJointsAt, IsJointsFault, IsIndicesAt, IsPrimitiveIndicesFault, IsOutputsAt, IsOutputsFault};
 
+use crate::Accessor;
 use crate::attributes::{Colors, Joints};
 use crate::data::{AccessorData, accessor_at};
 use crate::fault::{AccessFault, AccessorDataFault};
@@ -16,7 +17,6 @@ use crate::primitive_indices::PrimitiveIndices;
 use crate::vectors::Vectors;
 use gltf_base::accessor::{AccessorType, ComponentType};
 use gltf_base::animation::Property;
-use gltf_elements::Accessor;
 
 /// Each call fails with `Format` if the usage doesn't allow the format of the accessor, and with
 /// `Data` if its data is not what it says. It takes time in proportion to the components, and no

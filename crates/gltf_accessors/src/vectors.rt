@@ -4,7 +4,7 @@ ghost use Rattle.std.specs.Prelude.{◌≡◌, ◌<◌};
 ghost use Rattle.gltf_accessors.specs.Vectors.{vectors_len, AreFloats};
 ghost use Rattle.gltf_accessors.specs.Values.{AreEach};
 
-use gltf_elements::{Accessor, Normalized};
+use crate::{Accessor, Normalized};
 
 /// Elements of N floats, by how their components are stored (glTF 2.0, section 3.6.2.2). Integers
 /// are normalized.

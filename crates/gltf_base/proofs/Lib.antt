@@ -5,3 +5,5 @@ pub mod KeyLemmas
 pub mod Escapes
 pub mod Codes
 pub mod Shortened
+pub mod DeviceLemmas
+pub mod WriteLemmas

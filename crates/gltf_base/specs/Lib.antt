@@ -18,3 +18,5 @@ pub mod Reals
 pub mod Errors
 pub mod Pushes
 pub mod ErrorText
+pub mod Device
+pub mod Watched

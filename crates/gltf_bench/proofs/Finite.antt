@@ -1,8 +1,8 @@
 -- Positions that are read as elements are finite.
 use Rattle.std.proofs.Common.{◌≡◌, ℕ, ◌<◌, ◌≤◌, ◌+◌, ◌*◌, List, true, length, take, drop, subst, sym, refl, arith}
 use Rattle.gltf_layout.specs.declared.span.Span.{Span}
-use Rattle.gltf_elements.specs.Components.{MayBe}
-use Rattle.gltf_elements.specs.Numbers.{is_finite}
+use Rattle.gltf_accessors.specs.Components.{MayBe}
+use Rattle.gltf_accessors.specs.Numbers.{is_finite}
 use Rattle.gltf_bench.specs.Positions.{IsSpanOf, AreFinite}
 
 -- the float at place p is component k of element i

@@ -1,1 +1,3 @@
 pub mod Positions
+pub mod Lexemes
+pub mod NumberParts

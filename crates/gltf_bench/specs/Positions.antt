@@ -1,7 +1,7 @@
 -- Bytes that are positions: three floats each, one position behind the other.
 use Rattle.std.specs.Prelude.{◌≡◌, ℕ, ◌+◌, ◌*◌, ◌≤◌, ◌/◌, List, true, length, take, drop}
 use Rattle.gltf_layout.specs.declared.span.Span.{Span}
-use Rattle.gltf_elements.specs.Numbers.{is_finite}
+use Rattle.gltf_accessors.specs.Numbers.{is_finite}
 
 -- where the positions in so many bytes lie
 pub record IsSpanOf (len : ℕ) (s : Span) : Type 0 where

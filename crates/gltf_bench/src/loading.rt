@@ -1,8 +1,8 @@
 //! Measures how long loading takes: the forest and the layout of a document, and a sum of positions
-//! through the elements of `gltf_elements` and by a plain loop over the same bytes.
+//! through the elements of `gltf_accessors` and by a plain loop over the same bytes.
 
 ghost use Rattle.std.specs.Prelude.{◌≡◌, ◌+◌, ◌≤◌, true, length, take, drop, IfOk};
-ghost use Rattle.gltf_elements.specs.Numbers.{is_finite};
+ghost use Rattle.gltf_accessors.specs.Numbers.{is_finite};
 ghost use Rattle.gltf_bench.specs.Positions.{IsSpanOf, AreFinite};
 
 use crate::{ROUNDS, nanos_since, print_row};

@@ -3,19 +3,29 @@
 //! a byte of the file.
 #![tactic(auto)]
 
+mod bytes;
+mod literal;
 mod loading;
+mod number;
+mod pass;
+mod quoted;
+mod reader;
 
 use anyhow::{Context, Result};
 use gltf_base::Steps;
 use gltf_json::Root;
 use gltf_json::validation::{Count, Validate, Walk};
+use json::{Scratch, is_valid};
+use pass::pass_text;
 use serde_json::Value;
 use std::time::Instant;
-use std::{env, fs};
+use std::{env, fs, str};
 
 /// What is measured.
 #[derive(Clone, Copy)]
 enum Task {
+    PassTokens,
+    PassValues,
     ReadValue,
     ReadAndDropValue,
     FromSlice,
@@ -30,7 +40,9 @@ enum Task {
 }
 
 /// Each task, and the name that it is printed under.
-const TASKS: [(Task, &str); 11] = [
+const TASKS: [(Task, &str); 13] = [
+    (Task::PassTokens, "a pass over the tokens"),
+    (Task::PassValues, "a pass over the values"),
     (Task::ReadValue, "Value::from_slice"),
     (Task::ReadAndDropValue, "Value::from_slice and drop"),
     (Task::FromSlice, "Root::from_slice"),
@@ -70,6 +82,8 @@ fn walk_to_end(root: &Root) {
 // long.
 fn time(rt: &HostRuntime, task: Task, bytes: &[u8], root: &Root) -> Result<u64> {
     match task {
+        Task::PassTokens => time_tokens(rt, bytes),
+        Task::PassValues => time_values(rt, bytes),
         Task::ReadValue => time_value(rt, bytes),
         Task::ReadAndDropValue => time_value_and_drop(rt, bytes),
         Task::FromSlice => time_slice(rt, bytes),
@@ -82,6 +96,25 @@ fn time(rt: &HostRuntime, task: Task, bytes: &[u8], root: &Root) -> Result<u64> 
         Task::CloneRoot => time_clone(rt, root),
         Task::DropRoot => time_drop(rt, root),
     }
+}
+
+/// A pass with the kit's reader of tokens.
+fn time_tokens(rt: &HostRuntime, bytes: &[u8]) -> Result<u64> {
+    let text = str::from_utf8(bytes)?;
+    let mut scratch = Scratch::new(rt.alloc());
+    let start = Instant::now(rt)?;
+    let _is_json = is_valid(text, &mut scratch)?;
+    nanos_since(rt, &start)
+}
+
+/// A pass with a reader that asks the text for each value.
+fn time_values(rt: &HostRuntime, bytes: &[u8]) -> Result<u64> {
+    let text = str::from_utf8(bytes)?;
+    let start = Instant::now(rt)?;
+    let passed = pass_text(rt.alloc(), text);
+    let nanos = nanos_since(rt, &start)?;
+    passed.ok().context("the text isn't read value by value")?;
+    Ok(nanos)
 }
 
 fn time_value(rt: &HostRuntime, bytes: &[u8]) -> Result<u64> {

@@ -1,3 +1,10 @@
 pub mod Loaded
 pub mod Taken
 pub mod Truths
+pub mod Steps
+pub mod Others
+pub mod Takes
+pub mod Again
+pub mod Joined
+pub mod File
+pub mod Sent

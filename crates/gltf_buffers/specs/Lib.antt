@@ -5,3 +5,6 @@ pub mod Limits
 pub mod Buffered
 pub mod Faults
 pub mod Files
+pub mod Container
+pub mod Reading
+pub mod Writing

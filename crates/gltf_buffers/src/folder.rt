@@ -6,8 +6,7 @@ ghost use Rattle.gltf_buffers.specs.Limits.{Takes};
 
 use crate::path::{PathFault, decode_path};
 use crate::resolve::Resolve;
-use gltf_base::Error as ReadError;
-use gltf_io::{Watched, read_to_end};
+use gltf_base::{Error as ReadError, Watched, read_to_end};
 use std::alloc::{AllocError, Global};
 use std::rt::Files;
 use std::{fs, io};

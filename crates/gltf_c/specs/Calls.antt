@@ -14,14 +14,14 @@ use Rattle.gltf_root.specs.declared.root.style.Spacing.TheVariants.{Compact}
 use Rattle.gltf_root.specs.declared.root.style.Style.{Style}
 use Rattle.gltf_validation_rules.specs.Context.{Rules}
 use Rattle.gltf_validation_rules.specs.Reports.{document_reports}
-use Rattle.gltf_sinks.specs.Report.{Report}
-use Rattle.gltf_glb.specs.declared.error.Error.{Error as GlbError}
+use Rattle.gltf_validation_rules.specs.Report.{Report}
+use Rattle.gltf_buffers.specs.declared.error.GlbError.{GlbError}
 use Rattle.gltf_report_lines.specs.Output.{Output, line, output, refusal}
-use Rattle.gltf_lint_lines.specs.Bytes.{json_of}
-use Rattle.gltf_lint_lines.specs.Lines.{report_lines}
-use Rattle.gltf_lint_lines.specs.declared.format.Format.TheVariants.{Json as AsJson}
+use Rattle.gltf_report_lines.specs.Bytes.{json_of}
+use Rattle.gltf_report_lines.specs.Lines.{report_lines}
+use Rattle.gltf_report_lines.specs.declared.format.LineFormat.TheVariants.{Json as AsJson}
 use Rattle.gltf_findings_lines.specs.Checked.{IsJsonOf, refusal_of}
-use Rattle.gltf_findings_lines.specs.declared.check.Found.{Found}
+use Rattle.gltf_findings_lines.specs.declared.check.FileFindings.{FileFindings}
 use Rattle.gltf_findings_lines.specs.declared.check.Unread.{Unread}
 use Rattle.gltf_findings_lines.specs.declared.check.Unread.TheVariants.{Container, NoJson, NoDocument}
 use Rattle.gltf_findings_lines.specs.declared.file.File.{File}
@@ -84,7 +84,7 @@ IsListing rules file due (Err (errors.Memory e)) = ⊤
 IsListing rules file due (Err _) = ⊥
 
 -- all findings of a file, which is a container if its bytes begin as one
-pub record AreFoundIn (named bytes : List ℕ) (found : Found) : Type 0 where
+pub record AreFoundIn (named bytes : List ℕ) (found : FileFindings) : Type 0 where
   pub file : File
   pub is_named : file.name.now ≡ named
   pub is_made_of : file.bytes.now ≡ bytes
@@ -99,13 +99,13 @@ findings_status (Some (Container e)) text = 7
 findings_status None [] = 0
 findings_status None (b ∷ bs) = 1
 
-abbrev pub findings_output : Found → Output
+abbrev pub findings_output : FileFindings → Output
 findings_output found = record { text = string_bytes found.lines; status = findings_status (refusal_of found) (string_bytes found.lines) }
 
 -- a call listed the findings of a file, or memory was refused
 abbrev pub AreFindingsListed : List ℕ → List ℕ → List ℕ → List ℕ → Returned → Type 0
 AreFindingsListed named bytes old new returned =
-    ((found : Found) × AreFoundIn named bytes found × IsGiven (findings_output found) old new returned)
+    ((found : FileFindings) × AreFoundIn named bytes found × IsGiven (findings_output found) old new returned)
     ⊎ IsGiven (nothing 4) old new returned
 
 -- one line, without nulls where the format allows none

@@ -9,9 +9,8 @@ ghost use Rattle.gltf_c.specs.Calls.{AreFindingsListed, IsChecked, IsListed, IsL
 
 use crate::returned::{Returned, give, refuse, tell};
 use crate::{NO_MEMORY, NO_REPORT, NOT_DOCUMENT, NOT_GLB, NOT_JSON, REPORTS};
-use gltf_findings_lines::{File, Found, Unread, json_lines};
-use gltf_lint_lines::{Format, all_lines, json_of};
-use gltf_report_lines::Outcome;
+use gltf_findings_lines::{File, FileFindings, Unread, json_lines};
+use gltf_report_lines::{LineFormat, Outcome, all_lines, json_of};
 use gltf_root::root::{Nulls, Root, Spacing, Style};
 use gltf_schema::Error;
 use gltf_validation_rules::Rules;
@@ -59,7 +58,7 @@ fn listing(alloc: Global, rules: &Rules<'_>, file: &str, json: &[u8]) -> Result<
     ensures { IsListing (rules_of rules.now) file.now (answer json.now) result }
 {
     let root = Root::from_slice(alloc, json)?;
-    Ok(all_lines(alloc, rules, Format::Json, file, &root)?)
+    Ok(all_lines(alloc, rules, LineFormat::Json, file, &root)?)
 }
 
 /// Finds what is wrong with a file, and writes the lines of its findings to a buffer.
@@ -78,7 +77,7 @@ pub(crate) fn find(alloc: Global, name: &str, bytes: &[u8], output: &mut [u8]) -
 }
 
 /// The status for what was found.
-fn findings_status(found: &Found) -> u8
+fn findings_status(found: &FileFindings) -> u8
     ensures { result ≡ findings_status (refusal_of found.now) (string_bytes found.now.lines) }
 {
     match found.refusal() {

@@ -4,8 +4,8 @@
 
 use anyhow::Result;
 use gltf_findings::Findings;
-use gltf_findings_glb::GlbFindings;
-use gltf_findings_lines::{Checker, Choices, File, FindingOptions, Format, Style};
+use gltf_findings_files::GlbFindings;
+use gltf_findings_lines::{Checker, Choices, File, FindingOptions, LineFormat, Style};
 use gltf_findings_members::Notices;
 use gltf_json::Root;
 use gltf_schema::Outline;
@@ -18,7 +18,7 @@ const ALL: FindingOptions<'static> = FindingOptions {
         severities: &[],
         ignored: &[],
     },
-    style: Style::Lines(Format::Text),
+    style: Style::Lines(LineFormat::Text),
     positions_up_to: u64::MAX,
     most: u64::MAX,
 };

@@ -8,6 +8,7 @@ mod exporter;
 mod files;
 mod findings;
 mod glb;
+mod levels;
 mod linter;
 mod loader;
 mod stats;
@@ -36,6 +37,8 @@ pub fn run(rt: HostRuntime) -> Result<()> {
     builder::main(rt)?;
     announce(&rt, "linter")?;
     linter::main(rt)?;
+    announce(&rt, "levels")?;
+    levels::main(rt)?;
     announce(&rt, "files")?;
     files::main(rt)?;
     announce(&rt, "findings")?;

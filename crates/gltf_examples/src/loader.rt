@@ -5,7 +5,7 @@
 
 ghost use Rattle.gltf_layout.specs.Layouts.{layout_places};
 ghost use Rattle.gltf_layout.specs.Places.{ArePlaces};
-ghost use Rattle.gltf_document.specs.Documents.{stored_in};
+ghost use Rattle.gltf_load.specs.Documents.{stored_in};
 
 use anyhow::{Result, ensure};
 use gltf_json::{Node, Root, Scene};

@@ -23,19 +23,19 @@ use Rattle.gltf_layout.specs.Stored.{Stored}
 use Rattle.gltf_layout.specs.Fits.{Fits, span_of}
 use Rattle.gltf_layout.specs.Places.{HasElements, LieIn, LieInNamed}
 use Rattle.gltf_layout.proofs.Checked.{is_there}
-use Rattle.gltf_document.specs.Documents.{stored_in, stored_accessor, stored_view, chosen}
-use Rattle.gltf_document.specs.Spans.{offset_or_0, view_layout}
+use Rattle.gltf_load.specs.Documents.{stored_in, stored_accessor, stored_view, chosen}
+use Rattle.gltf_load.specs.Spans.{offset_or_0, view_layout}
 use Rattle.gltf_findings_codes.specs.declared.code.Code.TheVariants.{UnresolvedReference, ValueNotInList, ValueNotInRange, ValueMultipleOf, BufferViewTooLong, AccessorOffsetAlignment, AccessorTotalOffsetAlignment, AccessorSmallBytestride, AccessorTooLong}
 use Rattle.gltf_findings_codes.specs.declared.name.Name.TheVariants as name
-use Rattle.gltf_findings_codes.specs.declared.finding.Place.TheVariants.{Object, Member}
+use Rattle.gltf_findings_codes.specs.declared.finding.Subject.TheVariants.{Object, Member}
 use Rattle.gltf_findings_codes.specs.Found.{found, findings_from, findings_if}
 use Rattle.gltf_findings_codes.specs.Formats.{offset_number}
 use Rattle.gltf_findings_codes.specs.Rules.{is_invalid, is_unresolved, is_some_unresolved}
 use Rattle.gltf_findings_codes.specs.Without.{are_without}
 use Rattle.gltf_findings_codes.proofs.Without.{without_append, without_from}
 use Rattle.gltf_findings.proofs.Unbroken.{unbroken}
-use Rattle.gltf_findings_objects.specs.Accessors.{stride_or, is_small, is_behind_view, accessor_at, accessor_rules, bound_rules, sparse_rules, elements_rules, elements_of, layout_rules, component_of, type_of_elements, view_of, view_of_index, accessor_findings}
-use Rattle.gltf_findings_objects.specs.Views.{view_at, view_rules, stride_rules, stride_findings, is_stride, is_for_indices, ends_behind, ends_behind_named, is_behind_buffer, view_findings}
+use Rattle.gltf_findings_rules.specs.Accessors.{stride_or, is_small, is_behind_view, accessor_at, accessor_rules, bound_rules, sparse_rules, elements_rules, elements_of, layout_rules, component_of, type_of_elements, view_of, view_of_index, accessor_findings}
+use Rattle.gltf_findings_rules.specs.Views.{view_at, view_rules, stride_rules, stride_findings, is_stride, is_for_indices, ends_behind, ends_behind_named, is_behind_buffer, view_findings}
 use Rattle.gltf_findings.specs.Absent.{is_of_layout}
 
 -- elements that are packed tightly are multiples of a component

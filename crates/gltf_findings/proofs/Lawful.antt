@@ -6,18 +6,18 @@ use Rattle.gltf_parts.specs.declared.accessor.Accessor.{Accessor}
 use Rattle.gltf_root.specs.declared.root.Root.{Root}
 use Rattle.gltf_scene.specs.declared.scene.Node.{Node}
 use Rattle.gltf_hierarchy.specs.Forest.{IsForest}
-use Rattle.gltf_document.specs.Named.{children_named, numbers_in}
+use Rattle.gltf_load.specs.Named.{children_named, numbers_in}
 use Rattle.gltf_findings_codes.specs.declared.code.Code.{Code}
 use Rattle.gltf_findings_codes.specs.declared.finding.Finding.{Finding}
 use Rattle.gltf_findings_codes.specs.Found.{found, findings_from}
 use Rattle.gltf_findings_codes.specs.Without.{are_without}
 use Rattle.gltf_findings_codes.proofs.Without.{without_append, without_from}
-use Rattle.gltf_findings_scenes.specs.declared.nodes.NodeRules.{NodeRules as Counts}
-use Rattle.gltf_findings_scenes.specs.Nodes.{node_rules, node_findings, child_findings, child_repeat_findings, rotation_findings, scene_findings}
-use Rattle.gltf_findings_scenes.specs.Placed.{placed_findings as placed_node_findings, child_marks, joint_marks}
-use Rattle.gltf_findings_scenes.specs.Skins.{skin_findings}
-use Rattle.gltf_findings_objects.specs.Accessors.{accessor_findings}
-use Rattle.gltf_findings_objects.specs.Views.{buffer_rules, view_findings}
+use Rattle.gltf_findings_rules.specs.declared.nodes.NodeRules.{NodeRules as Counts}
+use Rattle.gltf_findings_rules.specs.Nodes.{node_rules, node_findings, child_findings, child_repeat_findings, rotation_findings, scene_findings}
+use Rattle.gltf_findings_rules.specs.Placed.{placed_findings as placed_node_findings, child_marks, joint_marks}
+use Rattle.gltf_findings_rules.specs.Skins.{skin_findings}
+use Rattle.gltf_findings_rules.specs.Accessors.{accessor_findings}
+use Rattle.gltf_findings_rules.specs.Views.{buffer_rules, view_findings}
 use Rattle.gltf_findings.specs.Findings.{AreFindings, findings_of, document_findings, stored_findings, shown_findings, staged_findings, placed_findings, counts_of, unmarked}
 use Rattle.gltf_findings.specs.Uses.{use_findings}
 use Rattle.gltf_findings.specs.Absent.{is_of_layout, is_of_hierarchy, LiesInView}

@@ -12,16 +12,16 @@ use Rattle.gltf_hierarchy.specs.Nodes.{children_of}
 use Rattle.gltf_hierarchy.specs.Faults.{AreFaults, Place, place_faults, places_from}
 use Rattle.gltf_hierarchy.specs.Forest.{IsForest}
 use Rattle.gltf_scene.specs.declared.scene.Node.{Node}
-use Rattle.gltf_document.specs.Named.{children_named, numbers_in}
+use Rattle.gltf_load.specs.Named.{children_named, numbers_in}
 use Rattle.gltf_findings_codes.specs.declared.code.Code.TheVariants.{UnresolvedReference, NodeParentOverride, NodeLoop}
 use Rattle.gltf_findings_codes.specs.declared.name.Name.TheVariants.{Nodes, Children}
 use Rattle.gltf_findings_codes.specs.declared.finding.Object.TheVariants.{Item}
-use Rattle.gltf_findings_codes.specs.declared.finding.Place.TheVariants.{Object, Member, Entry}
+use Rattle.gltf_findings_codes.specs.declared.finding.Subject.TheVariants.{Object, Member, Entry}
 use Rattle.gltf_findings_codes.specs.Found.{broken, found, findings_from}
 use Rattle.gltf_findings_codes.specs.Rules.{is_unresolved, reference_findings}
 use Rattle.gltf_findings_codes.specs.Without.{are_without}
 use Rattle.gltf_findings_codes.proofs.Without.{without_append, without_from}
-use Rattle.gltf_findings_scenes.specs.Nodes.{node_at, child_findings, child_repeat_findings}
+use Rattle.gltf_findings_rules.specs.Nodes.{node_at, child_findings, child_repeat_findings}
 use Rattle.gltf_findings.specs.Absent.{is_of_hierarchy}
 use Rattle.gltf_findings.specs.Hierarchy.{fault_finding}
 use Rattle.gltf_findings.proofs.Unbroken.{absent, unbroken}

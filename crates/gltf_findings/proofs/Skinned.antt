@@ -8,10 +8,10 @@ use Rattle.gltf_base.specs.declared.index.IndexTo.{IndexTo}
 use Rattle.gltf_base.specs.Indexes.{index_number}
 use Rattle.gltf_hierarchy.specs.Forest.{IsForest}
 use Rattle.gltf_hierarchy.specs.Joints.{IsOverAll, AreAllNodes}
-use Rattle.gltf_document.specs.Named.{joints_named}
+use Rattle.gltf_load.specs.Named.{joints_named}
 use Rattle.gltf_scene.specs.declared.skin.Skin.{Skin}
-use Rattle.gltf_subtrees.specs.declared.subtrees.Subtrees.{Subtrees}
-use Rattle.gltf_subtrees.specs.Subtrees.{AreSubtrees, IsAtOrBelow, is_at_or_below, tree_roots}
+use Rattle.gltf_hierarchy.specs.declared.subtrees.Subtrees.{Subtrees}
+use Rattle.gltf_hierarchy.specs.Subtrees.{AreSubtrees, IsAtOrBelow, is_at_or_below, tree_roots}
 use Rattle.gltf_findings_codes.specs.Marks.{is_marked}
 use Rattle.gltf_findings_codes.specs.Rules.{is_some_unresolved, is_unresolved}
 use Rattle.gltf_findings.specs.Skeletons.{HaveCommonRoot, IsSkeleton, IsSkeletonNode, IsAmongTrees, AreSkeletonMarks}

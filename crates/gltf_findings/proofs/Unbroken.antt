@@ -3,7 +3,7 @@ use Rattle.std.proofs.Common.{◌≡◌, ℕ, zero, suc, List, [], ◌∷◌, Bo
 use Rattle.std.specs.Prelude.{slice_get}
 use Rattle.std.proofs.lemmas.Bool.{and_parts, not-true, both_ways}
 use Rattle.gltf_findings_codes.specs.declared.code.Code.{Code}
-use Rattle.gltf_findings_codes.specs.declared.finding.Place.{Place}
+use Rattle.gltf_findings_codes.specs.declared.finding.Subject.{Subject}
 use Rattle.gltf_findings_codes.specs.declared.finding.Finding.{Finding}
 use Rattle.gltf_findings_codes.specs.Found.{broken, found}
 use Rattle.gltf_findings_codes.specs.Without.{are_without}
@@ -18,6 +18,6 @@ absent codes (None ∷ rest) (suc i) f at h = absent codes rest i f at h
 absent codes (Some g ∷ rest) (suc i) f at h = absent codes rest i f at (and_parts (not (codes g.code)) (are_without codes (found rest)) h).1
 
 -- a rule whose code is one of these is not broken
-pub unbroken : (codes : Code → Bool) (rules : List (Option Finding)) (i : ℕ) (b : Bool) (code : Code) (place : Place) → slice_get rules i ≡ Some (broken b code place) → codes code ≡ true → are_without codes (found rules) ≡ true → b ≡ false
+pub unbroken : (codes : Code → Bool) (rules : List (Option Finding)) (i : ℕ) (b : Bool) (code : Code) (place : Subject) → slice_get rules i ≡ Some (broken b code place) → codes code ≡ true → are_without codes (found rules) ≡ true → b ≡ false
 unbroken codes rules i false code place at is h = refl
 unbroken codes rules i true code place at is h = absurd (both_ways (codes code) (absent codes rules i (record { code = code; place = place }) at h) is)

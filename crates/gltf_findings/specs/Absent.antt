@@ -5,7 +5,7 @@ use Rattle.gltf_layout.specs.declared.span.AccessorLayout.{AccessorLayout}
 use Rattle.gltf_layout.specs.declared.place.Location.{Location}
 use Rattle.gltf_layout.specs.Stored.{Stored}
 use Rattle.gltf_layout.specs.Places.{HasElements, LieInNamed}
-use Rattle.gltf_document.specs.Documents.{stored_in, stored_accessor}
+use Rattle.gltf_load.specs.Documents.{stored_in, stored_accessor}
 use Rattle.gltf_root.specs.declared.root.Root.{Root}
 use Rattle.gltf_findings_codes.specs.declared.code.Code.{Code}
 use Rattle.gltf_findings_codes.specs.declared.code.Code.TheVariants.{UnresolvedReference, ValueNotInList, ValueNotInRange, ValueMultipleOf, BufferViewTooLong, AccessorOffsetAlignment, AccessorTotalOffsetAlignment, AccessorSmallBytestride, AccessorTooLong, DuplicateElements, NodeParentOverride, NodeLoop}

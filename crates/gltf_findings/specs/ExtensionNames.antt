@@ -5,7 +5,7 @@ use Rattle.gltf_findings_codes.specs.declared.code.Code.TheVariants.{DuplicateEl
 use Rattle.gltf_findings_codes.specs.declared.name.Name.TheVariants.{ExtensionsUsed, ExtensionsRequired}
 use Rattle.gltf_findings_codes.specs.declared.name.Name.{Name}
 use Rattle.gltf_findings_codes.specs.declared.finding.Object.TheVariants.{Document}
-use Rattle.gltf_findings_codes.specs.declared.finding.Place.TheVariants.{Member, Entry}
+use Rattle.gltf_findings_codes.specs.declared.finding.Subject.TheVariants.{Member, Entry}
 use Rattle.gltf_findings_codes.specs.declared.finding.Finding.{Finding}
 use Rattle.gltf_findings_codes.specs.Found.{broken, found}
 

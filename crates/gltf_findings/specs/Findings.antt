@@ -9,29 +9,29 @@ use Rattle.gltf_root.specs.declared.root.Root.{Root}
 use Rattle.gltf_findings_codes.specs.declared.code.Code.TheVariants.{UnresolvedReference, UnsatisfiedDependency}
 use Rattle.gltf_findings_codes.specs.declared.name.Name.TheVariants.{Scene, ExtensionsUsed, ExtensionsRequired}
 use Rattle.gltf_findings_codes.specs.declared.finding.Object.TheVariants.{Document}
-use Rattle.gltf_findings_codes.specs.declared.finding.Place.TheVariants.{Member}
+use Rattle.gltf_findings_codes.specs.declared.finding.Subject.TheVariants.{Member}
 use Rattle.gltf_findings_codes.specs.declared.finding.Finding.{Finding}
 use Rattle.gltf_findings.specs.declared.findings.Findings.{Findings}
-use Rattle.gltf_findings_scenes.specs.declared.nodes.NodeRules.{NodeRules as Counts}
+use Rattle.gltf_findings_rules.specs.declared.nodes.NodeRules.{NodeRules as Counts}
 use Rattle.gltf_findings_codes.specs.Found.{broken, found, findings_from}
 use Rattle.gltf_findings_codes.specs.Rules.{is_some_unresolved}
 use Rattle.gltf_findings.specs.ExtensionNames.{is_listed, name_rules, use_rules, required_findings, name_repeats}
 use Rattle.gltf_findings.specs.Uses.{use_findings}
 use Rattle.gltf_findings.specs.Versions.{asset_rules}
 use Rattle.gltf_findings.specs.Hierarchy.{AreHierarchyRules}
-use Rattle.gltf_document.specs.Named.{children_named}
+use Rattle.gltf_load.specs.Named.{children_named}
 use Rattle.gltf_findings.specs.Skeletons.{AreSkeletonMarks, skeleton_findings}
-use Rattle.gltf_findings_objects.specs.Accessors.{accessor_findings}
-use Rattle.gltf_findings_objects.specs.Views.{buffer_rules, view_findings}
-use Rattle.gltf_findings_objects.specs.Textures.{image_rules, sampler_rules, texture_rules}
-use Rattle.gltf_findings_objects.specs.Materials.{material_findings}
-use Rattle.gltf_findings_meshes.specs.Meshes.{mesh_findings}
-use Rattle.gltf_findings_scenes.specs.Animations.{animation_findings}
-use Rattle.gltf_findings_objects.specs.Cameras.{camera_findings}
-use Rattle.gltf_findings_objects.specs.Lights.{light_findings}
-use Rattle.gltf_findings_scenes.specs.Nodes.{node_findings, scene_findings}
-use Rattle.gltf_findings_scenes.specs.Placed.{placed_findings as placed_node_findings, child_marks, joint_marks}
-use Rattle.gltf_findings_scenes.specs.Skins.{skin_findings}
+use Rattle.gltf_findings_rules.specs.Accessors.{accessor_findings}
+use Rattle.gltf_findings_rules.specs.Views.{buffer_rules, view_findings}
+use Rattle.gltf_findings_rules.specs.Textures.{image_rules, sampler_rules, texture_rules}
+use Rattle.gltf_findings_rules.specs.Materials.{material_findings}
+use Rattle.gltf_findings_rules.specs.Meshes.{mesh_findings}
+use Rattle.gltf_findings_rules.specs.Animations.{animation_findings}
+use Rattle.gltf_findings_rules.specs.Cameras.{camera_findings}
+use Rattle.gltf_findings_rules.specs.Lights.{light_findings}
+use Rattle.gltf_findings_rules.specs.Nodes.{node_findings, scene_findings}
+use Rattle.gltf_findings_rules.specs.Placed.{placed_findings as placed_node_findings, child_marks, joint_marks}
+use Rattle.gltf_findings_rules.specs.Skins.{skin_findings}
 
 -- what a list of findings holds
 abbrev pub found_in : Findings → List Finding

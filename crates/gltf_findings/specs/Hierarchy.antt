@@ -4,12 +4,12 @@ use Rattle.gltf_hierarchy.specs.declared.fault.HierarchyFault.{HierarchyFault}
 use Rattle.gltf_hierarchy.specs.declared.fault.HierarchyFault.TheVariants.{TooManyNodes, NoSuchChild, TwoParents, Cycle, Memory}
 use Rattle.gltf_hierarchy.specs.Faults.{AreFaults}
 use Rattle.gltf_hierarchy.specs.Forest.{IsForest}
-use Rattle.gltf_document.specs.Named.{children_named}
+use Rattle.gltf_load.specs.Named.{children_named}
 use Rattle.gltf_scene.specs.declared.scene.Node.{Node}
 use Rattle.gltf_findings_codes.specs.declared.code.Code.TheVariants.{NodeParentOverride, NodeLoop}
 use Rattle.gltf_findings_codes.specs.declared.name.Name.TheVariants.{Nodes, Children}
 use Rattle.gltf_findings_codes.specs.declared.finding.Object.TheVariants.{Item}
-use Rattle.gltf_findings_codes.specs.declared.finding.Place.TheVariants.{Object, Member}
+use Rattle.gltf_findings_codes.specs.declared.finding.Subject.TheVariants.{Object, Member}
 use Rattle.gltf_findings_codes.specs.declared.finding.Finding.{Finding}
 use Rattle.gltf_findings_codes.specs.Found.{broken}
 

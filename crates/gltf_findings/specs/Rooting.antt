@@ -2,10 +2,10 @@
 use Rattle.std.specs.Prelude.{◌≡◌, ℕ, ◌<◌, List, [], ◌∷◌, length, map, slice_get, Bool, true, false, not, ◌&&◌, nat_lt, Option, Some, None}
 use Rattle.gltf_base.specs.declared.index.IndexTo.{IndexTo}
 use Rattle.gltf_base.specs.Indexes.{index_number}
-use Rattle.gltf_document.specs.Named.{joints_named}
+use Rattle.gltf_load.specs.Named.{joints_named}
 use Rattle.gltf_scene.specs.declared.skin.Skin.{Skin}
-use Rattle.gltf_subtrees.specs.declared.subtrees.Subtrees.{Subtrees}
-use Rattle.gltf_subtrees.specs.Subtrees.{is_at_or_below, tree_roots}
+use Rattle.gltf_hierarchy.specs.declared.subtrees.Subtrees.{Subtrees}
+use Rattle.gltf_hierarchy.specs.Subtrees.{is_at_or_below, tree_roots}
 use Rattle.gltf_findings_codes.specs.Marks.{is_marked}
 use Rattle.gltf_findings_codes.specs.Rules.{is_some_unresolved}
 

@@ -4,15 +4,15 @@ use Rattle.gltf_base.specs.declared.index.IndexTo.{IndexTo}
 use Rattle.gltf_base.specs.Indexes.{index_number}
 use Rattle.gltf_hierarchy.specs.Forest.{IsForest}
 use Rattle.gltf_hierarchy.specs.Joints.{IsOverAll, AreAllNodes}
-use Rattle.gltf_document.specs.Named.{joints_named}
+use Rattle.gltf_load.specs.Named.{joints_named}
 use Rattle.gltf_scene.specs.declared.skin.Skin.{Skin}
 use Rattle.gltf_findings_codes.specs.declared.code.Code.TheVariants.{SkinNoCommonRoot, SkinSkeletonInvalid}
 use Rattle.gltf_findings_codes.specs.declared.name.Name.TheVariants.{Joints, Skeleton}
-use Rattle.gltf_findings_codes.specs.declared.finding.Place.TheVariants.{Member}
+use Rattle.gltf_findings_codes.specs.declared.finding.Subject.TheVariants.{Member}
 use Rattle.gltf_findings_codes.specs.declared.finding.Finding.{Finding}
 use Rattle.gltf_findings_codes.specs.Found.{broken, found, findings_from}
 use Rattle.gltf_findings_codes.specs.Marks.{is_marked}
-use Rattle.gltf_findings_scenes.specs.Skins.{skin_at}
+use Rattle.gltf_findings_rules.specs.Skins.{skin_at}
 
 -- section 3.7.3.2: joints have a common root, which is each of them or above it
 abbrev pub HaveCommonRoot : List (List ℕ) → List ℕ → Type 0

@@ -7,11 +7,11 @@ use Rattle.gltf_findings_codes.specs.declared.finding.Finding.{Finding}
 use Rattle.gltf_findings_codes.specs.Found.{findings_from}
 use Rattle.gltf_findings_codes.specs.Marks.{mark, mark_some}
 use Rattle.gltf_findings.specs.ExtensionNames.{are_supported}
-use Rattle.gltf_findings_uses.specs.Marking.{marked_by, view_marks as views_of_accessor, mesh_attribute_marks, mesh_target_marks, mesh_index_marks, mesh_material_marks, animation_marks, default_weight_marks}
-use Rattle.gltf_findings_uses.specs.Surfaces.{material_marks as textures_of}
-use Rattle.gltf_findings_uses.specs.Sharing.{views_of, shared_views}
-use Rattle.gltf_findings_uses.specs.Unused.{unused_findings, weight_findings}
-use Rattle.gltf_findings_uses.specs.Usage.{usage_findings as accessor_usage_findings, view_usage_findings}
+use Rattle.gltf_findings_rules.specs.Marking.{marked_by, view_marks as views_of_accessor, mesh_attribute_marks, mesh_target_marks, mesh_index_marks, mesh_material_marks, animation_marks, default_weight_marks}
+use Rattle.gltf_findings_rules.specs.Surfaces.{material_marks as textures_of}
+use Rattle.gltf_findings_rules.specs.Sharing.{views_of, shared_views}
+use Rattle.gltf_findings_rules.specs.Unused.{unused_findings, weight_findings}
+use Rattle.gltf_findings_rules.specs.Usage.{usage_findings as accessor_usage_findings, view_usage_findings}
 
 -- the items of a list when nothing names them
 abbrev pub none_of : {X : Type 0} → List X → List Bool

@@ -7,7 +7,7 @@ use Rattle.gltf_findings_codes.specs.declared.code.Code.TheVariants.{PatternMism
 use Rattle.gltf_findings_codes.specs.declared.name.Name.TheVariants.{Asset, Version, MinVersion}
 use Rattle.gltf_findings_codes.specs.declared.finding.Object.{Object}
 use Rattle.gltf_findings_codes.specs.declared.finding.Object.TheVariants.{Top}
-use Rattle.gltf_findings_codes.specs.declared.finding.Place.TheVariants.{Member}
+use Rattle.gltf_findings_codes.specs.declared.finding.Subject.TheVariants.{Member}
 use Rattle.gltf_findings_codes.specs.declared.finding.Finding.{Finding}
 use Rattle.gltf_findings_codes.specs.Found.{broken}
 

@@ -5,7 +5,7 @@ ghost use Rattle.std.specs.BTreeSet.{contains_text};
 ghost use Rattle.gltf_findings_codes.specs.Found.{findings_from};
 ghost use Rattle.gltf_findings.specs.ExtensionNames.{is_listed, required_findings, name_repeats};
 
-use gltf_findings_codes::{Code, Finding, Name, Object, Place, add_found, broken};
+use gltf_findings_codes::{Code, Finding, Name, Object, Subject, add_found, broken};
 use std::alloc::{AllocError, Global};
 use std::collections::BTreeSet;
 
@@ -22,7 +22,7 @@ pub fn add_required(
     let names = names_in(*to.allocator(), used)?;
     for number in 0..required.len() {
         let is_used = names.contains(required[number].as_str());
-        let place = Place::Entry(Object::Document, Name::ExtensionsRequired, number);
+        let place = Subject::Entry(Object::Document, Name::ExtensionsRequired, number);
         add_found(
             to,
             &[broken(!is_used, Code::UnusedExtensionRequired, place)],
@@ -44,7 +44,7 @@ pub fn add_name_repeats(
     for number in 0..names.len() {
         let name = names[number].as_str();
         let is_repeat = before.contains(name);
-        let place = Place::Entry(Object::Document, list, number);
+        let place = Subject::Entry(Object::Document, list, number);
         add_found(to, &[broken(is_repeat, Code::DuplicateElements, place)])?;
         add_name(alloc, &mut before, name)?;
     }

@@ -4,8 +4,8 @@ ghost use Rattle.std.specs.Prelude.{◌≡◌, ◌++◌, codes, length, Option, 
 ghost use Rattle.gltf_findings.specs.ExtensionNames.{is_listed};
 ghost use Rattle.gltf_findings_codes.specs.Found.{found, findings_from};
 ghost use Rattle.gltf_findings.specs.Skeletons.{skeleton_findings};
-ghost use Rattle.gltf_findings_scenes.specs.Nodes.{node_findings};
-ghost use Rattle.gltf_findings_scenes.specs.Placed.{placed_findings as placed_node_findings};
+ghost use Rattle.gltf_findings_rules.specs.Nodes.{node_findings};
+ghost use Rattle.gltf_findings_rules.specs.Placed.{placed_findings as placed_node_findings};
 ghost use Rattle.gltf_findings.specs.Findings.{findings_of, root_rules, stored_findings, shown_findings, staged_findings, placed_findings, marked_findings, document_findings, name_findings, counts_of, lights_of, variant_count};
 
 use crate::extensions::{add_name_repeats, add_required};
@@ -15,16 +15,12 @@ use crate::skeletons::{SkeletonMarks, SkeletonRules, skeleton_marks};
 use crate::uses::add_uses;
 use crate::version::asset_rules;
 use gltf_findings_codes::{
-    Code, Finding, Name, Object, Place, add_all, add_found, broken, is_some_unresolved,
+    Code, Finding, Name, Object, Subject, add_all, add_found, broken, is_some_unresolved,
 };
-use gltf_findings_meshes::MeshRules;
-use gltf_findings_objects::{
-    AccessorRules, BufferRules, CameraRules, ImageRules, LightRules, MaterialRules, SamplerRules,
-    TextureRules, ViewRules,
-};
-use gltf_findings_scenes::{
-    AnimationRules, NodeRules, PlacedRules, SceneRules, SkinRules, child_marks, joint_marks,
-    skinned_marks,
+use gltf_findings_rules::{
+    AccessorRules, AnimationRules, BufferRules, CameraRules, ImageRules, LightRules, MaterialRules,
+    MeshRules, NodeRules, PlacedRules, SamplerRules, SceneRules, SkinRules, TextureRules,
+    ViewRules, child_marks, joint_marks, skinned_marks,
 };
 use gltf_root::root::Root;
 use gltf_scene::extensions::scene::khr_lights_punctual::Light;
@@ -116,17 +112,17 @@ fn add_names(to: &mut Vec<Finding>, used: &[String], required: &[String]) -> Res
 fn root_rules(root: &Root) -> [Option<Finding>; 2]
     ensures { result ≡ root_rules root.now }
 {
-    let at = Object::Document;
+    // derived
     [
         broken(
             is_some_unresolved(root.scene, root.scenes.len()),
             Code::UnresolvedReference,
-            Place::Member(at, Name::Scene),
+            Subject::Member(Object::Document, Name::Scene),
         ),
         broken(
             root.extensions_required.len() != 0 && root.extensions_used.len() == 0,
             Code::UnsatisfiedDependency,
-            Place::Member(at, Name::ExtensionsRequired),
+            Subject::Member(Object::Document, Name::ExtensionsRequired),
         ),
     ]
 }
@@ -296,9 +292,10 @@ fn node_rules_of(root: &Root) -> NodeRules
 fn variant_count(root: &Root) -> usize
     ensures { result ≡ variant_count root.now }
 {
+    // derived
     match &root.extensions {
         Some(extensions) => match &extensions.khr_materials_variants {
-            Some(variants) => variants.variants.len(),
+            Some(khr_materials_variants) => khr_materials_variants.variants.len(),
             None => 0,
         },
         None => 0,
@@ -309,9 +306,10 @@ fn variant_count(root: &Root) -> usize
 fn lights_of(root: &Root) -> &[Light]
     ensures { result.now ≡ lights_of root.now }
 {
+    // derived
     match &root.extensions {
         Some(extensions) => match &extensions.khr_lights_punctual {
-            Some(lights) => &lights.lights,
+            Some(khr_lights_punctual) => &khr_lights_punctual.lights,
             None => &[],
         },
         None => &[],

@@ -3,7 +3,7 @@
 ghost use Rattle.std.specs.Prelude.{◌≡◌, Option, IfOk, map};
 ghost use Rattle.gltf_findings.specs.Hierarchy.{fault_finding, AreFaultsOf, AreNoneOfForest, AreHierarchyRules};
 
-use gltf_findings_codes::{Code, Finding, Name, Object, Place, broken};
+use gltf_findings_codes::{Code, Finding, Name, Object, Subject, broken};
 use gltf_load::{Document, Forest, HierarchyFault};
 use gltf_root::root::Root;
 use std::alloc::{AllocError, Global};
@@ -50,12 +50,12 @@ fn finding_of_fault(fault: &HierarchyFault) -> Option<Finding>
     match fault {
         HierarchyFault::TwoParents { first, second, .. } => {
             let node = Object::Item(Name::Nodes, *second as usize);
-            let place = Place::Member(node, Name::Children);
+            let place = Subject::Member(node, Name::Children);
             broken(*first != *second, Code::NodeParentOverride, place)
         }
         HierarchyFault::Cycle { node } => Some(Finding {
             code: Code::NodeLoop,
-            place: Place::Object(Object::Item(Name::Nodes, *node as usize)),
+            place: Subject::Object(Object::Item(Name::Nodes, *node as usize)),
         }),
         HierarchyFault::NoSuchChild { .. }
         | HierarchyFault::TooManyNodes

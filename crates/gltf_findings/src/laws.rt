@@ -2,7 +2,7 @@
 
 ghost use Rattle.std.specs.Prelude.{◌≡◌, ◌<◌, ◌^◌, ℕ, List, length, true, slice_get, Some};
 ghost use Rattle.gltf_hierarchy.specs.Forest.{IsForest};
-ghost use Rattle.gltf_document.specs.Named.{children_named};
+ghost use Rattle.gltf_load.specs.Named.{children_named};
 ghost use Rattle.gltf_parts.specs.declared.accessor.Accessor.{Accessor};
 ghost use Rattle.gltf_root.specs.declared.root.Root.{Root};
 ghost use Rattle.gltf_findings_codes.specs.declared.finding.Finding.{Finding};

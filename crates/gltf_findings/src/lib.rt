@@ -15,4 +15,4 @@ mod uses;
 mod version;
 
 pub use findings::Findings;
-pub use gltf_findings_codes::{Attribute, Code, Finding, Name, Object, Place, Severity};
+pub use gltf_findings_codes::{Attribute, Code, Finding, Name, Object, Severity, Subject};

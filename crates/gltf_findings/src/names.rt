@@ -3,7 +3,7 @@
 ghost use Rattle.std.specs.Prelude.{◌≡◌, ◌++◌, ◌&&◌, [], codes, false, not, Option, OnOk, string_bytes};
 ghost use Rattle.gltf_findings.specs.ExtensionNames.{is_listed, name_from, is_capital, is_word, all_word, is_word_byte, is_material_extension, is_other_extension, is_supported, are_supported, name_rules, use_rules};
 
-use gltf_findings_codes::{Code, Finding, Name, Object, Place, Rules, add_found, broken};
+use gltf_findings_codes::{Code, Finding, Name, Object, Rules, Subject, add_found, broken};
 use std::alloc::AllocError;
 
 /// Whether names have one of them.
@@ -27,7 +27,7 @@ impl Rules<String> for NameRules {
 
     fn add(&self, number: usize, item: &String, to: &mut Vec<Finding>) -> Result<(), AllocError> {
         let is_name = is_extension_name(item.as_bytes());
-        let place = Place::Entry(Object::Document, Name::ExtensionsUsed, number);
+        let place = Subject::Entry(Object::Document, Name::ExtensionsUsed, number);
         let is_known = is_supported(item.as_str());
         add_found(
             to,
@@ -55,6 +55,7 @@ pub fn are_supported(names: &[String]) -> bool
 fn is_supported(name: &str) -> bool
     ensures { result ≡ is_supported name.now }
 {
+    // derived
     is_material_extension(name) || is_other_extension(name)
 }
 
@@ -62,6 +63,7 @@ fn is_supported(name: &str) -> bool
 fn is_material_extension(name: &str) -> bool
     ensures { result ≡ is_material_extension name.now }
 {
+    // derived
     name == "KHR_materials_emissive_strength"
         || name == "KHR_materials_ior"
         || name == "KHR_materials_pbrSpecularGlossiness"
@@ -76,6 +78,7 @@ fn is_material_extension(name: &str) -> bool
 fn is_other_extension(name: &str) -> bool
     ensures { result ≡ is_other_extension name.now }
 {
+    // derived
     name == "KHR_lights_punctual"
         || name == "KHR_mesh_quantization"
         || name == "KHR_texture_transform"
@@ -85,10 +88,11 @@ fn is_other_extension(name: &str) -> bool
 pub fn use_rules(used: &[String], required: &[String]) -> [Option<Finding>; 1]
     ensures { result ≡ use_rules used.now required.now }
 {
+    // derived
     [broken(
         is_unrequired(used, required),
         Code::NonRequiredExtension,
-        Place::Member(Object::Document, Name::ExtensionsUsed),
+        Subject::Member(Object::Document, Name::ExtensionsUsed),
     )]
 }
 
@@ -131,6 +135,7 @@ fn is_word(text: &[u8]) -> bool
 fn is_capital(byte: u8) -> bool
     ensures { result ≡ is_capital byte }
 {
+    // derived
     (65 <= byte && byte <= 90) || (48 <= byte && byte <= 57)
 }
 
@@ -138,5 +143,6 @@ fn is_capital(byte: u8) -> bool
 fn is_word_byte(byte: u8) -> bool
     ensures { result ≡ is_word_byte byte }
 {
-    is_capital(byte) || (97 <= byte && byte <= 122) || byte == 95
+    // derived
+    is_capital(byte) || (97 <= byte && byte <= 122) || byte == b'_'
 }

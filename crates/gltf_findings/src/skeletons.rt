@@ -2,20 +2,20 @@
 
 ghost use Rattle.std.specs.Prelude.{◌≡◌, ◌&&◌, [], length, map, not, IfOk};
 ghost use Rattle.gltf_base.specs.Indexes.{index_number};
-ghost use Rattle.gltf_document.specs.Named.{children_named};
+ghost use Rattle.gltf_load.specs.Named.{children_named};
 ghost use Rattle.gltf_hierarchy.specs.Forest.{IsOutOfMemory};
 ghost use Rattle.gltf_findings.specs.Skeletons.{AreSkeletonMarks, skeleton_findings};
 ghost use Rattle.gltf_findings.specs.Rooting.{AreMarksBy, are_below, have_one_root, is_headed, are_among, is_whole};
 
 use gltf_base::Index;
 use gltf_findings_codes::{
-    Code, Finding, Name, Object, Place, Rules, add_found, broken, is_marked, is_some_unresolved,
+    Code, Finding, Name, Object, Rules, Subject, add_found, broken, is_marked, is_some_unresolved,
 };
+use gltf_hierarchy::Subtrees;
 use gltf_load::{Document, HierarchyFault};
 use gltf_root::root::Root;
 use gltf_scene::scene::Node;
 use gltf_scene::skin::Skin;
-use gltf_subtrees::Subtrees;
 use std::alloc::{AllocError, Global};
 
 /// For each skin whether it breaks a rule.
@@ -140,6 +140,7 @@ fn have_one_root(subtrees: &Subtrees, joints: &[Index<Node>]) -> bool
 fn is_headed(subtrees: &Subtrees, skeleton: Option<Index<Node>>, joints: &[Index<Node>]) -> bool
     ensures { result ≡ is_headed subtrees.now skeleton (map index_number joints.now) }
 {
+    // derived
     match skeleton {
         Some(skeleton) => are_below(subtrees, skeleton.number(), joints),
         None => true,
@@ -176,12 +177,12 @@ impl Rules<Skin> for SkeletonRules<'_> {
                 broken(
                     is_apart,
                     Code::SkinNoCommonRoot,
-                    Place::Member(at, Name::Joints),
+                    Subject::Member(at, Name::Joints),
                 ),
                 broken(
                     is_astray,
                     Code::SkinSkeletonInvalid,
-                    Place::Member(at, Name::Skeleton),
+                    Subject::Member(at, Name::Skeleton),
                 ),
             ],
         )

@@ -3,12 +3,12 @@
 ghost use Rattle.std.specs.Prelude.{◌≡◌, ◌++◌, length, IfOk, OnOk};
 ghost use Rattle.gltf_findings.specs.Uses.{attribute_marks, index_marks, accessor_marks, view_marks, buffer_marks, texture_marks, image_marks, sampler_marks, material_marks, camera_marks, mesh_marks, default_marks, skin_marks, use_findings, usage_findings, unused_in, stored_use_findings, shown_use_findings, placed_use_findings, views_with, shared_with};
 ghost use Rattle.gltf_findings_codes.specs.Found.{findings_from};
-ghost use Rattle.gltf_findings_uses.specs.Unused.{unused_findings, weight_findings};
-ghost use Rattle.gltf_findings_uses.specs.Usage.{view_usage_findings};
+ghost use Rattle.gltf_findings_rules.specs.Unused.{unused_findings, weight_findings};
+ghost use Rattle.gltf_findings_rules.specs.Usage.{view_usage_findings};
 
 use crate::names::are_supported;
 use gltf_findings_codes::{Finding, Name, add_all};
-use gltf_findings_uses::{
+use gltf_findings_rules::{
     Marking, OfAttributes, OfBuffers, OfCameras, OfDefaultWeights, OfImages, OfIndices,
     OfKeyframes, OfMaterials, OfMatrices, OfMeshes, OfSamplers, OfSkins, OfTargets, OfTextures,
     OfViews, UnusedRules, UsageRules, ViewUsageRules, WeightRules, mark_items, view_uses,

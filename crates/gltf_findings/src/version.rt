@@ -3,7 +3,7 @@
 ghost use Rattle.std.specs.Prelude.{◌≡◌, ◌+◌, ◌*◌, ◌-◌, ◌≤◌, min, length, Option, is_none, string_bytes};
 ghost use Rattle.gltf_findings.specs.Versions.{version_of, digits_of, value_from, point_in, is_digit, asset_rules, is_other_major, is_later_minor, is_greater, numbers_of, least_of};
 
-use gltf_findings_codes::{Code, Finding, Name, Object, Place, broken};
+use gltf_findings_codes::{Code, Finding, Name, Object, Subject, broken};
 use gltf_scene::asset::Asset;
 
 /// The numbers of a version. Those from 2^64 on count as the last before.
@@ -17,9 +17,10 @@ struct Version {
 pub fn asset_rules(asset: &Asset) -> [Option<Finding>; 5]
     ensures { result ≡ asset_rules asset.now }
 {
+    // derived
     let at = Object::Top(Name::Asset);
-    let version_at = Place::Member(at, Name::Version);
-    let least_at = Place::Member(at, Name::MinVersion);
+    let version_at = Subject::Member(at, Name::Version);
+    let min_version_at = Subject::Member(at, Name::MinVersion);
     let version = version_of(asset.version.as_bytes());
     let least = least_of(&asset.min_version);
     [
@@ -27,7 +28,7 @@ pub fn asset_rules(asset: &Asset) -> [Option<Finding>; 5]
         broken(
             asset.min_version.is_some() && is_missing(least),
             Code::PatternMismatch,
-            least_at,
+            min_version_at,
         ),
         broken(
             is_other_major(version),
@@ -42,7 +43,7 @@ pub fn asset_rules(asset: &Asset) -> [Option<Finding>; 5]
         broken(
             is_greater(least, version),
             Code::AssetMinVersionGreaterThanVersion,
-            least_at,
+            min_version_at,
         ),
     ]
 }
@@ -71,6 +72,7 @@ fn is_missing(version: Option<Version>) -> bool
 fn is_other_major(version: Option<Version>) -> bool
     ensures { result ≡ is_other_major (numbers_of version) }
 {
+    // derived
     match version {
         Some(version) => version.major != 2,
         None => false,
@@ -81,6 +83,7 @@ fn is_other_major(version: Option<Version>) -> bool
 fn is_later_minor(version: Option<Version>) -> bool
     ensures { result ≡ is_later_minor (numbers_of version) }
 {
+    // derived
     match version {
         Some(version) => version.major == 2 && 0 < version.minor,
         None => false,
@@ -91,6 +94,7 @@ fn is_later_minor(version: Option<Version>) -> bool
 fn is_greater(least: Option<Version>, version: Option<Version>) -> bool
     ensures { result ≡ is_greater (numbers_of least) (numbers_of version) }
 {
+    // derived
     match (least, version) {
         (Some(least), Some(version)) => {
             version.major < least.major
@@ -149,5 +153,6 @@ fn digits_of(text: &[u8]) -> Option<u64>
 fn is_digit(byte: u8) -> bool
     ensures { result ≡ is_digit byte }
 {
+    // derived
     48 <= byte && byte <= 57
 }

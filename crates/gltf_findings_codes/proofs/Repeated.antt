@@ -10,7 +10,7 @@ use Rattle.std.proofs.lemmas.Bool.{both_ways}
 use Rattle.gltf_findings_codes.specs.declared.code.Code.TheVariants.{DuplicateElements}
 use Rattle.gltf_findings_codes.specs.declared.name.Name.{Name}
 use Rattle.gltf_findings_codes.specs.declared.finding.Object.{Object}
-use Rattle.gltf_findings_codes.specs.declared.finding.Place.TheVariants.{Entry}
+use Rattle.gltf_findings_codes.specs.declared.finding.Subject.TheVariants.{Entry}
 use Rattle.gltf_findings_codes.specs.declared.finding.Finding.{Finding}
 use Rattle.gltf_findings_codes.specs.Found.{broken, found}
 use Rattle.gltf_findings_codes.specs.Repeats.{is_among, repeat_findings, repeat_at, IsRepeat}

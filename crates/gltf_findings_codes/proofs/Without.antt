@@ -3,7 +3,7 @@ use Rattle.std.proofs.Common.{◌≡◌, ℕ, ◌+◌, zero, suc, List, [], ◌�
 use Rattle.std.specs.Prelude.{slice_get}
 use Rattle.std.proofs.lemmas.Bool.{and_parts, and_from}
 use Rattle.gltf_findings_codes.specs.declared.code.Code.{Code}
-use Rattle.gltf_findings_codes.specs.declared.finding.Place.{Place}
+use Rattle.gltf_findings_codes.specs.declared.finding.Subject.{Subject}
 use Rattle.gltf_findings_codes.specs.declared.finding.Finding.{Finding}
 use Rattle.gltf_findings_codes.specs.Found.{broken, found, findings_from, findings_if}
 use Rattle.gltf_findings_codes.specs.Without.{are_without}
@@ -16,12 +16,12 @@ without_append codes (x ∷ xs) ys h =
     (and_from (not (codes x.code)) (are_without codes xs) parts.0 rest.0, rest.1)
 
 -- a rule whose code is one of these is not broken, and the rules behind it give none either
-pub without_rule : (codes : Code → Bool) (b : Bool) (code : Code) (place : Place) (rest : List (Option Finding)) → codes code ≡ true → are_without codes (found (broken b code place ∷ rest)) ≡ true → (b ≡ false) × (are_without codes (found rest) ≡ true)
+pub without_rule : (codes : Code → Bool) (b : Bool) (code : Code) (place : Subject) (rest : List (Option Finding)) → codes code ≡ true → are_without codes (found (broken b code place ∷ rest)) ≡ true → (b ≡ false) × (are_without codes (found rest) ≡ true)
 without_rule codes false code place rest is h = (refl, h)
 without_rule codes true code place rest is h = absurd (let parts = and_parts (not (codes code)) (are_without codes (found rest)) h in let never : not true ≡ true = subst (λ b. not b ≡ true) is parts.0 in cc)
 
 -- the same of a rule with any code
-pub without_more : (codes : Code → Bool) (b : Bool) (code : Code) (place : Place) (rest : List (Option Finding)) → are_without codes (found (broken b code place ∷ rest)) ≡ true → are_without codes (found rest) ≡ true
+pub without_more : (codes : Code → Bool) (b : Bool) (code : Code) (place : Subject) (rest : List (Option Finding)) → are_without codes (found (broken b code place ∷ rest)) ≡ true → are_without codes (found rest) ≡ true
 without_more codes false code place rest h = h
 without_more codes true code place rest h = (and_parts (not (codes code)) (are_without codes (found rest)) h).1
 

@@ -12,8 +12,8 @@ use Rattle.gltf_base.specs.declared.index.IndexTo.{IndexTo}
 use Rattle.gltf_base.specs.Indexes.{index_number}
 use Rattle.gltf_parts.specs.declared.buffer.View.{View}
 use Rattle.gltf_parts.specs.declared.accessor.Accessor.{Accessor}
-use Rattle.gltf_findings_codes.specs.declared.formats.Format.{Format}
-use Rattle.gltf_findings_codes.specs.declared.formats.Format.TheVariants.{Matrices, Times, Indices, Vectors, Rotations, Weights, Tangents, TexCoords, Colors, Joints, JointWeights, QuantizedVectors, QuantizedTangents, QuantizedTexCoords}
+use Rattle.gltf_findings_codes.specs.declared.formats.AllowedFormat.{AllowedFormat}
+use Rattle.gltf_findings_codes.specs.declared.formats.AllowedFormat.TheVariants.{Matrices, Times, Indices, Vectors, Rotations, Weights, Tangents, TexCoords, Colors, Joints, JointWeights, QuantizedVectors, QuantizedTangents, QuantizedTexCoords}
 
 -- the accessor that an index names
 abbrev pub accessor_of : {P : Type 0} → List Accessor → Option (IndexTo P) → Option Accessor
@@ -96,7 +96,7 @@ is_mat4 Mat4 = true
 is_mat4 _ = false
 
 -- elements of a type, with components that may be normalized
-abbrev pub allows : Format → AccessorType → ComponentType → Bool → Bool
+abbrev pub allows : AllowedFormat → AccessorType → ComponentType → Bool → Bool
 -- section 5.28.1
 allows Matrices t c normalized = is_mat4 t && (is_float c && not normalized)
 -- section 5.8.1
@@ -118,19 +118,19 @@ allows QuantizedVectors t c normalized = is_vec3 t && is_quantized c
 allows QuantizedTangents t c normalized = is_vec4 t && is_quantized c
 allows QuantizedTexCoords t c normalized = is_vec2 t && is_quantized c
 
-abbrev pub excludes_types : Format → Checked AccessorType → Checked GenericComponentType → Bool → Bool
+abbrev pub excludes_types : AllowedFormat → Checked AccessorType → Checked GenericComponentType → Bool → Bool
 excludes_types f (Valid t) (Valid c) normalized = not (allows f t c.0 normalized)
 excludes_types f _ _ normalized = false
 
 -- an accessor with valid types has elements that may not be so
-abbrev pub excludes : Format → Accessor → Bool
+abbrev pub excludes : AllowedFormat → Accessor → Bool
 excludes f a = excludes_types f a.type_ a.component_type a.normalized
 
-abbrev pub excludes_some : Format → Option Accessor → Bool
+abbrev pub excludes_some : AllowedFormat → Option Accessor → Bool
 excludes_some f None = false
 excludes_some f (Some a) = excludes f a
 
-abbrev pub excludes_named : {P : Type 0} → Format → List Accessor → Option (IndexTo P) → Bool
+abbrev pub excludes_named : {P : Type 0} → AllowedFormat → List Accessor → Option (IndexTo P) → Bool
 excludes_named f accessors index = excludes_some f (accessor_of accessors index)
 
 abbrev pub has_bounds : Accessor → Bool

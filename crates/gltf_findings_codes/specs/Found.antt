@@ -1,11 +1,11 @@
 -- The findings of rules, and of the items of a list.
 use Rattle.std.specs.Prelude.{ℕ, ◌+◌, List, [], ◌∷◌, ◌++◌, Bool, if◌then◌else◌, Option, Some, None}
 use Rattle.gltf_findings_codes.specs.declared.code.Code.{Code}
-use Rattle.gltf_findings_codes.specs.declared.finding.Place.{Place}
+use Rattle.gltf_findings_codes.specs.declared.finding.Subject.{Subject}
 use Rattle.gltf_findings_codes.specs.declared.finding.Finding.{Finding}
 
 -- the finding of a rule, if the rule is broken
-abbrev pub broken : Bool → Code → Place → Option Finding
+abbrev pub broken : Bool → Code → Subject → Option Finding
 broken b code place = if b then Some (record { code = code; place = place }) else None
 
 -- the findings of the rules that are broken

@@ -4,8 +4,8 @@ use Rattle.gltf_base.specs.Steps.{Step, field, item}
 use Rattle.gltf_findings_codes.specs.declared.name.Name.{Name}
 use Rattle.gltf_findings_codes.specs.declared.finding.Object.{Object}
 use Rattle.gltf_findings_codes.specs.declared.finding.Object.TheVariants.{Document, Top, Item, Part, Inner, Extended, Nested, NestedPart, Mapping, Light, Spot}
-use Rattle.gltf_findings_codes.specs.declared.finding.Place.{Place}
-use Rattle.gltf_findings_codes.specs.declared.finding.Place.TheVariants as place
+use Rattle.gltf_findings_codes.specs.declared.finding.Subject.{Subject}
+use Rattle.gltf_findings_codes.specs.declared.finding.Subject.TheVariants as place
 use Rattle.gltf_base.specs.Keys.{key_text}
 use Rattle.gltf_findings_codes.specs.Attributes.{attribute_key}
 use Rattle.gltf_findings_codes.specs.Names.{name_text}
@@ -30,7 +30,7 @@ object_steps (Mapping n k j) = field (codes "meshes") ∷ item n ∷ field (code
 object_steps (Light n) = light_steps n
 object_steps (Spot n) = light_steps n ++ field (codes "spot") ∷ []
 
-abbrev pub place_steps : Place → List Step
+abbrev pub place_steps : Subject → List Step
 place_steps (place.Object o) = object_steps o
 place_steps (place.Member o name) = object_steps o ++ to name ∷ []
 place_steps (place.Entry o name k) = (object_steps o ++ to name ∷ []) ++ item k ∷ []
@@ -38,7 +38,7 @@ place_steps (place.Attribute o a) = object_steps o ++ field (key_text (attribute
 place_steps (place.EntryAttribute o name k a) = ((object_steps o ++ to name ∷ []) ++ item k ∷ []) ++ field (key_text (attribute_key a)) ∷ []
 
 -- the name of the attribute at a place, if it is one
-abbrev pub place_name : Place → List ℕ
+abbrev pub place_name : Subject → List ℕ
 place_name (place.Attribute o a) = key_text (attribute_key a)
 place_name (place.EntryAttribute o name k a) = key_text (attribute_key a)
 place_name _ = []

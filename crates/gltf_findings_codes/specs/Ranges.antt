@@ -7,7 +7,7 @@ use Rattle.gltf_schema.specs.Floats.{real_float}
 use Rattle.gltf_findings_codes.specs.declared.code.Code.TheVariants.{ValueNotInRange}
 use Rattle.gltf_findings_codes.specs.declared.name.Name.{Name}
 use Rattle.gltf_findings_codes.specs.declared.finding.Object.{Object}
-use Rattle.gltf_findings_codes.specs.declared.finding.Place.TheVariants.{Member, Entry}
+use Rattle.gltf_findings_codes.specs.declared.finding.Subject.TheVariants.{Member, Entry}
 use Rattle.gltf_findings_codes.specs.declared.finding.Finding.{Finding}
 use Rattle.gltf_findings_codes.specs.declared.range.Range.{Range}
 use Rattle.gltf_findings_codes.specs.declared.range.Range.TheVariants.{Factor, Cosine, NotNegative, Positive, RefractionIndex, InnerAngle, OuterAngle}

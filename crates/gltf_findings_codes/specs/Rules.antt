@@ -8,7 +8,7 @@ use Rattle.gltf_base.specs.Indexes.{index_number}
 use Rattle.gltf_findings_codes.specs.declared.code.Code.TheVariants.{UnresolvedReference}
 use Rattle.gltf_findings_codes.specs.declared.name.Name.{Name}
 use Rattle.gltf_findings_codes.specs.declared.finding.Object.{Object}
-use Rattle.gltf_findings_codes.specs.declared.finding.Place.TheVariants.{Entry}
+use Rattle.gltf_findings_codes.specs.declared.finding.Subject.TheVariants.{Entry}
 use Rattle.gltf_findings_codes.specs.declared.finding.Finding.{Finding}
 use Rattle.gltf_findings_codes.specs.Found.{broken, found}
 

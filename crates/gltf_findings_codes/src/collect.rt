@@ -5,13 +5,14 @@ ghost use Rattle.gltf_findings_codes.specs.declared.finding.Finding.{Finding as 
 ghost use Rattle.gltf_findings_codes.specs.Found.{broken, found, findings_from, findings_if};
 
 use crate::code::Code;
-use crate::finding::{Finding, Place};
+use crate::finding::{Finding, Subject};
 use std::alloc::AllocError;
 
 /// The finding of a rule, if the rule is broken.
-pub fn broken(is_broken: bool, code: Code, place: Place) -> Option<Finding>
+pub fn broken(is_broken: bool, code: Code, place: Subject) -> Option<Finding>
     ensures { result ≡ broken is_broken code place }
 {
+    // derived
     if is_broken {
         Some(Finding { code, place })
     } else {

@@ -125,7 +125,7 @@ fn to<'a>(name: Name) -> Step<'a>
 
 /// A place in a document.
 #[derive(Clone, Copy, Debug, PartialEq, Eq)]
-pub enum Place {
+pub enum Subject {
     /// An object.
     Object(Object),
     /// A member of an object, which may be missing.
@@ -139,7 +139,7 @@ pub enum Place {
     EntryAttribute(Object, Name, usize, Attribute),
 }
 
-impl Place {
+impl Subject {
     /// Returns the steps to the place, by the name of its attribute. Fails only if out of memory.
     #[tactic(auto, using(std::proofs::lemmas::List::map_push))]
     fn steps<'a>(&self, alloc: Global, name: &'a str) -> Result<Vec<Step<'a>>, AllocError>
@@ -147,15 +147,15 @@ impl Place {
         ensures { IfOk result (λ steps. map step_of steps.items ≡ place_steps self.now) }
     {
         match self {
-            Place::Object(object) => object.steps(alloc),
-            Place::Member(object, name) => object.member_steps(alloc, *name),
-            Place::Entry(object, name, number) => object.entry_steps(alloc, *name, *number),
-            Place::Attribute(object, _) => {
+            Subject::Object(object) => object.steps(alloc),
+            Subject::Member(object, name) => object.member_steps(alloc, *name),
+            Subject::Entry(object, name, number) => object.entry_steps(alloc, *name, *number),
+            Subject::Attribute(object, _) => {
                 let mut steps = object.steps(alloc)?;
                 steps.push(Step::Field(name))?;
                 Ok(steps)
             }
-            Place::EntryAttribute(object, list, number, _) => {
+            Subject::EntryAttribute(object, list, number, _) => {
                 let mut steps = object.entry_steps(alloc, *list, *number)?;
                 steps.push(Step::Field(name))?;
                 Ok(steps)
@@ -168,7 +168,7 @@ impl Place {
         ensures { IfOk result (λ name. string_bytes name ≡ place_name self.now) }
     {
         match self {
-            Place::Attribute(_, attribute) | Place::EntryAttribute(_, _, _, attribute) => {
+            Subject::Attribute(_, attribute) | Subject::EntryAttribute(_, _, _, attribute) => {
                 attribute.text(alloc)
             }
             _ => Ok(String::new(alloc)),
@@ -202,7 +202,7 @@ impl Object {
     #[tactic(auto, using(std::proofs::lemmas::List::map_push))]
     fn member_steps<'a>(&self, alloc: Global, name: Name) -> Result<Vec<Step<'a>>, AllocError>
         ensures { IfOk result (λ steps. map step_of steps.items
-            ≡ place_steps (Place.Member self.now name)) }
+            ≡ place_steps (Subject.Member self.now name)) }
     {
         let mut steps = self.steps(alloc)?;
         steps.push(to(name))?;
@@ -218,7 +218,7 @@ impl Object {
         number: usize,
     ) -> Result<Vec<Step<'a>>, AllocError>
         ensures { IfOk result (λ steps. map step_of steps.items
-            ≡ place_steps (Place.Entry self.now name number)) }
+            ≡ place_steps (Subject.Entry self.now name number)) }
     {
         let mut steps = self.member_steps(alloc, name)?;
         steps.push(Step::Index(number))?;
@@ -232,5 +232,5 @@ pub struct Finding {
     /// What is wrong.
     pub code: Code,
     /// Where.
-    pub place: Place,
+    pub place: Subject,
 }

@@ -13,6 +13,7 @@ use gltf_parts::buffer::View;
 pub fn accessor_of(accessors: &[Accessor], index: Option<Index<Accessor>>) -> Option<&Accessor>
     ensures { option_copied result ≡ accessor_of accessors.now index }
 {
+    // derived
     match index {
         Some(index) => accessors.get(index.value()),
         None => None,
@@ -23,6 +24,7 @@ pub fn accessor_of(accessors: &[Accessor], index: Option<Index<Accessor>>) -> Op
 pub fn is_strided(views: &[View], view: Option<Index<View>>) -> bool
     ensures { result ≡ is_strided views.now view }
 {
+    // derived
     match view {
         Some(view) => match views.get(view.value()) {
             Some(view) => view.byte_stride.is_some(),
@@ -40,6 +42,7 @@ pub fn is_accessor_strided(
 ) -> bool
     ensures { result ≡ is_accessor_strided views.now accessors.now index }
 {
+    // derived
     match accessor_of(accessors, index) {
         Some(accessor) => is_strided(views, accessor.buffer_view),
         None => false,
@@ -48,7 +51,7 @@ pub fn is_accessor_strided(
 
 /// What the elements of an accessor may be.
 #[derive(Clone, Copy)]
-pub enum Format {
+pub enum AllowedFormat {
     /// Matrices of floats: inverse bind matrices.
     Matrices,
     /// Floats: the times of an animation.
@@ -79,27 +82,35 @@ pub enum Format {
     QuantizedTexCoords,
 }
 
-impl Format {
+impl AllowedFormat {
     /// Whether elements may be so.
     pub fn allows(&self, type_: AccessorType, component: ComponentType, normalized: bool) -> bool
         ensures { result ≡ allows self.now type_ component normalized }
     {
-        let is_plain_float = is_float(component) && !normalized;
+        // derived
         match self {
-            Format::Matrices => is_mat4(type_) && is_plain_float,
-            Format::Times => is_scalar(type_) && is_plain_float,
-            Format::Indices => is_scalar(type_) && is_index(component) && !normalized,
-            Format::Vectors => is_vec3(type_) && is_plain_float,
-            Format::Rotations => is_vec4(type_) && is_float_or_normalized(component, normalized),
-            Format::Weights => is_scalar(type_) && is_float_or_normalized(component, normalized),
-            Format::Tangents => is_vec4(type_) && is_plain_float,
-            Format::TexCoords => is_vec2(type_) && is_float_or_unsigned(component, normalized),
-            Format::Colors => is_color(type_) && is_float_or_unsigned(component, normalized),
-            Format::Joints => is_vec4(type_) && is_joint(component) && !normalized,
-            Format::JointWeights => is_vec4(type_) && is_float_or_unsigned(component, normalized),
-            Format::QuantizedVectors => is_vec3(type_) && is_quantized(component),
-            Format::QuantizedTangents => is_vec4(type_) && is_quantized(component),
-            Format::QuantizedTexCoords => is_vec2(type_) && is_quantized(component),
+            AllowedFormat::Matrices => is_mat4(type_) && is_float(component) && !normalized,
+            AllowedFormat::Times => is_scalar(type_) && is_float(component) && !normalized,
+            AllowedFormat::Indices => is_scalar(type_) && is_index(component) && !normalized,
+            AllowedFormat::Vectors => is_vec3(type_) && is_float(component) && !normalized,
+            AllowedFormat::Rotations => {
+                is_vec4(type_) && is_float_or_normalized(component, normalized)
+            }
+            AllowedFormat::Weights => {
+                is_scalar(type_) && is_float_or_normalized(component, normalized)
+            }
+            AllowedFormat::Tangents => is_vec4(type_) && is_float(component) && !normalized,
+            AllowedFormat::TexCoords => {
+                is_vec2(type_) && is_float_or_unsigned(component, normalized)
+            }
+            AllowedFormat::Colors => is_color(type_) && is_float_or_unsigned(component, normalized),
+            AllowedFormat::Joints => is_vec4(type_) && is_joint(component) && !normalized,
+            AllowedFormat::JointWeights => {
+                is_vec4(type_) && is_float_or_unsigned(component, normalized)
+            }
+            AllowedFormat::QuantizedVectors => is_vec3(type_) && is_quantized(component),
+            AllowedFormat::QuantizedTangents => is_vec4(type_) && is_quantized(component),
+            AllowedFormat::QuantizedTexCoords => is_vec2(type_) && is_quantized(component),
         }
     }
 
@@ -107,9 +118,10 @@ impl Format {
     pub fn excludes(&self, accessor: &Accessor) -> bool
         ensures { result ≡ excludes self.now accessor.now }
     {
+        // derived
         match (accessor.type_, accessor.component_type) {
-            (Checked::Valid(type_), Checked::Valid(component)) => {
-                !self.allows(type_, component.0, accessor.normalized)
+            (Checked::Valid(type_), Checked::Valid(component_type)) => {
+                !self.allows(type_, component_type.0, accessor.normalized)
             }
             _ => false,
         }
@@ -119,6 +131,7 @@ impl Format {
     pub fn excludes_named(&self, accessors: &[Accessor], index: Option<Index<Accessor>>) -> bool
         ensures { result ≡ excludes_named self.now accessors.now index }
     {
+        // derived
         match accessor_of(accessors, index) {
             Some(accessor) => self.excludes(accessor),
             None => false,
@@ -130,6 +143,7 @@ impl Format {
 fn is_scalar(type_: AccessorType) -> bool
     ensures { result ≡ is_scalar type_ }
 {
+    // derived
     match type_ {
         AccessorType::Scalar => true,
         _ => false,
@@ -140,6 +154,7 @@ fn is_scalar(type_: AccessorType) -> bool
 fn is_vec2(type_: AccessorType) -> bool
     ensures { result ≡ is_vec2 type_ }
 {
+    // derived
     match type_ {
         AccessorType::Vec2 => true,
         _ => false,
@@ -150,6 +165,7 @@ fn is_vec2(type_: AccessorType) -> bool
 fn is_color(type_: AccessorType) -> bool
     ensures { result ≡ is_color type_ }
 {
+    // derived
     match type_ {
         AccessorType::Vec3 | AccessorType::Vec4 => true,
         _ => false,
@@ -160,6 +176,7 @@ fn is_color(type_: AccessorType) -> bool
 fn is_vec3(type_: AccessorType) -> bool
     ensures { result ≡ is_vec3 type_ }
 {
+    // derived
     match type_ {
         AccessorType::Vec3 => true,
         _ => false,
@@ -170,6 +187,7 @@ fn is_vec3(type_: AccessorType) -> bool
 fn is_vec4(type_: AccessorType) -> bool
     ensures { result ≡ is_vec4 type_ }
 {
+    // derived
     match type_ {
         AccessorType::Vec4 => true,
         _ => false,
@@ -180,6 +198,7 @@ fn is_vec4(type_: AccessorType) -> bool
 fn is_mat4(type_: AccessorType) -> bool
     ensures { result ≡ is_mat4 type_ }
 {
+    // derived
     match type_ {
         AccessorType::Mat4 => true,
         _ => false,
@@ -190,6 +209,7 @@ fn is_mat4(type_: AccessorType) -> bool
 fn is_float(component: ComponentType) -> bool
     ensures { result ≡ is_float component }
 {
+    // derived
     match component {
         ComponentType::F32 => true,
         _ => false,
@@ -200,6 +220,7 @@ fn is_float(component: ComponentType) -> bool
 fn is_index(component: ComponentType) -> bool
     ensures { result ≡ is_index component }
 {
+    // derived
     match component {
         ComponentType::U8 | ComponentType::U16 | ComponentType::U32 => true,
         _ => false,
@@ -210,6 +231,7 @@ fn is_index(component: ComponentType) -> bool
 fn is_float_or_normalized(component: ComponentType, normalized: bool) -> bool
     ensures { result ≡ is_float_or_normalized component normalized }
 {
+    // derived
     match component {
         ComponentType::F32 => !normalized,
         ComponentType::U32 => false,
@@ -221,6 +243,7 @@ fn is_float_or_normalized(component: ComponentType, normalized: bool) -> bool
 fn is_float_or_unsigned(component: ComponentType, normalized: bool) -> bool
     ensures { result ≡ is_float_or_unsigned component normalized }
 {
+    // derived
     match component {
         ComponentType::F32 => !normalized,
         ComponentType::U8 | ComponentType::U16 => normalized,
@@ -232,6 +255,7 @@ fn is_float_or_unsigned(component: ComponentType, normalized: bool) -> bool
 fn is_joint(component: ComponentType) -> bool
     ensures { result ≡ is_joint component }
 {
+    // derived
     match component {
         ComponentType::U8 | ComponentType::U16 => true,
         _ => false,
@@ -242,6 +266,7 @@ fn is_joint(component: ComponentType) -> bool
 fn is_quantized(component: ComponentType) -> bool
     ensures { result ≡ is_quantized component }
 {
+    // derived
     match component {
         ComponentType::U32 => false,
         _ => true,
@@ -252,6 +277,7 @@ fn is_quantized(component: ComponentType) -> bool
 pub fn has_bounds(accessor: &Accessor) -> bool
     ensures { result ≡ has_bounds accessor.now }
 {
+    // derived
     accessor.min.is_some() && accessor.max.is_some()
 }
 
@@ -259,6 +285,7 @@ pub fn has_bounds(accessor: &Accessor) -> bool
 pub fn offset_number(offset: Option<USize64>) -> u64
     ensures { result ≡ offset_number offset }
 {
+    // derived
     match offset {
         Some(offset) => offset.0,
         None => 0,

@@ -16,9 +16,9 @@ mod rules;
 pub use attribute::Attribute;
 pub use code::{Code, Severity};
 pub use collect::{Rules, add_all, add_found, add_some, broken};
-pub use finding::{Finding, Object, Place};
+pub use finding::{Finding, Object, Subject};
 pub use formats::{
-    Format, accessor_of, has_bounds, is_accessor_strided, is_strided, offset_number,
+    AllowedFormat, accessor_of, has_bounds, is_accessor_strided, is_strided, offset_number,
 };
 pub use marks::{is_marked, mark, mark_all, mark_some};
 pub use name::Name;

@@ -38,8 +38,9 @@ pub fn mark_all<P>(marks: &mut Vec<bool>, indexes: &[IndexTo<P>])
 pub fn is_marked(marks: &[bool], number: usize) -> bool
     ensures { result ≡ is_marked marks.now number }
 {
+    // derived
     match marks.get(number) {
-        Some(is_marked) => *is_marked,
+        Some(mark) => *mark,
         None => false,
     }
 }

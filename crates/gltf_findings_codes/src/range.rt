@@ -6,7 +6,7 @@ ghost use Rattle.gltf_findings_codes.specs.Ranges.{is_within, is_out, is_some_ou
 
 use crate::code::Code;
 use crate::collect::{Rules, add_all, add_found, broken};
-use crate::finding::{Finding, Object, Place};
+use crate::finding::{Finding, Object, Subject};
 use crate::name::Name;
 use gltf_base::Real;
 use std::alloc::AllocError;
@@ -71,7 +71,7 @@ impl Range {
         broken(
             self.excludes_some(number),
             Code::ValueNotInRange,
-            Place::Member(object, name),
+            Subject::Member(object, name),
         )
     }
 }
@@ -92,7 +92,7 @@ impl Rules<Real> for Numbers {
 
     fn add(&self, number: usize, item: &Real, to: &mut Vec<Finding>) -> Result<(), AllocError> {
         let is_out = self.range.excludes(item);
-        let place = Place::Entry(self.object, self.name, number);
+        let place = Subject::Entry(self.object, self.name, number);
         add_found(to, &[broken(is_out, Code::ValueNotInRange, place)])
     }
 }

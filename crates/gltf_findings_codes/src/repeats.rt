@@ -6,7 +6,7 @@ ghost use Rattle.gltf_findings_codes.specs.Repeats.{repeat_findings};
 
 use crate::code::Code;
 use crate::collect::{add_found, broken};
-use crate::finding::{Finding, Object, Place};
+use crate::finding::{Finding, Object, Subject};
 use crate::name::Name;
 use gltf_base::IndexTo;
 use std::alloc::AllocError;
@@ -26,7 +26,7 @@ pub fn add_repeats<P>(
     let mut before = BTreeSet::new(*to.allocator());
     for number in 0..indexes.len() {
         let is_new = before.insert(indexes[number].number())?;
-        let place = Place::Entry(object, name, number);
+        let place = Subject::Entry(object, name, number);
         add_found(to, &[broken(!is_new, Code::DuplicateElements, place)])?;
     }
     Ok(())

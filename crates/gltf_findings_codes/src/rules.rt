@@ -5,7 +5,7 @@ ghost use Rattle.gltf_findings_codes.specs.Rules.{is_invalid, is_some_invalid, i
 
 use crate::code::Code;
 use crate::collect::{Rules, add_found, broken};
-use crate::finding::{Finding, Object, Place};
+use crate::finding::{Finding, Object, Subject};
 use crate::name::Name;
 use gltf_base::IndexTo;
 use gltf_base::validation::Checked;
@@ -15,6 +15,7 @@ use std::alloc::AllocError;
 pub fn is_invalid<T>(value: &Checked<T>) -> bool
     ensures { result ≡ is_invalid value.now }
 {
+    // derived
     match value {
         Checked::Valid(_) => false,
         Checked::Invalid => true,
@@ -25,6 +26,7 @@ pub fn is_invalid<T>(value: &Checked<T>) -> bool
 pub fn is_some_invalid<T>(value: &Option<Checked<T>>) -> bool
     ensures { result ≡ is_some_invalid value.now }
 {
+    // derived
     match value {
         Some(value) => is_invalid(value),
         None => false,
@@ -35,6 +37,7 @@ pub fn is_some_invalid<T>(value: &Option<Checked<T>>) -> bool
 pub fn is_unresolved<P>(index: IndexTo<P>, count: usize) -> bool
     ensures { result ≡ is_unresolved count index }
 {
+    // derived
     count <= index.number() as usize
 }
 
@@ -42,6 +45,7 @@ pub fn is_unresolved<P>(index: IndexTo<P>, count: usize) -> bool
 pub fn is_some_unresolved<P>(index: Option<IndexTo<P>>, count: usize) -> bool
     ensures { result ≡ is_some_unresolved count index }
 {
+    // derived
     match index {
         Some(index) => is_unresolved(index, count),
         None => false,
@@ -52,6 +56,7 @@ pub fn is_some_unresolved<P>(index: Option<IndexTo<P>>, count: usize) -> bool
 pub fn is_empty_list<T>(list: &Option<Vec<T>>) -> bool
     ensures { result ≡ is_empty_list list.now }
 {
+    // derived
     match list {
         Some(list) => list.len() == 0,
         None => false,
@@ -79,7 +84,7 @@ impl<P> Rules<IndexTo<P>> for References {
         to: &mut Vec<Finding>,
     ) -> Result<(), AllocError> {
         let is_unresolved = is_unresolved(*item, self.count);
-        let place = Place::Entry(self.object, self.name, number);
+        let place = Subject::Entry(self.object, self.name, number);
         add_found(
             to,
             &[broken(is_unresolved, Code::UnresolvedReference, place)],

@@ -5,20 +5,20 @@ use Rattle.gltf_root.specs.Root.{root_kind, root_tree}
 use Rattle.gltf_root.specs.declared.root.Root.{Root}
 use Rattle.gltf_schema.specs.Outline.{IsShapeOf}
 use Rattle.gltf_schema.specs.declared.outline.Outline.{Outline}
-use Rattle.gltf_lint_lines.specs.declared.format.Format.TheVariants.{Json}
+use Rattle.gltf_report_lines.specs.declared.format.LineFormat.TheVariants.{Json}
 use Rattle.gltf_findings_codes.specs.declared.finding.Finding.{Finding}
-use Rattle.gltf_findings_glb.specs.declared.finding.GlbFinding.{GlbFinding}
+use Rattle.gltf_findings_files.specs.declared.finding.GlbFinding.{GlbFinding}
 use Rattle.gltf_findings_members.specs.Noted.{Noted, noted}
 use Rattle.gltf_findings_lines.specs.Checked.{AreDocumentFindings, AreMembers, IsFound, IsFoundBy, IsFoundIn, IsJsonOf, IsPrinted}
 use Rattle.gltf_findings_lines.specs.Parts.{FileParts, container_findings, file_parts}
 use Rattle.gltf_findings_lines.specs.Sources.{all_located}
-use Rattle.gltf_findings_lines.specs.declared.check.Found.{Found}
+use Rattle.gltf_findings_lines.specs.declared.check.FileFindings.{FileFindings}
 use Rattle.gltf_findings_lines.specs.declared.file.File.{File}
 use Rattle.gltf_findings_lines.specs.declared.options.FindingOptions.{FindingOptions}
 use Rattle.gltf_findings_lines.specs.declared.options.Style.TheVariants.{Lines}
 use Rattle.gltf_findings_lines.specs.declared.sources.Sources.{Sources}
 
-module _ {o : FindingOptions} {file : File} {s : Sources} {parts : FileParts} {found : Found} where
+module _ {o : FindingOptions} {file : File} {s : Sources} {parts : FileParts} {found : FileFindings} where
   -- by a document
   pub document_found : (r : Root) (all : List Finding) → answer parts.0 ≡ document (root_tree r) → AreDocumentFindings r parts.1 all
       → IsPrinted o file (all_located s.container.now (map noted s.members.now) all) (Some r) None found → IsFoundIn o file s parts found
@@ -41,7 +41,7 @@ module _ {o : FindingOptions} {file : File} {s : Sources} {parts : FileParts} {f
       })
 
 -- by choices that let all pass
-pub json_found : (outline : Outline) (o : FindingOptions) {file : File} {found : Found} → IsFound outline o file found → IsShapeOf outline.nodes.items outline.root root_kind
+pub json_found : (outline : Outline) (o : FindingOptions) {file : File} {found : FileFindings} → IsFound outline o file found → IsShapeOf outline.nodes.items outline.root root_kind
     → o.style ≡ Lines Json → o.positions_up_to ≡ 2 ^ 64 - 1 → o.most ≡ 2 ^ 64 - 1 → o.choices.severities.now ≡ [] → o.choices.ignored.now ≡ [] → IsJsonOf file found
 json_found outline o h shape style positions most severities ignored = record {
   outline = outline;

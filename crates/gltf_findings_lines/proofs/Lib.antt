@@ -8,3 +8,9 @@ pub mod Listed
 pub mod NoFloats
 pub mod Placing
 pub mod Unsaid
+pub mod Counted
+pub mod Leading
+pub mod Lexing
+pub mod Nodes
+pub mod Punctuated
+pub mod Walking

@@ -5,7 +5,7 @@ use Rattle.serde_json.specs.View.{items_of}
 use Rattle.serde_json.specs.Written.{has_float, items_have_float}
 use Rattle.gltf_findings_lines.specs.declared.file.File.{File}
 use Rattle.gltf_findings_lines.specs.declared.choices.Shown.{Shown}
-use Rattle.gltf_findings_lines.specs.declared.info.Info.{Info}
+use Rattle.gltf_findings_lines.specs.declared.info.Contents.{Contents}
 use Rattle.gltf_findings_lines.specs.declared.placed.Placed.{Placed}
 use Rattle.gltf_findings_lines.specs.FindingLines.{finding_data, number_data}
 use Rattle.gltf_findings_lines.specs.Info.{names_data, text_data, info_data}
@@ -46,11 +46,11 @@ text (Some x) = refl
 issues : (most : ℕ) (xs : List Shown) → has_float (issues_data most xs) ≡ false
 issues most xs = simp messages
 
-info : (i : Info) → has_float (info_data i) ≡ false
+info : (i : Contents) → has_float (info_data i) ≡ false
 unfolding info_data
 info i = simp (names, text)
 
-pub khronos_without_float : (file : File) (i : Info) (most : ℕ) (xs : List Shown) → has_float (khronos_data file i most xs) ≡ false
+pub khronos_without_float : (file : File) (i : Contents) (most : ℕ) (xs : List Shown) → has_float (khronos_data file i most xs) ≡ false
 unfolding khronos_data
 khronos_without_float file i most xs = rw (info i, issues most xs) refl
 

@@ -3,9 +3,9 @@ use Rattle.std.proofs.Common.{◌≡◌, ℕ, ◌+◌, ◌<◌, List, [], ◌∷
 use Rattle.std.specs.declared.alloc.Global.{Global}
 use Rattle.std.specs.List.{AllZip}
 use Rattle.std.proofs.lemmas.List.{take_more}
-use Rattle.gltf_positions.proofs.Leading.{zip_push}
-use Rattle.gltf_positions.specs.Found.{IsPositionOf}
-use Rattle.gltf_positions.specs.declared.position.Position.{Position}
+use Rattle.gltf_findings_lines.proofs.Leading.{zip_push}
+use Rattle.gltf_findings_lines.specs.Found.{IsPositionOf}
+use Rattle.gltf_findings_lines.specs.declared.position.Position.{Position}
 use Rattle.gltf_findings_lines.specs.Located.{Where, byte, place, pointer_of, where_of}
 use Rattle.gltf_findings_lines.specs.Placed.{HasNone, HasNoPositions, HasPosition, IsPositionAt, placed_all, placed_by, pointer_in}
 use Rattle.gltf_findings_lines.specs.declared.choices.Shown.{Shown}

@@ -2,11 +2,11 @@
 use Rattle.std.specs.Prelude.{◌≡◌, ◌-◌, ◌^◌, ℕ, List, [], ◌++◌, map, IsUtf8, ◌==◌, if◌then◌else◌, Option, Some, None, Result, Ok, Err, string_bytes}
 use Rattle.serde_json.specs.Read.{read as read_json}
 use Rattle.serde_json.specs.Written.{compact_text}
-use Rattle.gltf_lint_lines.specs.Lines.{line}
-use Rattle.gltf_glb.specs.declared.error.Error.{Error}
+use Rattle.gltf_report_lines.specs.Lines.{line}
+use Rattle.gltf_buffers.specs.declared.error.GlbError.{GlbError}
 use Rattle.gltf_schema.specs.declared.outline.Outline.{Outline}
 use Rattle.gltf_schema.specs.Outline.{IsShapeOf}
-use Rattle.gltf_lint_lines.specs.declared.format.Format.TheVariants.{Json}
+use Rattle.gltf_report_lines.specs.declared.format.LineFormat.TheVariants.{Json}
 use Rattle.gltf_root.specs.Answer.{Answer, no_json, no_document, document, answer}
 use Rattle.gltf_root.specs.Root.{root_kind, root_tree}
 use Rattle.gltf_root.specs.declared.root.Root.{Root}
@@ -14,8 +14,8 @@ use Rattle.gltf_findings_codes.specs.declared.finding.Finding.{Finding}
 use Rattle.gltf_findings_codes.specs.Found.{findings_from}
 use Rattle.gltf_findings.specs.Findings.{AreFindings}
 use Rattle.gltf_findings_members.specs.Noted.{Noted, noted}
-use Rattle.gltf_findings_uris.specs.declared.container.Container.{Container}
-use Rattle.gltf_findings_uris.specs.Objects.{buffer_findings, image_findings}
+use Rattle.gltf_findings_files.specs.declared.container.Container.{Container}
+use Rattle.gltf_findings_files.specs.Objects.{buffer_findings, image_findings}
 use Rattle.gltf_findings_lines.specs.Chosen.{chosen}
 use Rattle.gltf_findings_lines.specs.Counted.{counts_of}
 use Rattle.gltf_findings_lines.specs.FindingLines.{AreLinesOf}
@@ -25,13 +25,13 @@ use Rattle.gltf_findings_lines.specs.Located.{Located, located}
 use Rattle.gltf_findings_lines.specs.Members.{value_members}
 use Rattle.gltf_findings_lines.specs.Parts.{FileParts, container_findings, file_parts}
 use Rattle.gltf_findings_lines.specs.Sources.{all_located}
-use Rattle.gltf_findings_lines.specs.declared.check.Found.{Found}
+use Rattle.gltf_findings_lines.specs.declared.check.FileFindings.{FileFindings}
 use Rattle.gltf_findings_lines.specs.declared.check.Unread.{Unread}
 use Rattle.gltf_findings_lines.specs.declared.check.Unread.TheVariants.{Container as NoContainer, NoJson, NoDocument}
 use Rattle.gltf_findings_lines.specs.declared.file.File.{File}
 use Rattle.gltf_findings_lines.specs.declared.finding.FileFinding.{FileFinding}
 use Rattle.gltf_findings_lines.specs.declared.choices.Shown.{Shown}
-use Rattle.gltf_findings_lines.specs.declared.info.Info.{Info}
+use Rattle.gltf_findings_lines.specs.declared.info.Contents.{Contents}
 use Rattle.gltf_findings_lines.specs.declared.options.FindingOptions.{FindingOptions}
 use Rattle.gltf_findings_lines.specs.declared.options.Style.{Style}
 use Rattle.gltf_findings_lines.specs.declared.options.Style.TheVariants.{Lines, Khronos}
@@ -39,7 +39,7 @@ use Rattle.gltf_findings_lines.specs.declared.sources.Sources.{Sources}
 
 -- the validator's report of a file that holds a document
 pub record IsReportOf (file : File) (r : Root) (most : ℕ) (xs : List Shown) (text : List ℕ) : Type 0 where
-  pub info : Info
+  pub info : Contents
   pub is_info : IsInfo r info
   pub each : text ≡ line (compact_text (khronos_data file info most xs))
 
@@ -53,7 +53,7 @@ abbrev pub IsPrintedFor : FindingOptions → File → Option Root → List Shown
 IsPrintedFor o file root xs text = IsPrintedAs o.style o file root xs text
 
 -- why a file is refused: it holds no document, and no finding of severity error says so
-abbrev pub refusal_of : Found → Option Unread
+abbrev pub refusal_of : FileFindings → Option Unread
 refusal_of f = if f.counts.errors == 0 then f.unread else None
 
 -- what is wrong with a document: by itself, and by the URIs of its buffers and images
@@ -63,7 +63,7 @@ pub record AreDocumentFindings (r : Root) (c : Container) (all : List Finding) :
   pub each : all ≡ own ++ findings_from (buffer_findings c) 0 r.buffers.items ++ findings_from (image_findings c) 0 r.images.items
 
 -- what is printed and counted for findings, by the choices of the caller
-pub record IsPrinted (o : FindingOptions) (file : File) (all : List Located) (root : Option Root) (unread : Option Unread) (found : Found) : Type 0 where
+pub record IsPrinted (o : FindingOptions) (file : File) (all : List Located) (root : Option Root) (unread : Option Unread) (found : FileFindings) : Type 0 where
   pub findings : List FileFinding
   pub are_at : map located findings ≡ all
   pub lines : IsPrintedFor o file root (chosen o.choices findings) (string_bytes found.lines)
@@ -78,7 +78,7 @@ IsDocument due c None all (Some NoDocument) = (due ≡ no_document) × (all ≡ 
 IsDocument due c _ all _ = ⊥
 
 -- what is printed and counted for a file by its JSON
-pub record IsFoundIn (o : FindingOptions) (file : File) (s : Sources) (parts : FileParts) (found : Found) : Type 0 where
+pub record IsFoundIn (o : FindingOptions) (file : File) (s : Sources) (parts : FileParts) (found : FileFindings) : Type 0 where
   pub root : Option Root
   pub findings : List Finding
   pub unread : Option Unread
@@ -91,7 +91,7 @@ pub record AreMembers (o : Outline) (bytes : List ℕ) (members : List Noted) : 
   pub no_text : ¬ (IsUtf8 bytes) → members ≡ []
 
 -- what is printed and counted for a file whose container was read, or not
-pub record IsFoundOf (outline : Outline) (o : FindingOptions) (file : File) (parts : FileParts) (found : Found) : Type 0 where
+pub record IsFoundOf (outline : Outline) (o : FindingOptions) (file : File) (parts : FileParts) (found : FileFindings) : Type 0 where
   pub members : List Noted
   pub are_members : AreMembers outline parts.0 members
   pub root : Option Root
@@ -100,16 +100,16 @@ pub record IsFoundOf (outline : Outline) (o : FindingOptions) (file : File) (par
   pub is_document : IsDocument (answer parts.0) parts.1 root findings unread
   pub printed : IsPrinted o file (all_located (container_findings file) members findings) root unread found
 
-abbrev pub IsFoundBy : Outline → FindingOptions → File → Result FileParts Error → Found → Type 0
+abbrev pub IsFoundBy : Outline → FindingOptions → File → Result FileParts GlbError → FileFindings → Type 0
 IsFoundBy outline o file (Ok parts) found = IsFoundOf outline o file parts found
 IsFoundBy outline o file (Err e) found = IsPrinted o file (all_located (container_findings file) [] []) None (Some (NoContainer e)) found
 
 -- what is printed and counted for a file
-abbrev pub IsFound : Outline → FindingOptions → File → Found → Type 0
+abbrev pub IsFound : Outline → FindingOptions → File → FileFindings → Type 0
 IsFound outline o file found = IsFoundBy outline o file (file_parts file) found
 
 -- all findings of a file are printed as lines of JSON, by the validator's severities
-pub record IsJsonOf (file : File) (found : Found) : Type 0 where
+pub record IsJsonOf (file : File) (found : FileFindings) : Type 0 where
   pub outline : Outline
   pub is_outline : IsShapeOf outline.nodes.items outline.root root_kind
   pub options : FindingOptions

@@ -1,6 +1,6 @@
 -- How many findings of each severity there are. A count stops at the largest number of 64 bits.
 use Rattle.std.specs.Prelude.{ℕ, ◌+◌, List, [], ◌∷◌}
-use Rattle.gltf_io.specs.Device.{saturated}
+use Rattle.gltf_base.specs.Device.{saturated}
 use Rattle.gltf_findings_codes.specs.declared.code.Severity.{Severity}
 use Rattle.gltf_findings_codes.specs.declared.code.Severity.TheVariants.{Error, Warning, Information, Hint}
 use Rattle.gltf_findings_lines.specs.declared.choices.Shown.{Shown}

@@ -7,11 +7,11 @@ use Rattle.gltf_findings_codes.specs.Codes.{code_message, code_name, code_sectio
 use Rattle.gltf_findings_codes.specs.declared.code.Code.{Code}
 use Rattle.gltf_findings_codes.specs.declared.code.Severity.{Severity}
 use Rattle.gltf_findings_lines.specs.Located.{offset_data, pointer_data, where_of, where_text}
-use Rattle.gltf_lint_lines.specs.Escaped.{escaped}
-use Rattle.gltf_lint_lines.specs.Lines.{line, end_line}
-use Rattle.gltf_positions.specs.declared.position.Position.{Position}
-use Rattle.gltf_lint_lines.specs.declared.format.Format.{Format}
-use Rattle.gltf_lint_lines.specs.declared.format.Format.TheVariants.{Text, Json}
+use Rattle.gltf_report_lines.specs.Escaped.{escaped}
+use Rattle.gltf_report_lines.specs.Lines.{line, end_line}
+use Rattle.gltf_findings_lines.specs.declared.position.Position.{Position}
+use Rattle.gltf_report_lines.specs.declared.format.LineFormat.{LineFormat}
+use Rattle.gltf_report_lines.specs.declared.format.LineFormat.TheVariants.{Text, Json}
 use Rattle.gltf_findings_lines.specs.Parts.{file_parts}
 use Rattle.gltf_findings_lines.specs.Placed.{ArePlaced, file_json}
 use Rattle.gltf_findings_lines.specs.declared.choices.Shown.{Shown}
@@ -63,17 +63,17 @@ message_text c = line (code_message c ++ codes " [" ++ code_name c ++ codes "]")
 abbrev pub finding_text : List ℕ → Placed → List ℕ
 finding_text file x = place_text file x ++ message_text x.shown.finding.code
 
-abbrev pub finding_line : Format → List ℕ → Placed → List ℕ
+abbrev pub finding_line : LineFormat → List ℕ → Placed → List ℕ
 finding_line Text file x = finding_text file x
 finding_line Json file x = line (compact_text (finding_data file x))
 
 -- the lines of findings, in order
-abbrev pub placed_lines : Format → List ℕ → List Placed → List ℕ
+abbrev pub placed_lines : LineFormat → List ℕ → List Placed → List ℕ
 placed_lines format file [] = []
 placed_lines format file (x ∷ xs) = finding_line format file x ++ placed_lines format file xs
 
 -- the lines of the first findings of a file, up to the most, and then how many more there are
-pub record AreLinesOf (format : Format) (o : FindingOptions) (file : File) (xs : List Shown) (text : List ℕ) : Type 0 where
+pub record AreLinesOf (format : LineFormat) (o : FindingOptions) (file : File) (xs : List Shown) (text : List ℕ) : Type 0 where
   pub placed : List Placed
   pub are_placed : ArePlaced o.positions_up_to (file_json (file_parts file)) (take o.most xs) placed
   pub each : text ≡ placed_lines format file.name.now placed ++ end_line format file.name.now o.most (length xs)

@@ -7,7 +7,7 @@ use Rattle.gltf_base.specs.declared.mesh.Mode.{Mode}
 use Rattle.gltf_base.specs.declared.mesh.Mode.TheVariants.{Triangles, TriangleStrip, TriangleFan}
 use Rattle.gltf_base.specs.declared.validation.Checked.{Checked}
 use Rattle.gltf_base.specs.declared.validation.Checked.TheVariants.{Valid}
-use Rattle.gltf_io.specs.Device.{saturated}
+use Rattle.gltf_base.specs.Device.{saturated}
 use Rattle.gltf_schema.specs.Fields.{entry_of}
 use Rattle.gltf_parts.specs.declared.accessor.Accessor.{Accessor}
 use Rattle.gltf_scene.specs.declared.mesh.Mesh.{Mesh}

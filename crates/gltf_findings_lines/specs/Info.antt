@@ -6,10 +6,10 @@ use Rattle.serde_json.specs.View.{items_of}
 use Rattle.gltf_root.specs.declared.root.Root.{Root}
 use Rattle.gltf_findings_lines.specs.Geometry.{geometry_of}
 use Rattle.gltf_findings_lines.specs.declared.geometry.Geometry.{Geometry}
-use Rattle.gltf_findings_lines.specs.declared.info.Info.{Info}
+use Rattle.gltf_findings_lines.specs.declared.info.Contents.{Contents}
 
 -- what is said of a document
-pub record IsInfo (r : Root) (i : Info) : Type 0 where
+pub record IsInfo (r : Root) (i : Contents) : Type 0 where
   pub version : i.version.now ≡ string_bytes r.asset.version
   pub min_version : option_map (λ s. s.now) i.min_version ≡ option_map string_bytes r.asset.min_version
   pub generator : option_map (λ s. s.now) i.generator ≡ option_map string_bytes r.asset.generator
@@ -30,7 +30,7 @@ text_data None = null
 text_data (Some text) = string text
 
 -- what a document holds, by the names of the validator
-unfoldable pub info_data : Info → Data
+unfoldable pub info_data : Contents → Data
 info_data i = object (member (codes "animationCount") (number (unsigned i.animations))
     (member (codes "drawCallCount") (number (unsigned i.geometry.draw_calls))
     (member (codes "extensionsRequired") (names_data i.extensions_required.now)
@@ -50,14 +50,14 @@ info_data i = object (member (codes "animationCount") (number (unsigned i.animat
     (member (codes "version") (string i.version.now) no_members)))))))))))))))))
 
 -- for private clauses: the same members, put one after the other
-abbrev pub with_asset : Info → Members → Members
+abbrev pub with_asset : Contents → Members → Members
 with_asset i ms = put (codes "extensionsRequired") (names_data i.extensions_required.now)
     (put (codes "extensionsUsed") (names_data i.extensions_used.now)
     (put (codes "generator") (text_data (option_map (λ s. s.now) i.generator))
     (put (codes "minVersion") (text_data (option_map (λ s. s.now) i.min_version))
     (put (codes "version") (string i.version.now) ms))))
 
-abbrev pub with_contents : Info → Members → Members
+abbrev pub with_contents : Contents → Members → Members
 with_contents i ms = put (codes "hasTextures") (boolean i.has_textures)
     (put (codes "hasSkins") (boolean i.has_skins)
     (put (codes "hasDefaultScene") (boolean i.has_default_scene)

@@ -11,7 +11,7 @@ use Rattle.gltf_findings_lines.specs.Located.{Where, byte, place, where_of}
 use Rattle.gltf_findings_lines.specs.declared.file.File.{File}
 use Rattle.gltf_findings_lines.specs.declared.choices.Shown.{Shown}
 use Rattle.gltf_findings_lines.specs.declared.counts.Counts.{Counts}
-use Rattle.gltf_findings_lines.specs.declared.info.Info.{Info}
+use Rattle.gltf_findings_lines.specs.declared.info.Contents.{Contents}
 
 -- severities as numbers
 abbrev pub severity_number : Severity → ℕ
@@ -52,7 +52,7 @@ mime_type file = if file.is_container then codes "model/gltf-binary" else codes 
 abbrev pub validator_version : List ℕ
 validator_version = codes "gltf_lint 1.4.1+1"
 
-unfoldable pub khronos_data : File → Info → ℕ → List Shown → Data
+unfoldable pub khronos_data : File → Contents → ℕ → List Shown → Data
 khronos_data file info most xs = object (member (codes "info") (info_data info)
     (member (codes "issues") (issues_data most xs)
     (member (codes "mimeType") (string (mime_type file))

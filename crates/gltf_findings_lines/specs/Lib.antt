@@ -11,3 +11,8 @@ pub mod Named
 pub mod Parts
 pub mod Placed
 pub mod Sources
+pub mod Children
+pub mod Found
+pub mod Modes
+pub mod Places
+pub mod Positions

@@ -5,19 +5,19 @@ use Rattle.serde_json.specs.Data.{Data, null, number, string, unsigned}
 use Rattle.gltf_base.specs.Pointers.{pointer_text}
 use Rattle.gltf_findings_codes.specs.declared.code.Code.{Code}
 use Rattle.gltf_findings_codes.specs.Places.{place_steps}
-use Rattle.gltf_lint_lines.specs.Escaped.{escaped}
+use Rattle.gltf_report_lines.specs.Escaped.{escaped}
 use Rattle.gltf_findings_lines.specs.declared.finding.FileFinding.{FileFinding}
-use Rattle.gltf_findings_lines.specs.declared.finding.Location.{Location}
-use Rattle.gltf_findings_lines.specs.declared.finding.Location.TheVariants.{Byte, Place, Pointer}
+use Rattle.gltf_findings_lines.specs.declared.finding.FindingPlace.{FindingPlace}
+use Rattle.gltf_findings_lines.specs.declared.finding.FindingPlace.TheVariants.{Byte, Subject, Pointer}
 
 -- at an offset in a .glb file, in bytes, or at the place of the document that a JSON pointer (RFC 6901) leads to
 pub data Where : Type 0 where
   byte : ℕ → Where
   place : List ℕ → Where
 
-abbrev pub where_of : Location → Where
+abbrev pub where_of : FindingPlace → Where
 where_of (Byte n) = byte n
-where_of (Place p) = place (pointer_text (place_steps p))
+where_of (Subject p) = place (pointer_text (place_steps p))
 where_of (Pointer p) = place p.now
 
 -- what is wrong, and where

@@ -2,9 +2,9 @@
 use Rattle.std.specs.Prelude.{◌≡◌, ◌⊎◌, ◌<◌, ◌^◌, ◌-◌, ℕ, List, [], ◌∷◌, Bool, true, false, IsUtf8, Option, Some, None, Result, Ok, Err, length, nat_le}
 use Rattle.std.specs.List.{AllZip}
 use Rattle.json.specs.Json.{document}
-use Rattle.gltf_glb.specs.declared.error.Error.{Error}
-use Rattle.gltf_positions.specs.Found.{IsPositionOf}
-use Rattle.gltf_positions.specs.declared.position.Position.{Position}
+use Rattle.gltf_buffers.specs.declared.error.GlbError.{GlbError}
+use Rattle.gltf_findings_lines.specs.Found.{IsPositionOf}
+use Rattle.gltf_findings_lines.specs.declared.position.Position.{Position}
 use Rattle.gltf_findings_lines.specs.Located.{Where, byte, place, pointer_of, where_of}
 use Rattle.gltf_findings_lines.specs.Parts.{FileParts, file_parts}
 use Rattle.gltf_findings_lines.specs.declared.choices.Shown.{Shown}
@@ -28,7 +28,7 @@ abbrev pub HasNone : Shown → Placed → Type 0
 HasNone x p = (p.shown ≡ x) × (p.position ≡ None)
 
 -- the JSON of a file; that of a container that can't be read is empty
-abbrev pub file_json : Result FileParts Error → List ℕ
+abbrev pub file_json : Result FileParts GlbError → List ℕ
 file_json (Ok parts) = parts.0
 file_json (Err e) = []
 

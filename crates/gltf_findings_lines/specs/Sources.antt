@@ -8,7 +8,7 @@ use Rattle.gltf_findings_codes.specs.declared.code.Code.TheVariants.{MeshPrimiti
 use Rattle.gltf_findings_codes.specs.declared.finding.Finding.{Finding}
 use Rattle.gltf_findings_codes.specs.Codes.{code_name}
 use Rattle.gltf_findings_codes.specs.Places.{place_steps}
-use Rattle.gltf_findings_glb.specs.declared.finding.GlbFinding.{GlbFinding}
+use Rattle.gltf_findings_files.specs.declared.finding.GlbFinding.{GlbFinding}
 use Rattle.gltf_findings_members.specs.declared.notice.Notice.{Notice}
 use Rattle.gltf_findings_members.specs.Noted.{Noted, noted}
 use Rattle.gltf_findings_lines.specs.Located.{Located, byte, place}

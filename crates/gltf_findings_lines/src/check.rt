@@ -2,7 +2,7 @@
 
 ghost use Rattle.std.specs.Prelude.{◌≡◌, ◌-◌, ◌^◌, ◌++◌, [], IfOk, OnOk, Option, option_map, string_bytes};
 ghost use Rattle.gltf_findings_codes.specs.Found.{findings_from};
-ghost use Rattle.gltf_findings_uris.specs.Objects.{buffer_findings, image_findings};
+ghost use Rattle.gltf_findings_files.specs.Objects.{buffer_findings, image_findings};
 ghost use Rattle.gltf_schema.specs.Outline.{IsShapeOf};
 ghost use Rattle.gltf_root.specs.Answer.{answer, IsAnswer};
 ghost use Rattle.gltf_root.specs.Root.{root_kind};
@@ -14,18 +14,18 @@ ghost use Rattle.gltf_findings_lines.specs.Sources.{gathered};
 use crate::choices::{Choices, Shown};
 use crate::counts::Counts;
 use crate::file::{File, Parts};
-use crate::info::Info;
+use crate::info::Contents;
 use crate::khronos::{khronos_line, unread_line};
 use crate::lines::lines_of;
 use crate::members::{members_in, notices_of};
 use crate::options::{FindingOptions, Style};
 use crate::sources::Sources;
+use gltf_buffers::GlbError;
 use gltf_findings::Findings;
 use gltf_findings_codes::{Finding, add_all};
+use gltf_findings_files::{BufferUriRules, Container, ImageUriRules};
 use gltf_findings_members::Notices;
-use gltf_findings_uris::{BufferUriRules, Container, ImageUriRules};
-use gltf_glb::Error as GlbError;
-use gltf_lint_lines::Format;
+use gltf_report_lines::LineFormat;
 use gltf_root::root::Root;
 use gltf_schema::{Error, Outline};
 use std::alloc::{AllocError, Global};
@@ -43,7 +43,7 @@ pub enum Unread {
 
 /// What was found in a file.
 #[derive(Debug, Drop)]
-pub struct Found {
+pub struct FileFindings {
     /// What is printed, each line with a newline at its end.
     pub lines: String,
     /// How many findings there are.
@@ -52,7 +52,7 @@ pub struct Found {
     pub unread: Option<Unread>,
 }
 
-impl Found {
+impl FileFindings {
     /// Returns why the file has to be refused: it holds no document, and no finding of severity
     /// error says so.
     pub fn refusal(&self) -> Option<Unread>
@@ -91,7 +91,7 @@ impl Checker {
         alloc: Global,
         options: &FindingOptions<'_>,
         file: &File<'_>,
-    ) -> Result<Found, AllocError>
+    ) -> Result<FileFindings, AllocError>
         ensures { IfOk result (IsFound self.now.outline options.now file.now) }
     {
         let container = file.container_findings(alloc)?;
@@ -153,7 +153,7 @@ fn check_json(
     sources: &Sources<'_>,
     parts: &Parts<'_>,
     read: Result<Root, Error>,
-) -> Result<Found, AllocError>
+) -> Result<FileFindings, AllocError>
     requires sources { sources.now.document.now ≡ [] }
     requires read { IsAnswer (answer parts.now.json.now) read }
     ensures { IfOk result (IsFoundIn options.now file.now sources.now (parts_in parts.now)) }
@@ -216,7 +216,7 @@ fn found_in(
     sources: &Sources<'_>,
     root: Option<&Root>,
     unread: Option<Unread>,
-) -> Result<Found, AllocError>
+) -> Result<FileFindings, AllocError>
     ensures { IfOk result (IsPrinted options.now file.now (gathered sources.now)
         (option_map (λ r. r.now) root.entry) unread) }
 {
@@ -224,7 +224,7 @@ fn found_in(
     let shown = options.choices.chosen(alloc, &all)?;
     let lines = lines_for(alloc, options, file, root, &shown)?;
     let counts = Counts::of(&shown);
-    Ok(Found {
+    Ok(FileFindings {
         lines,
         counts,
         unread,
@@ -262,14 +262,14 @@ fn report_of(
     ensures { IfOk result (λ text. IsReportOf file.now root.now most shown.now
         (string_bytes text)) }
 {
-    let info = Info::of(root);
+    let info = Contents::of(root);
     let text = khronos_line(alloc, file, &info, most, shown)?;
     Ok(text)
 }
 
 /// Returns the findings of a file as lines of JSON, all of them and with the severities of the
 /// validator. Fails only if out of memory.
-pub fn json_lines(alloc: Global, file: &File<'_>) -> Result<Found, AllocError>
+pub fn json_lines(alloc: Global, file: &File<'_>) -> Result<FileFindings, AllocError>
     ensures { IfOk result (IsJsonOf file.now) }
 {
     let options = FindingOptions {
@@ -277,7 +277,7 @@ pub fn json_lines(alloc: Global, file: &File<'_>) -> Result<Found, AllocError>
             severities: &[],
             ignored: &[],
         },
-        style: Style::Lines(Format::Json),
+        style: Style::Lines(LineFormat::Json),
         positions_up_to: u64::MAX,
         most: u64::MAX,
     };

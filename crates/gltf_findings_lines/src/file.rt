@@ -1,12 +1,11 @@
 //! A file, and where its document is.
 
 ghost use Rattle.std.specs.Prelude.{◌≡◌, IfOk, option_map};
-ghost use Rattle.gltf_glb.specs.Reading.{Gives};
+ghost use Rattle.gltf_buffers.specs.Reading.{Gives};
 ghost use Rattle.gltf_findings_lines.specs.Parts.{container_findings, container_of, file_parts, parts_in};
 
-use gltf_findings_glb::{GlbFinding, GlbFindings};
-use gltf_findings_uris::Container;
-use gltf_glb::{Error as GlbError, Glb};
+use gltf_buffers::{Glb, GlbError};
+use gltf_findings_files::{Container, GlbFinding, GlbFindings};
 use std::alloc::{AllocError, Global};
 
 /// A file that is checked.
@@ -62,9 +61,10 @@ impl<'a> File<'a> {
 fn container_of(bin: Option<&[u8]>) -> Container
     ensures { result ≡ container_of (option_map (λ b. b.now) bin.entry) }
 {
+    // derived
     match bin {
-        Some(bytes) => Container::Glb {
-            bin_len: Some(bytes.len() as u64),
+        Some(bin) => Container::Glb {
+            bin_len: Some(bin.len() as u64),
         },
         None => Container::Glb { bin_len: None },
     }

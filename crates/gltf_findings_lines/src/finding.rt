@@ -4,19 +4,19 @@ ghost use Rattle.std.specs.Prelude.{◌≡◌, ◌++◌, IfOk, OnOk, string_byte
 ghost use Rattle.serde_json.specs.View.{view};
 ghost use Rattle.gltf_findings_lines.specs.Located.{offset_data, pointer_data, pointer_of, shown_pointer, where_of, where_text};
 
-use gltf_findings_codes::{Code, Place};
-use gltf_lint_lines::escaped;
+use gltf_findings_codes::{Code, Subject};
+use gltf_report_lines::escaped;
 use serde_json::Value;
 use std::alloc::{AllocError, Global};
 use std::fmt::Write;
 
 /// Where a finding is.
 #[derive(Clone, Copy, Debug)]
-pub enum Location<'a> {
+pub enum FindingPlace<'a> {
     /// At an offset in a `.glb` file, in bytes.
     Byte(usize),
     /// At a place of the document.
-    Place(Place),
+    Subject(Subject),
     /// At the place of the document that a JSON pointer (RFC 6901) leads to.
     Pointer(&'a str),
 }
@@ -27,18 +27,18 @@ pub struct FileFinding<'a> {
     /// What is wrong.
     pub code: Code,
     /// Where.
-    pub location: Location<'a>,
+    pub location: FindingPlace<'a>,
 }
 
-impl Location<'_> {
+impl FindingPlace<'_> {
     /// The JSON pointer of a place of the document, and an empty text for an offset.
     pub(crate) fn pointer(&self, alloc: Global) -> Result<String, AllocError>
         ensures { IfOk result (λ pointer. string_bytes pointer ≡ pointer_of (where_of self.now)) }
     {
         match self {
-            Location::Byte(_) => Ok(String::new(alloc)),
-            Location::Place(place) => place.pointer(alloc),
-            Location::Pointer(pointer) => String::from_str(alloc, pointer),
+            FindingPlace::Byte(_) => Ok(String::new(alloc)),
+            FindingPlace::Subject(place) => place.pointer(alloc),
+            FindingPlace::Pointer(pointer) => String::from_str(alloc, pointer),
         }
     }
 
@@ -47,8 +47,8 @@ impl Location<'_> {
         ensures { view result ≡ offset_data (where_of self.now) }
     {
         match self {
-            Location::Byte(offset) => Value::from(*offset),
-            Location::Place(_) | Location::Pointer(_) => Value::Null,
+            FindingPlace::Byte(offset) => Value::from(*offset),
+            FindingPlace::Subject(_) | FindingPlace::Pointer(_) => Value::Null,
         }
     }
 
@@ -57,8 +57,10 @@ impl Location<'_> {
         ensures { IfOk result (λ value. view value ≡ pointer_data (where_of self.now)) }
     {
         match self {
-            Location::Byte(_) => Ok(Value::Null),
-            Location::Place(_) | Location::Pointer(_) => Ok(Value::String(self.pointer(alloc)?)),
+            FindingPlace::Byte(_) => Ok(Value::Null),
+            FindingPlace::Subject(_) | FindingPlace::Pointer(_) => Ok(Value::String(self.pointer(
+                alloc,
+            )?)),
         }
     }
 
@@ -69,8 +71,8 @@ impl Location<'_> {
             ≡ string_bytes lines.old ++ where_text (where_of self.now)) }
     {
         match self {
-            Location::Byte(offset) => write!(lines, "byte {offset}: "),
-            Location::Place(_) | Location::Pointer(_) => {
+            FindingPlace::Byte(offset) => write!(lines, "byte {offset}: "),
+            FindingPlace::Subject(_) | FindingPlace::Pointer(_) => {
                 push_pointer(alloc, lines, &self.pointer(alloc)?)
             }
         }

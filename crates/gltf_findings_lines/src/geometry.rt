@@ -143,6 +143,7 @@ impl Sets {
 fn count_at(number: u32, accessors: &[Accessor]) -> u64
     ensures { result ≡ count_at accessors.now number }
 {
+    // derived
     match accessors.get(number as usize) {
         Some(accessor) => accessor.count.0,
         None => 0,
@@ -153,6 +154,7 @@ fn count_at(number: u32, accessors: &[Accessor]) -> u64
 fn count_if(number: Option<u32>, accessors: &[Accessor]) -> u64
     ensures { result ≡ count_if accessors.now number }
 {
+    // derived
     match number {
         Some(number) => count_at(number, accessors),
         None => 0,
@@ -163,8 +165,9 @@ fn count_if(number: Option<u32>, accessors: &[Accessor]) -> u64
 fn corner_count(indices: Option<Index<Accessor>>, vertices: u64, accessors: &[Accessor]) -> u64
     ensures { result ≡ corner_count accessors.now indices vertices }
 {
+    // derived
     match indices {
-        Some(index) => count_at(index.number(), accessors),
+        Some(indices) => count_at(indices.number(), accessors),
         None => vertices,
     }
 }

@@ -12,7 +12,7 @@ use std::alloc::{AllocError, Global};
 
 /// What a document holds.
 #[derive(Clone, Copy)]
-pub struct Info<'a> {
+pub struct Contents<'a> {
     pub version: &'a str,
     pub min_version: Option<&'a str>,
     pub generator: Option<&'a str>,
@@ -26,13 +26,13 @@ pub struct Info<'a> {
     pub geometry: Geometry,
 }
 
-impl Info<'_> {
+impl Contents<'_> {
     /// What a document holds.
-    pub fn of(root: &Root) -> Info<'_>
+    pub fn of(root: &Root) -> Contents<'_>
         ensures { IsInfo root.now result }
     {
         let asset = &root.asset;
-        Info {
+        Contents {
             version: &asset.version,
             min_version: asset.min_version.as_deref(),
             generator: asset.generator.as_deref(),
@@ -50,7 +50,7 @@ impl Info<'_> {
 
 /// What a document holds, as JSON.
 #[tactic(auto, using(crate::proofs::InfoMembers::members_are), unfolding(crate::specs::Info::info_data))]
-pub(crate) fn info_value(alloc: Global, info: &Info<'_>) -> Result<Value, AllocError>
+pub(crate) fn info_value(alloc: Global, info: &Contents<'_>) -> Result<Value, AllocError>
     ensures { IfOk result (λ value. view value ≡ info_data info.now) }
 {
     let mut map = Map::new(alloc);
@@ -61,7 +61,11 @@ pub(crate) fn info_value(alloc: Global, info: &Info<'_>) -> Result<Value, AllocE
 }
 
 /// Puts what the asset and the names of extensions say.
-fn put_asset(alloc: Global, map: &mut Map<String, Value>, info: &Info<'_>) -> Result<(), AllocError>
+fn put_asset(
+    alloc: Global,
+    map: &mut Map<String, Value>,
+    info: &Contents<'_>,
+) -> Result<(), AllocError>
     ensures { OnOk result (members_view map.new.entries
         ≡ with_asset info.now (members_view map.old.entries)) }
 {
@@ -76,7 +80,7 @@ fn put_asset(alloc: Global, map: &mut Map<String, Value>, info: &Info<'_>) -> Re
 fn put_contents(
     alloc: Global,
     map: &mut Map<String, Value>,
-    info: &Info<'_>,
+    info: &Contents<'_>,
 ) -> Result<(), AllocError>
     ensures { OnOk result (members_view map.new.entries
         ≡ with_contents info.now (members_view map.old.entries)) }

@@ -3,17 +3,17 @@
 ghost use Rattle.std.specs.Prelude.{◌≡◌, IfOk, map, option_map, string_bytes};
 ghost use Rattle.serde_json.specs.View.{view};
 ghost use Rattle.serde_json.specs.Written.{compact_text};
-ghost use Rattle.gltf_lint_lines.specs.Lines.{line};
+ghost use Rattle.gltf_report_lines.specs.Lines.{line};
 ghost use Rattle.gltf_findings_lines.specs.Khronos.{issues_data, khronos_data, message_data, mime_type, refusal_data, refusal_message, severity_number, unread_data, validator_version};
 
 use crate::choices::Shown;
 use crate::counts::Counts;
 use crate::file::File;
-use crate::finding::Location;
-use crate::info::{Info, info_value};
+use crate::finding::FindingPlace;
+use crate::info::{Contents, info_value};
 use crate::lines::first;
 use gltf_findings_codes::Severity;
-use gltf_lint_lines::push_value;
+use gltf_report_lines::push_value;
 use serde_json::{Value, json};
 use std::alloc::{AllocError, Global};
 
@@ -21,6 +21,7 @@ use std::alloc::{AllocError, Global};
 fn validator_version() -> &'static str
     ensures { result.now ≡ validator_version }
 {
+    // derived
     "gltf_lint 1.4.1+1"
 }
 
@@ -28,6 +29,7 @@ fn validator_version() -> &'static str
 fn severity_number(severity: Severity) -> u64
     ensures { result ≡ severity_number severity }
 {
+    // derived
     match severity {
         Severity::Error => 0,
         Severity::Warning => 1,
@@ -40,6 +42,7 @@ fn severity_number(severity: Severity) -> u64
 fn mime_type(file: &File<'_>) -> &'static str
     ensures { result.now ≡ mime_type file.now }
 {
+    // derived
     if file.is_container {
         "model/gltf-binary"
     } else {
@@ -54,13 +57,13 @@ fn message_value(alloc: Global, shown: &Shown<'_>) -> Result<Value, AllocError>
     let code = shown.finding.code;
     let severity = severity_number(shown.severity);
     match shown.finding.location {
-        Location::Byte(offset) => json!(in alloc; {
+        FindingPlace::Byte(offset) => json!(in alloc; {
             "code": code.name(),
             "message": code.message(),
             "offset": offset,
             "severity": severity
         }),
-        Location::Place(_) | Location::Pointer(_) => json!(in alloc; {
+        FindingPlace::Subject(_) | FindingPlace::Pointer(_) => json!(in alloc; {
             "code": code.name(),
             "message": code.message(),
             "pointer": shown.finding.location.pointer(alloc)?,
@@ -100,7 +103,7 @@ fn issues_value(alloc: Global, most: u64, shown: &[Shown<'_>]) -> Result<Value, 
 fn khronos_value(
     alloc: Global,
     file: &File<'_>,
-    info: &Info<'_>,
+    info: &Contents<'_>,
     most: u64,
     shown: &[Shown<'_>],
 ) -> Result<Value, AllocError>
@@ -139,7 +142,7 @@ fn unread_value(
 pub fn khronos_line(
     alloc: Global,
     file: &File<'_>,
-    info: &Info<'_>,
+    info: &Contents<'_>,
     most: u64,
     shown: &[Shown<'_>],
 ) -> Result<String, AllocError>

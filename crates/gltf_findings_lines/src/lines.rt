@@ -2,16 +2,16 @@
 
 ghost use Rattle.std.specs.Prelude.{◌≡◌, ◌++◌, IfOk, OnOk, option_map, take, string_bytes};
 ghost use Rattle.serde_json.specs.View.{view};
-ghost use Rattle.gltf_lint_lines.specs.Lines.{end_line};
+ghost use Rattle.gltf_report_lines.specs.Lines.{end_line};
 ghost use Rattle.gltf_findings_lines.specs.FindingLines.{AreLinesOf, column_data, file_text, finding_data, finding_line, finding_text, line_data, message_text, number_data, place_text, placed_lines, severity_text};
 
+use crate::Position;
 use crate::choices::Shown;
 use crate::file::File;
 use crate::options::FindingOptions;
 use crate::placed::{Placed, placed_in};
 use gltf_findings_codes::{Code, Severity};
-use gltf_lint_lines::{Format, escaped, push_rest, push_value};
-use gltf_positions::Position;
+use gltf_report_lines::{LineFormat, escaped, push_rest, push_value};
 use serde_json::{Value, json};
 use std::alloc::{AllocError, Global};
 use std::fmt::Write;
@@ -132,7 +132,7 @@ fn push_text(
 fn push_finding(
     alloc: Global,
     lines: &mut String,
-    format: Format,
+    format: LineFormat,
     file: &str,
     placed: &Placed<'_>,
 ) -> Result<(), AllocError>
@@ -140,8 +140,8 @@ fn push_finding(
         ≡ string_bytes lines.old ++ finding_line format file.now placed.now) }
 {
     match format {
-        Format::Text => push_text(alloc, lines, file, placed),
-        Format::Json => push_value(alloc, lines, &finding_value(alloc, file, placed)?),
+        LineFormat::Text => push_text(alloc, lines, file, placed),
+        LineFormat::Json => push_value(alloc, lines, &finding_value(alloc, file, placed)?),
     }
 }
 
@@ -149,7 +149,7 @@ fn push_finding(
 fn push_placed(
     alloc: Global,
     lines: &mut String,
-    format: Format,
+    format: LineFormat,
     file: &str,
     placed: &[Placed<'_>],
 ) -> Result<(), AllocError>
@@ -177,7 +177,7 @@ pub(crate) fn first<'s, 'a>(shown: &'s [Shown<'a>], most: u64) -> &'s [Shown<'a>
 fn push_end(
     alloc: Global,
     lines: &mut String,
-    format: Format,
+    format: LineFormat,
     file: &str,
     most: u64,
     count: u64,
@@ -196,7 +196,7 @@ fn push_end(
 pub(crate) fn lines_of(
     alloc: Global,
     options: &FindingOptions<'_>,
-    format: Format,
+    format: LineFormat,
     file: &File<'_>,
     shown: &[Shown<'_>],
 ) -> Result<String, AllocError>
@@ -213,7 +213,7 @@ pub(crate) fn lines_of(
 #[tactic(auto, using(std::proofs::lemmas::List::append_assoc))]
 fn findings_lines(
     alloc: Global,
-    format: Format,
+    format: LineFormat,
     file: &str,
     most: u64,
     count: u64,

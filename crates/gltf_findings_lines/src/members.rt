@@ -83,8 +83,9 @@ fn value_notices(
 pub(crate) fn notices_of(found: &Option<Notices>) -> &[Notice]
     ensures { result.now ≡ notices_of found.now }
 {
+    // derived
     match found {
-        Some(notices) => notices.as_slice(),
+        Some(found) => found.as_slice(),
         None => &[],
     }
 }

@@ -1,13 +1,13 @@
 //! How findings are chosen and printed.
 
 use crate::choices::Choices;
-use gltf_lint_lines::Format;
+use gltf_report_lines::LineFormat;
 
 /// What is printed for a file.
 #[derive(Clone, Copy, Debug, PartialEq, Eq)]
 pub enum Style {
     /// A line for each finding.
-    Lines(Format),
+    Lines(LineFormat),
     /// A line with a report in the form of the Khronos glTF-Validator.
     Khronos,
 }

@@ -7,8 +7,8 @@ ghost use Rattle.gltf_findings_lines.specs.Placed.{ArePlaced, HasNone, HasPositi
 
 use crate::choices::Shown;
 use crate::file::File;
-use crate::finding::Location;
-use gltf_positions::{Position, positions_of};
+use crate::finding::FindingPlace;
+use crate::{Position, positions_of};
 use simdutf8::compat::from_utf8;
 use std::alloc::{AllocError, Global};
 
@@ -140,11 +140,11 @@ fn placed_one<'a>(shown: Shown<'a>, position: Position) -> Placed<'a>
     ensures { result ≡ placed_one shown.entry position }
 {
     match shown.finding.location {
-        Location::Byte(_) => Placed {
+        FindingPlace::Byte(_) => Placed {
             shown,
             position: None,
         },
-        Location::Place(_) | Location::Pointer(_) => Placed {
+        FindingPlace::Subject(_) | FindingPlace::Pointer(_) => Placed {
             shown,
             position: Some(position),
         },

@@ -7,9 +7,9 @@ ghost use Rattle.gltf_findings_codes.specs.declared.code.Code.{Code as OneCode};
 ghost use Rattle.gltf_findings_lines.specs.Located.{located};
 ghost use Rattle.gltf_findings_lines.specs.Sources.{IsSaidBy, all_located, codes_in, gathered, has_name, is_named, is_said, located_finding, located_glb, located_noted, pointed, said, said_finding, says, unsaid_in, unsaid_one};
 
-use crate::finding::{FileFinding, Location};
+use crate::finding::{FileFinding, FindingPlace};
 use gltf_findings_codes::{Code, Finding};
-use gltf_findings_glb::GlbFinding;
+use gltf_findings_files::GlbFinding;
 use gltf_findings_members::Notice;
 use std::alloc::{AllocError, Global};
 use std::collections::BTreeSet;
@@ -60,7 +60,7 @@ fn add_container(to: &mut Vec<FileFinding<'_>>, findings: &[GlbFinding]) -> Resu
     for finding in findings {
         to.push(FileFinding {
             code: finding.code,
-            location: Location::Byte(finding.offset),
+            location: FindingPlace::Byte(finding.offset),
         })?;
     }
     Ok(())
@@ -74,7 +74,7 @@ fn add_members<'a>(to: &mut Vec<FileFinding<'a>>, notices: &'a [Notice]) -> Resu
     for notice in notices {
         to.push(FileFinding {
             code: notice.code,
-            location: Location::Pointer(&notice.pointer),
+            location: FindingPlace::Pointer(&notice.pointer),
         })?;
     }
     Ok(())
@@ -88,7 +88,7 @@ fn add_all(to: &mut Vec<FileFinding<'_>>, findings: &[Finding]) -> Result<(), Al
     for finding in findings {
         to.push(FileFinding {
             code: finding.code,
-            location: Location::Place(finding.place),
+            location: FindingPlace::Subject(finding.place),
         })?;
     }
     Ok(())
@@ -129,7 +129,7 @@ fn add_unsaid(
     }
     to.push(FileFinding {
         code: finding.code,
-        location: Location::Place(finding.place),
+        location: FindingPlace::Subject(finding.place),
     })?;
     Ok(())
 }

@@ -9,16 +9,15 @@ ghost use Rattle.gltf_findings_members.specs.Attributes.{is_attribute, is_number
 pub(crate) fn is_attribute(name: &str) -> bool
     ensures { result ≡ is_attribute name.now }
 {
-    match name {
-        "POSITION" | "NORMAL" | "TANGENT" => true,
-        _ => {
-            strip("_", name).is_some()
-                || is_numbered("TEXCOORD_", name)
-                || is_numbered("COLOR_", name)
-                || is_numbered("JOINTS_", name)
-                || is_numbered("WEIGHTS_", name)
-        }
-    }
+    // derived
+    name == "POSITION"
+        || name == "NORMAL"
+        || name == "TANGENT"
+        || strip("_", name).is_some()
+        || is_numbered("TEXCOORD_", name)
+        || is_numbered("COLOR_", name)
+        || is_numbered("JOINTS_", name)
+        || is_numbered("WEIGHTS_", name)
 }
 
 /// What is behind a prefix.
@@ -32,8 +31,9 @@ fn strip<'a>(prefix: &str, text: &'a str) -> Option<&'a str>
 fn is_numbered(prefix: &str, name: &str) -> bool
     ensures { result ≡ is_numbered prefix.now name.now }
 {
+    // derived
     match strip(prefix, name) {
-        Some(digits) => is_set_number(digits.as_bytes()),
+        Some(text) => is_set_number(text.as_bytes()),
         None => false,
     }
 }
@@ -65,5 +65,6 @@ fn all_digits(text: &[u8]) -> bool
 fn is_digit(byte: u8) -> bool
     ensures { result ≡ is_digit byte }
 {
+    // derived
     48 <= byte && byte <= 57
 }

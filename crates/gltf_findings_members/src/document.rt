@@ -103,6 +103,7 @@ fn is_kept(loud: &BTreeSet<String>, rows: &[Member], name: &str, is_quiet: bool)
 fn is_fixed(rows: &[Member], name: &str) -> bool
     ensures { result ≡ is_fixed rows.now name.now }
 {
+    // derived
     name == "extensionsUsed" || name == "asset" || is_needed_name(rows, name)
 }
 

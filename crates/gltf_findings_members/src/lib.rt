@@ -28,7 +28,6 @@ mod table;
 mod uses;
 mod walk;
 mod wanted;
-mod whole;
 
 pub use first::FirstLook;
 pub use gltf_findings_codes::{Code as NoticeCode, Severity as NoticeSeverity};

@@ -12,7 +12,7 @@ use crate::attribute::is_attribute;
 use crate::lists::is_new;
 use crate::table::Table;
 use crate::wanted::is_index;
-use crate::whole::whole_in;
+use gltf_schema::whole_in;
 use json::{Invalid, Reader, Token};
 use std::alloc::Global;
 use std::collections::BTreeSet;

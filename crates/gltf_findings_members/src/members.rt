@@ -60,6 +60,7 @@ pub(crate) fn empty_object_code(members: &Map<String, Value>) -> Option<Code>
 fn attribute_code(name: &str) -> Option<Code>
     ensures { result ≡ attribute_code name.now }
 {
+    // derived
     if is_attribute(name) {
         None
     } else {

@@ -48,6 +48,7 @@ fn whole_misfit(value: &Value) -> Option<Code>
 fn out_of_range(value: &Value, code: Code) -> Code
     ensures { result ≡ out_of_range (view value.now) code }
 {
+    // derived
     if is_integer(value) {
         code
     } else {
@@ -69,6 +70,7 @@ fn is_integer(value: &Value) -> bool
 pub(crate) fn mismatch_unless(is_wanted: bool) -> Option<Code>
     ensures { result ≡ mismatch_unless is_wanted }
 {
+    // derived
     if is_wanted {
         None
     } else {
@@ -90,6 +92,7 @@ pub(crate) fn misfit_in(is_item: bool, shape: Option<&Shape>, value: &Value) -> 
 fn item_mismatch(shape: Option<&Shape>) -> Code
     ensures { result ≡ item_mismatch (option_map (λ s. s.now) shape.entry) }
 {
+    // derived
     match shape {
         Some(Shape::Whole32) => Code::InvalidIndex,
         _ => Code::ArrayTypeMismatch,

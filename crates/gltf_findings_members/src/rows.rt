@@ -52,6 +52,7 @@ pub(crate) fn note_own<'a>(
 fn empty_target_code(rows: &[Member], members: &Map<String, Value>) -> Option<Code>
     ensures { result ≡ empty_target_code rows.now (members_view members.now.entries) }
 {
+    // derived
     if is_target(rows) {
         empty_object_code(members)
     } else {
@@ -79,14 +80,19 @@ fn note_missing<'a>(
 pub(crate) fn is_required(row: &Member) -> bool
     ensures { result ≡ is_required row.now.presence }
 {
-    matches!(row.presence, Presence::Required)
+    // derived
+    match row.presence {
+        Presence::Required => true,
+        _ => false,
+    }
 }
 
 /// Whether a row's member has to be there.
 pub(crate) fn is_needed(row: &Member) -> bool
     ensures { result ≡ is_needed row.now }
 {
-    row.presence == Presence::Required && row.name != "node"
+    // derived
+    is_required(row) && row.name != "node"
 }
 
 /// The code of a row whose member has to be there and is missing.
@@ -104,6 +110,7 @@ fn is_missing(value: &Value, row: &Member) -> Option<Code>
 pub(crate) fn is_target(rows: &[Member]) -> bool
     ensures { result ≡ is_target rows.now }
 {
+    // derived
     row_named(rows, "POSITION").is_some()
 }
 
@@ -111,6 +118,7 @@ pub(crate) fn is_target(rows: &[Member]) -> bool
 pub(crate) fn is_texture_info(rows: &[Member]) -> bool
     ensures { result ≡ is_texture_info rows.now }
 {
+    // derived
     row_named(rows, "index").is_some() && row_named(rows, "texCoord").is_some()
 }
 
@@ -118,11 +126,14 @@ pub(crate) fn is_texture_info(rows: &[Member]) -> bool
 pub(crate) fn unknown_code(rows: &[Member], name: &str) -> Option<Code>
     ensures { result ≡ unknown_code rows.now name.now }
 {
-    if !is_target(rows) {
-        Some(Code::UnexpectedProperty)
-    } else if is_attribute(name) {
-        None
+    // derived
+    if is_target(rows) {
+        if is_attribute(name) {
+            None
+        } else {
+            Some(Code::MeshPrimitiveInvalidAttribute)
+        }
     } else {
-        Some(Code::MeshPrimitiveInvalidAttribute)
+        Some(Code::UnexpectedProperty)
     }
 }

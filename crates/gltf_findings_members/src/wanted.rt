@@ -6,8 +6,7 @@ ghost use Rattle.serde_json.specs.Read.{number_of};
 ghost use Rattle.gltf_findings_members.specs.Misfits.{index_misfit, misfit};
 ghost use Rattle.gltf_findings_members.specs.Quiet.{wants_any, wants_text, wants_truth};
 
-use crate::whole::whole_in;
-use gltf_schema::Shape;
+use gltf_schema::{Shape, whole_in};
 
 /// Whether any JSON is wanted.
 #[inline(always)]

@@ -10,3 +10,8 @@ pub mod Deepening
 pub mod Ordered
 pub mod Carrying
 pub mod Meeting
+pub mod Sharing
+pub mod Numbering
+pub mod Ranging
+pub mod Rooting
+pub mod Knowing

@@ -11,3 +11,6 @@ pub mod Cycles
 pub mod Trailing
 pub mod Faults
 pub mod Listing
+pub mod Subtrees
+pub mod Shares
+pub mod Roots

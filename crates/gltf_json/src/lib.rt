@@ -47,11 +47,8 @@ pub mod laws {
         documents_have_one_text, plain_documents_are_read_back, plain_documents_are_written_again,
     };
     pub use gltf_scene::laws as scene;
-    pub use gltf_sinks::laws::{collections_hold_the_reports, counts_are_numbers_of_reports};
-    pub use gltf_validation_clean::changes::{
-        calls_that_succeed_are_changes, changes_leave_no_reports,
-    };
-    pub use gltf_validation_clean::laws::{
+    pub use gltf_validation::changes::{calls_that_succeed_are_changes, changes_leave_no_reports};
+    pub use gltf_validation::laws::{
         stripped_documents_have_the_same_reports, written_roots_are_held_again,
     };
     pub use gltf_validation_rules::constant_is_listed;
@@ -71,12 +68,14 @@ pub mod laws {
         pushes_change_one_list, pushes_leave_other_reports, pushes_onto_clean_documents,
         read_documents_are_refused_where_invalid, reports_are_the_faults_of_places,
     };
+    pub use gltf_validation_rules::sink_laws::{
+        collections_hold_the_reports, counts_are_numbers_of_reports,
+    };
 }
 
 /// Whole documents, and the lists in them.
 pub mod root {
-    pub use gltf_base::{Index, PushError};
-    pub use gltf_io::{ByteIn, ByteOut, Failed, Watched};
+    pub use gltf_base::{ByteIn, ByteOut, Failed, Index, PushError, Watched};
     pub use gltf_root::root::{
         Found, Get, Mark, Mismatch, Nulls, Place, Root, RootItem, Spacing, Style, Wanted,
     };
@@ -85,11 +84,10 @@ pub mod root {
 /// Validation: the faults of a document, and reports of them.
 pub mod validation {
     pub use gltf_base::validation::{Checked, Error, USize64};
-    pub use gltf_sinks::{By, Collect, Count, NoRefusal, Sink, Stop, Take};
     pub use gltf_validation::validation::Validate;
-    pub use gltf_validation_clean::{
+    pub use gltf_validation::{
         Clean, CleanError, Item, Refused, Report, TopLevelItem, ValidateRoot,
     };
-    pub use gltf_validation_rules::Rules;
+    pub use gltf_validation_rules::{By, Collect, Count, NoRefusal, Rules, Sink, Stop, Take};
     pub use gltf_validation_walk::Walk;
 }

@@ -2,8 +2,8 @@
 use Rattle.std.specs.Prelude.{ℕ, List, ◌++◌, codes}
 use Rattle.std.specs.Fmt.{decimal}
 use Rattle.serde_json.specs.Data.{Data, number, string, object, member, no_members, unsigned}
-use Rattle.gltf_lint_lines.specs.Escaped.{escaped}
-use Rattle.gltf_lint_lines.specs.Lines.{line}
+use Rattle.gltf_report_lines.specs.Escaped.{escaped}
+use Rattle.gltf_report_lines.specs.Lines.{line}
 use Rattle.gltf_findings_lines.specs.declared.counts.Counts.{Counts}
 use Rattle.gltf_linter.specs.declared.tally.Tally.{Tally}
 

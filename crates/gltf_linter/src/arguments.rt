@@ -2,7 +2,7 @@
 
 use clap::{Arg, ArgMatches, Command, arg, value_parser};
 use gltf_findings_lines::{Choices, FindingOptions, Severity, Style, severity_named};
-use gltf_lint_lines::{Format, Options};
+use gltf_report_lines::{LineFormat, Options};
 use gltf_validation_rules::Rules;
 use std::alloc::{AllocError, Global};
 
@@ -75,9 +75,9 @@ impl<'a> Checks<'a> {
 fn style_of(matches: &ArgMatches<'_>) -> Style {
     match matches.get_str("format") {
         Some("khronos") => Style::Khronos,
-        Some("json") => Style::Lines(Format::Json),
-        _ if matches.get_flag("json") => Style::Lines(Format::Json),
-        _ => Style::Lines(Format::Text),
+        Some("json") => Style::Lines(LineFormat::Json),
+        _ if matches.get_flag("json") => Style::Lines(LineFormat::Json),
+        _ => Style::Lines(LineFormat::Text),
     }
 }
 

@@ -3,9 +3,9 @@
 use crate::files::has_extension;
 use crate::refusal::Refusal;
 use crate::text::text_fault;
+use gltf_buffers::Glb;
 use gltf_findings_lines::{File, Unread, is_version_1};
-use gltf_glb::Glb;
-use gltf_lint_lines::json_of;
+use gltf_report_lines::json_of;
 use gltf_root::root::Root;
 use gltf_schema::Error;
 use serde_json::Value;

@@ -1,8 +1,7 @@
 //! What there is to check: files, and folders of files.
 
 use crate::refusal::Refusal;
-use gltf_base::Error as DocumentError;
-use gltf_io::{ByteIn, Watched, read_to_end_into};
+use gltf_base::{ByteIn, Error as DocumentError, Watched, read_to_end_into};
 use std::alloc::{AllocError, Global};
 use std::collections::BTreeMap;
 use std::fs::{DirEntry, OpenFile};

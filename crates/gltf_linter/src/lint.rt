@@ -9,8 +9,8 @@ use crate::refusal::{Refusal, entry_refusal};
 use crate::report::report_of;
 use crate::tally::Tally;
 use crate::words::NOT_UTF8;
-use gltf_findings_lines::{Checker, Counts, File, FindingOptions, Found, Severity, Style};
-use gltf_lint_lines::found_in;
+use gltf_findings_lines::{Checker, Counts, File, FileFindings, FindingOptions, Severity, Style};
+use gltf_report_lines::found_in;
 use std::alloc::{AllocError, Global};
 use std::io;
 
@@ -32,7 +32,7 @@ fn checked_findings(
     options: &FindingOptions<'_>,
     fail_level: Severity,
     file: &File<'_>,
-    found: Found,
+    found: FileFindings,
 ) -> Checked {
     let faults = found.counts.at_least(fail_level);
     let counts = found.counts;

@@ -7,7 +7,7 @@ ghost use Rattle.gltf_linter.specs.Lines.{count_text, counts_data, counts_text, 
 use crate::refusal::Refusal;
 use crate::tally::Tally;
 use gltf_findings_lines::Counts;
-use gltf_lint_lines::{Format, escaped, push_value};
+use gltf_report_lines::{LineFormat, escaped, push_value};
 use serde_json::{Value, json};
 use std::alloc::{AllocError, Global};
 use std::fmt::Write;
@@ -45,14 +45,14 @@ fn push_refused(alloc: Global, lines: &mut String, file: &str, why: &str) -> Res
 /// The line for a file that is refused.
 pub fn refusal_line(
     alloc: Global,
-    format: Format,
+    format: LineFormat,
     file: &str,
     refusal: &Refusal,
 ) -> Result<String, AllocError> {
     let mut line = String::new(alloc);
     match format {
-        Format::Text => push_refused(alloc, &mut line, file, &refusal.to_string(alloc)?)?,
-        Format::Json => push_value(alloc, &mut line, &refusal_value(alloc, file, refusal)?)?,
+        LineFormat::Text => push_refused(alloc, &mut line, file, &refusal.to_string(alloc)?)?,
+        LineFormat::Json => push_value(alloc, &mut line, &refusal_value(alloc, file, refusal)?)?,
     }
     Ok(line)
 }
@@ -81,11 +81,15 @@ fn push_summary(line: &mut String, tally: &Tally) -> Result<(), AllocError>
 }
 
 /// The line behind the reports of all files.
-pub fn summary_line(alloc: Global, format: Format, tally: &Tally) -> Result<String, AllocError> {
+pub fn summary_line(
+    alloc: Global,
+    format: LineFormat,
+    tally: &Tally,
+) -> Result<String, AllocError> {
     let mut line = String::new(alloc);
     match format {
-        Format::Text => push_summary(&mut line, tally)?,
-        Format::Json => push_value(alloc, &mut line, &summary_value(alloc, tally)?)?,
+        LineFormat::Text => push_summary(&mut line, tally)?,
+        LineFormat::Json => push_value(alloc, &mut line, &summary_value(alloc, tally)?)?,
     }
     Ok(line)
 }
@@ -158,14 +162,14 @@ fn push_counts(line: &mut String, tally: &Tally, counts: &Counts) -> Result<(), 
 /// The line behind the findings of all files.
 pub fn counts_line(
     alloc: Global,
-    format: Format,
+    format: LineFormat,
     tally: &Tally,
     counts: &Counts,
 ) -> Result<String, AllocError> {
     let mut line = String::new(alloc);
     match format {
-        Format::Text => push_counts(&mut line, tally, counts)?,
-        Format::Json => push_value(alloc, &mut line, &counts_value(alloc, tally, counts)?)?,
+        LineFormat::Text => push_counts(&mut line, tally, counts)?,
+        LineFormat::Json => push_value(alloc, &mut line, &counts_value(alloc, tally, counts)?)?,
     }
     Ok(line)
 }

@@ -27,7 +27,7 @@ pub enum Refusal {
     Unread(DocumentError),
     /// It is no container of binary glTF.
     #[error("not binary glTF: {0}")]
-    Container(gltf_glb::Error),
+    Container(gltf_buffers::GlbError),
     /// Its text is no JSON.
     #[error("not JSON: {0}")]
     Json(serde_json::Error),

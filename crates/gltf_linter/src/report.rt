@@ -2,8 +2,8 @@
 
 use crate::files::has_extension;
 use crate::refusal::Refusal;
+use gltf_buffers::GlbError;
 use gltf_findings_lines::{Code, File, refusal_report};
-use gltf_glb::Error as GlbError;
 use gltf_root::root::Found;
 use std::alloc::{AllocError, Global};
 

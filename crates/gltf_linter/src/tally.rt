@@ -1,7 +1,7 @@
 //! What was found in all files together.
 
 ghost use Rattle.std.specs.Prelude.{◌≡◌, ◌+◌};
-ghost use Rattle.gltf_io.specs.Device.{saturated};
+ghost use Rattle.gltf_base.specs.Device.{saturated};
 ghost use Rattle.gltf_linter.specs.Status.{status_of};
 
 /// The exit status if a file was refused.

@@ -9,8 +9,8 @@ use Rattle.gltf_layout.specs.declared.place.Place.{Place}
 use Rattle.gltf_layout.specs.declared.layout.Layout.{Layout}
 use Rattle.gltf_layout.specs.Places.{ArePlaces}
 use Rattle.gltf_layout.specs.Layouts.{layout_places}
-use Rattle.gltf_document.specs.declared.document.Document.{Document}
-use Rattle.gltf_document.specs.Documents.{stored_in}
+use Rattle.gltf_load.specs.declared.document.Document.{Document}
+use Rattle.gltf_load.specs.Documents.{stored_in}
 use Rattle.gltf_accessors.specs.declared.data.AccessorData.{AccessorData}
 use Rattle.gltf_accessors.specs.declared.format.Usage.{Usage}
 use Rattle.gltf_accessors.specs.declared.fault.AccessorDataFault.{AccessorDataFault}

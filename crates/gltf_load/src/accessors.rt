@@ -9,13 +9,13 @@ ghost use Rattle.gltf_accessors.specs.Formats.{usage_of};
 ghost use Rattle.gltf_accessors.specs.Reads.{IsFloatsFault, IsOutputsAt, IsOutputsFault};
 ghost use Rattle.gltf_load.specs.Read.{IsLayoutOf, IsDataOf, IsMissing, IsMissingFault, ReadsAt, ReadsNamed, with_number, optional_with_number};
 
+use crate::Document;
 use crate::fault::ReadFault;
 use crate::reader::Reader;
 use gltf_accessors::{AccessFault, AccessorData, Outputs};
 use gltf_base::Index;
 use gltf_base::animation::Property;
 use gltf_buffers::Buffers;
-use gltf_document::Document;
 use gltf_layout::Layout;
 use gltf_parts::accessor::Accessor;
 use gltf_scene::animation::Sampler;

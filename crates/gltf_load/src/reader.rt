@@ -9,13 +9,13 @@ ghost use Rattle.gltf_accessors.specs.Data.{IsAccessorAt};
 ghost use Rattle.gltf_accessors.specs.Reads.{IsFloatsFault, IsVectorsAt, IsVectorsFault, IsColorsAt, IsColorsFault, IsJointsAt, IsJointsFault, IsIndicesAt, IsPrimitiveIndicesFault};
 ghost use Rattle.gltf_load.specs.Read.{IsLayoutOf, ReadsNamed, attribute_at};
 
+use crate::Document;
 use crate::accessors::{Accessors, optional_with_number};
 use crate::attribute::accessor_of;
 use crate::fault::ReadFault;
 use gltf_accessors::{Accessor, Colors, Joints, PrimitiveIndices, Vectors};
 use gltf_base::mesh::Semantic;
 use gltf_buffers::Buffers;
-use gltf_document::Document;
 use gltf_layout::Layout;
 use gltf_scene::mesh::Primitive;
 

@@ -4,12 +4,12 @@
 
 ghost use Rattle.std.specs.Prelude.{◌≡◌, ◌≢◌, ◌≤◌};
 ghost use Rattle.std.specs.Process.{exit_status};
-ghost use Rattle.gltf_io.specs.Device.{IsFresh, AppendsFront};
+ghost use Rattle.gltf_base.specs.Device.{IsFresh, AppendsFront};
 ghost use Rattle.gltf_validation_rules.specs.Context.{standard_rules};
 ghost use Rattle.gltf_report_lines.specs.Output.{refusal};
 ghost use Rattle.gltf_report_lines.specs.Run.{IsReadWhole, IsRun};
 
-use gltf_io::{ByteIn, ByteOut, Watched};
+use gltf_base::{ByteIn, ByteOut, Watched};
 use std::alloc::Global;
 use std::process::ExitCode;
 

@@ -1,1 +1,3 @@
 pub mod RunLemmas
+pub mod Escapes
+pub mod Printed

@@ -4,7 +4,7 @@ use Rattle.std.proofs.lemmas.Bool.{true≢false}
 use Rattle.gltf_base.specs.declared.error.Error.{Error}
 use Rattle.gltf_base.specs.declared.error.Error.TheVariants.{Json, Schema, InvalidItem, Read, Write, Memory, TooLong}
 use Rattle.gltf_root.specs.Answer.{no_json, no_document, document, answer, IsReadAnswer, IsReading}
-use Rattle.gltf_io.specs.Device.{Seen, IsWithin, AppendsFront}
+use Rattle.gltf_base.specs.Device.{Seen, IsWithin, AppendsFront}
 use Rattle.gltf_validation_rules.specs.Context.{Rules}
 use Rattle.gltf_root.specs.Root.{root_tree}
 use Rattle.gltf_root.specs.declared.root.Root.{Root}

@@ -3,7 +3,7 @@ use Rattle.std.specs.Prelude.{ℕ, List, [], ◌∷◌, ◌++◌, codes}
 use Rattle.gltf_base.specs.Errors.{error_text}
 use Rattle.gltf_base.specs.Text.{path_text}
 use Rattle.gltf_root.specs.Answer.{Answer, no_json, no_document, document, answer}
-use Rattle.gltf_sinks.specs.Report.{Report}
+use Rattle.gltf_validation_rules.specs.Report.{Report}
 use Rattle.gltf_validation_rules.specs.Context.{Rules}
 use Rattle.gltf_validation_rules.specs.Reports.{document_reports}
 

@@ -4,7 +4,7 @@ use Rattle.std.specs.Io.KnownBytes.{Appends}
 use Rattle.gltf_base.specs.declared.error.Error.{Error}
 use Rattle.gltf_base.specs.declared.error.Error.TheVariants as errors
 use Rattle.gltf_root.specs.Answer.{Answer, no_json, no_document, document, answer, byte_limit, call_limit}
-use Rattle.gltf_io.specs.Device.{Seen, IsWithin, AppendsFront}
+use Rattle.gltf_base.specs.Device.{Seen, IsWithin, AppendsFront}
 use Rattle.gltf_validation_rules.specs.Context.{Rules}
 use Rattle.gltf_root.specs.Root.{root_tree}
 use Rattle.gltf_root.specs.declared.root.Root.{Root}

@@ -1,23 +1,36 @@
-//! Reads a document and writes what is wrong in it, a line for each report.
+//! Reads a document and writes what is wrong in it, a line for each report, as `gltf_report` and
+//! `gltf_lint` print it; and where the JSON of a file is.
 #![tactic(auto)]
 
 ghost use Rattle.std.specs.Prelude.{◌≡◌, ◌≢◌, ◌≤◌, ◌⊎◌, true, None, IsSomeAnd};
-ghost use Rattle.gltf_io.specs.Device.{IsFresh, AppendsFront};
+ghost use Rattle.gltf_base.specs.Device.{IsFresh, AppendsFront};
 ghost use Rattle.gltf_validation_rules.specs.Context.{rules_of, standard_rules};
 ghost use Rattle.gltf_report_lines.specs.Output.{refusal};
 ghost use Rattle.gltf_report_lines.specs.Run.{IsReadWhole, IsRun, IsWritten, reading_output};
 
-use gltf_io::{ByteIn, ByteOut};
+use gltf_base::{ByteIn, ByteOut};
 use gltf_root::root::Root;
 use gltf_schema::Error;
 use gltf_validation_rules::Rules;
 use std::alloc::Global;
 
+mod bytes;
+mod escape;
+mod file_lines;
+mod format;
 mod lines;
+mod options;
 mod outcome;
+mod reports;
 mod writing;
 
+pub use bytes::json_of;
+pub use escape::escaped;
+pub use file_lines::{FileLines, all_lines, found_in};
+pub use format::LineFormat;
+pub use options::Options;
 pub use outcome::Outcome;
+pub use reports::{push_report, push_rest, push_value};
 use writing::write_outcome;
 
 /// Reads a document to its end and writes a line for each report, `clean` if there is none, or why

@@ -1,12 +1,12 @@
 //! Outcomes written whole.
 
 ghost use Rattle.std.specs.Prelude.{◌≡◌, ◌⊎◌};
-ghost use Rattle.gltf_io.specs.Device.{AppendsFront};
+ghost use Rattle.gltf_base.specs.Device.{AppendsFront};
 ghost use Rattle.gltf_report_lines.specs.Outcome.{outcome_output};
 ghost use Rattle.gltf_report_lines.specs.Run.{IsWritten};
 
 use crate::outcome::Outcome;
-use gltf_io::{ByteOut, Failed, write_all};
+use gltf_base::{ByteOut, Failed, write_all};
 
 /// Writes the text of an outcome and returns its status, or 4 if the writer failed.
 #[tactic(auto, unfolding(crate::specs::Run::IsWritten))]

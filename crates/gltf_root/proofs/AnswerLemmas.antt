@@ -15,7 +15,7 @@ use Rattle.gltf_schema.specs.Tree.{Tree}
 use Rattle.gltf_base.specs.declared.error.Error.{Error}
 use Rattle.gltf_base.specs.declared.error.Error.TheVariants.{Json, Schema, InvalidItem, Read, Write, Memory, TooLong}
 use Rattle.gltf_root.specs.Answer.{Answer, no_json, tree_answer, answer, IsAnswer, IsReadAnswer, IsReading, IsRefusal}
-use Rattle.gltf_io.specs.Device.{Seen, IsWithin, IsCause, IsReadError, IsReadToEnd}
+use Rattle.gltf_base.specs.Device.{Seen, IsWithin, IsCause, IsReadError, IsReadToEnd}
 use Rattle.gltf_root.specs.Root.{root_kind, root_tree}
 use Rattle.gltf_root.specs.RootDerived.{root_sound}
 use Rattle.gltf_root.specs.declared.root.Root.{Root}

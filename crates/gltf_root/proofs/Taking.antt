@@ -2,7 +2,7 @@
 use Rattle.std.proofs.Common.{◌≡◌, List, ℕ, Option, Result, Ok, Err, IfOk, OnOk, subst}
 use Rattle.std.specs.Io.KnownBytes.{Appends}
 use Rattle.gltf_base.specs.declared.error.Error.{Error}
-use Rattle.gltf_io.specs.Device.{AppendsFront}
+use Rattle.gltf_base.specs.Device.{AppendsFront}
 
 -- the bytes that a writer took are those that were printed
 pub taken : {X : Type 0} (IsText Reads : List ℕ → Type 0) (old new : Option (List ℕ)) (bytes held : List ℕ) (r : Result X Error)

@@ -7,7 +7,7 @@ use Rattle.gltf_schema.specs.Tree.{Tree}
 use Rattle.gltf_schema.specs.Read.{read}
 use Rattle.gltf_base.specs.declared.error.Error.{Error}
 use Rattle.gltf_base.specs.declared.error.Error.TheVariants as errors
-use Rattle.gltf_io.specs.Device.{Seen, IsWithin, IsCause, IsReadError}
+use Rattle.gltf_base.specs.Device.{Seen, IsWithin, IsCause, IsReadError}
 use Rattle.gltf_root.specs.Root.{root_kind, root_tree}
 use Rattle.gltf_root.specs.declared.root.Root.{Root}
 

@@ -42,4 +42,5 @@ pub use tabled::Tabled;
 pub use text::read_text;
 pub use tokens::Tokens;
 pub use unlisted::{DroppedExtensions, KeptExtensions, Unlisted};
+pub use whole::whole_in;
 pub use writing::{WriteRows, Writing};

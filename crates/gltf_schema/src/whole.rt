@@ -20,13 +20,13 @@ pub(crate) fn of_token(token: Token<'_>) -> Result<u64, Unread>
     let Token::Number(text) = token else {
         return Err(Unread);
     };
-    parse(text).ok_or(Unread)
+    whole_in(text).ok_or(Unread)
 }
 
-/// The whole number that a token of JSON writes, or `None` if it has a byte that is no digit, or
-/// more than 19 of them.
+/// Returns the whole number that a number of JSON writes by its digits alone, or `None` if it has
+/// another byte, or more than 19 of them.
 #[inline(always)]
-fn parse(text: &str) -> Option<u64>
+pub fn whole_in(text: &str) -> Option<u64>
     ensures { IfSome result (λ n. number_of text.now ≡ Some (unsigned n)) }
 {
     let bytes = text.as_bytes();

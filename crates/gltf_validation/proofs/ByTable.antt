@@ -7,7 +7,7 @@ use Rattle.gltf_base.specs.declared.validation.Checked.TheVariants.{Valid, Inval
 use Rattle.gltf_schema.specs.Tree.{Tree, absent, trees, list}
 use Rattle.gltf_schema.specs.Kind.{Kind}
 use Rattle.gltf_schema.specs.Leaves.{checked_tree}
-use Rattle.gltf_sinks.specs.Report.{From, each_at}
+use Rattle.gltf_validation_rules.specs.Report.{From, each_at}
 use Rattle.gltf_validation_rules.specs.Context.{Context}
 use Rattle.gltf_validation_rules.specs.Faults.{choice_faults, items_reports}
 use Rattle.gltf_validation_rules.specs.Reports.{reports}

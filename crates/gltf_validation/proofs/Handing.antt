@@ -2,9 +2,9 @@
 use Rattle.std.proofs.Common.{◌≡◌, List, [], ◌∷◌, ◌++◌, sym, ◌∙◌, ap, append_assoc}
 use Rattle.gltf_base.specs.Steps.{Step}
 use Rattle.gltf_base.specs.declared.validation.Error.{Error}
-use Rattle.gltf_sinks.specs.Report.{Report, report}
-use Rattle.gltf_sinks.specs.SinkOutcome.{run}
-use Rattle.gltf_sinks.proofs.Walks.{run-append}
+use Rattle.gltf_validation_rules.specs.Report.{Report, report}
+use Rattle.gltf_validation_rules.specs.SinkOutcome.{run}
+use Rattle.gltf_validation_rules.proofs.Walks.{run-append}
 
 -- the sink took those before what is left
 pub record Handing {S : Type 0} (next : S → List Step → Error → S) (old : S) (all left : List Report) (new : S) : Type 0 where

@@ -1,2 +1,17 @@
 pub mod ByTable
 pub mod Handing
+pub mod SameFaults
+pub mod Sinking
+pub mod Pushing
+pub mod FirstReports
+pub mod Reporting
+pub mod Setting
+pub mod Asking
+pub mod TakingBack
+pub mod Indexing
+pub mod ShorterDocuments
+pub mod Stripping
+pub mod StrippedDocuments
+pub mod Replacing
+pub mod HeldAgain
+pub mod Changing

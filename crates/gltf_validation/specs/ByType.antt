@@ -6,7 +6,7 @@ use Rattle.gltf_base.specs.declared.validation.Checked.{Checked}
 use Rattle.gltf_base.specs.declared.validation.Checked.TheVariants as checked
 use Rattle.gltf_schema.specs.Tree.{Tree, absent}
 use Rattle.gltf_schema.specs.Kind.{Kind, ListOf}
-use Rattle.gltf_sinks.specs.Report.{report, From, each_at}
+use Rattle.gltf_validation_rules.specs.Report.{report, From, each_at}
 use Rattle.gltf_validation_rules.specs.Context.{Context}
 use Rattle.gltf_validation_rules.specs.Reports.{reports}
 

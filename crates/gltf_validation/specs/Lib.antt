@@ -1,1 +1,12 @@
 pub mod ByType
+pub mod NoItems
+pub mod Clean
+pub mod Held
+pub mod Indexing
+pub mod FirstReport
+pub mod Reported
+pub mod Replaced
+pub mod Set
+pub mod TakenBack
+pub mod Changes
+pub mod ErrorText

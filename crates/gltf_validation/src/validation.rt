@@ -4,15 +4,14 @@ ghost use Rattle.std.specs.Prelude.{◌≡◌, ℕ, Option, None};
 ghost use Rattle.gltf_schema.specs.Tree.{Tree, absent};
 ghost use Rattle.gltf_validation_rules.specs.Context.{Context, rules_of, standard_rules, under};
 ghost use Rattle.gltf_schema.specs.Kind.{Kind};
-ghost use Rattle.gltf_sinks.specs.Report.{From};
+ghost use Rattle.gltf_validation_rules.specs.Report.{From};
 ghost use Rattle.gltf_root.specs.Root.{root_tree};
-ghost use Rattle.gltf_sinks.specs.SinkOutcome.{Walked};
+ghost use Rattle.gltf_validation_rules.specs.SinkOutcome.{Walked};
 ghost use Rattle.gltf_validation.specs.ByType.{reports_by, no_reports};
 
 use gltf_base::Steps;
 use gltf_root::root::Root;
-use gltf_sinks::{Sink, Stop};
-use gltf_validation_rules::Rules;
+use gltf_validation_rules::{Rules, Sink, Stop};
 
 mod choices;
 mod composed;

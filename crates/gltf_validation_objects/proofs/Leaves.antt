@@ -1,10 +1,10 @@
--- What was found at a place is a leaf of its outline.
+-- What was found at a place is a leaf of its checklist.
 use Rattle.std.proofs.Common.{◌≡◌, List, [], ◌∷◌, ◌++◌, Option, Some, None, refl, sym, ◌∙◌, ap}
 use Rattle.gltf_base.specs.Steps.{Step}
 use Rattle.gltf_base.specs.declared.validation.Error.{Error}
 use Rattle.std.specs.Option.{is_some}
 use Rattle.gltf_schema.specs.Tree.{Tree, invalid}
-use Rattle.gltf_sinks.specs.Report.{From, found_at, report}
+use Rattle.gltf_validation_rules.specs.Report.{From, found_at, report}
 use Rattle.gltf_base.specs.Semantics.{checked_key}
 use Rattle.gltf_base.specs.Spelling.{Spelling, by_number}
 use Rattle.gltf_base.specs.declared.mesh.Semantic.{Semantic}
@@ -13,8 +13,8 @@ use Rattle.gltf_base.specs.declared.validation.Checked.{Checked}
 use Rattle.gltf_base.specs.declared.validation.Checked.TheVariants.{Valid, Invalid}
 use Rattle.gltf_schema.specs.Leaves.{checked_tree}
 use Rattle.gltf_validation_rules.specs.Faults.{choice_faults, key_faults}
-use Rattle.gltf_validation_objects.specs.Outline.{leaf}
-use Rattle.gltf_validation_objects.specs.OutlineOf.{leaf_of, fault_of_reports}
+use Rattle.gltf_validation_objects.specs.Checklist.{leaf}
+use Rattle.gltf_validation_objects.specs.ChecklistOf.{leaf_of, fault_of_reports}
 use Rattle.gltf_validation_objects.specs.References.{invalid_if}
 
 pub found_leaf : (f : From) (e : Option Error) (s : Step) → ((base : List Step) → found_at e (base ++ s ∷ []) ≡ f base) → leaf e ≡ leaf_of f

@@ -1,4 +1,4 @@
 pub mod Past
 pub mod Leaves
 pub mod Items
-pub mod QuietOutlines
+pub mod QuietChecklists

@@ -1,14 +1,14 @@
--- Past its last move an outline is over.
+-- Past its last move a checklist is over.
 use Rattle.std.proofs.Common.{◌≡◌, ℕ, zero, suc, ◌+◌, ◌≤◌, List, [], ◌∷◌, length, Option, Some, None, refl, arith}
 use Rattle.gltf_base.specs.declared.validation.Error.{Error}
-use Rattle.gltf_validation_objects.specs.Outline.{Outlines, place, nothing, below, fault_list, move_at, over}
+use Rattle.gltf_validation_objects.specs.Checklist.{Checklists, place, nothing, below, fault_list, move_at, over}
 
--- how many steps down an outline has
-abbrev pub counts : Outlines → ℕ
+-- how many steps down a checklist has
+abbrev pub counts : Checklists → ℕ
 counts nothing = 0
 counts (below s p ps) = suc (counts ps)
 
-pub past : (ps : Outlines) (es : List Error) (n : ℕ) → counts ps + length es ≤ n → over ≡ move_at (place ps es) n
+pub past : (ps : Checklists) (es : List Error) (n : ℕ) → counts ps + length es ≤ n → over ≡ move_at (place ps es) n
 past nothing [] zero l = refl
 past nothing [] (suc n) l = past nothing [] n (omega arith)
 past nothing (e ∷ es) zero l = absurd (omega arith)

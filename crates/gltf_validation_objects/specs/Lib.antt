@@ -1,5 +1,5 @@
-pub mod Outline
-pub mod OutlineOf
+pub mod Checklist
+pub mod ChecklistOf
 pub mod MemberNames
 pub mod References
 pub mod ValueRefs

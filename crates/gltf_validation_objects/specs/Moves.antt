@@ -2,8 +2,8 @@
 use Rattle.std.specs.Prelude.{◌≡◌, ⊤, true, false}
 use Rattle.gltf_base.specs.Steps.{step_of}
 use Rattle.gltf_validation_rules.specs.Context.{Context}
-use Rattle.gltf_validation_objects.specs.ValueRefs.{outline_of}
-use Rattle.gltf_validation_objects.specs.Outline.{Move, down, fault, over, quiet}
+use Rattle.gltf_validation_objects.specs.ValueRefs.{checklist_of}
+use Rattle.gltf_validation_objects.specs.Checklist.{Move, down, fault, over, quiet}
 use Rattle.gltf_validation_objects.specs.declared.look.Look.{Look}
 use Rattle.gltf_validation_objects.specs.declared.look.Look.TheVariants as look
 use Rattle.gltf_validation_objects.specs.declared.event.Event.{Event}
@@ -11,7 +11,7 @@ use Rattle.gltf_validation_objects.specs.declared.event.Event.TheVariants as eve
 
 -- the move of an event
 abbrev pub move_of : Context → Event → Move
-move_of context (event.Enter s q) = down (step_of s) (outline_of context q)
+move_of context (event.Enter s q) = down (step_of s) (checklist_of context q)
 move_of context (event.Fault e) = fault e
 move_of context event.End = over
 

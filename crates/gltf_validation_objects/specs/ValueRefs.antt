@@ -16,72 +16,72 @@ use Rattle.gltf_scene.specs.Scene.{node_extensions, node_extensions_kind, node_k
 use Rattle.gltf_schema.specs.Fields.{attributes_tree, closed_object, index_tree, list_tree, text_tree}
 use Rattle.gltf_schema.specs.Kind.{Attributes, IndexInto, ListOf}
 use Rattle.gltf_schema.specs.Tree.{absent, items_in}
-use Rattle.gltf_validation_objects.specs.Outline.{Outline, leaf, place}
-use Rattle.gltf_validation_objects.specs.OutlineOf.{at_positions, entry_outline, faults_outline, item_outlines, name_outline, outline}
-use Rattle.gltf_validation_objects.specs.References.{extensions_outline, material_outline, one_texture, reference_outline, two_textures}
+use Rattle.gltf_validation_objects.specs.Checklist.{Checklist, leaf, place}
+use Rattle.gltf_validation_objects.specs.ChecklistOf.{at_positions, checklist, entry_checklist, faults_checklist, item_checklists, name_checklist}
+use Rattle.gltf_validation_objects.specs.References.{extensions_checklist, material_checklist, one_texture, reference_checklist, two_textures}
 use Rattle.gltf_validation_rules.specs.Context.{Context}
 use Rattle.std.specs.Prelude.{Bool, None, Some, [], false, true, ⊤}
 use Rattle.gltf_validation_objects.specs.declared.value_ref.ValueRef.{ValueRef}
 use Rattle.gltf_validation_objects.specs.declared.value_ref.ValueRef.TheVariants as value_ref
 
--- the outline of a value, in a context
-abbrev pub outline_of : Context → ValueRef → Outline
-outline_of context (value_ref.Leaf e) = leaf e
-outline_of context (value_ref.RequiredExtensions xs) = place (item_outlines (name_outline context.rules.enabled) 0 (items_in (list_tree text_tree xs.now.items))) []
-outline_of context (value_ref.RequiredExtension x) = name_outline context.rules.enabled (text_tree x.now)
-outline_of context (value_ref.Channels a) = outline (ListOf animation_channel_kind) (list_tree (λ x. closed_object (animation_channel_members x)) a.now.channels.items) context (closed_object (animation_members a.now))
-outline_of context (value_ref.Channel x a) = outline animation_channel_kind (closed_object (animation_channel_members x.now)) context (closed_object (animation_members a.now))
-outline_of context (value_ref.Material (Some m) e) = material_outline context m (material_extensions e.now)
-outline_of context (value_ref.Material None e) = extensions_outline context (material_extensions e.now)
-outline_of context (value_ref.PlainMaterial m) = material_outline context m absent
-outline_of context (value_ref.TextureReference s) = reference_outline s
-outline_of context (value_ref.OneTexture s n) = one_texture s n
-outline_of context (value_ref.TwoTextures s r n m) = two_textures s r n m
-outline_of context (value_ref.Attributes m) = outline (Attributes ListName.accessors) (attributes_tree m.now) context absent
-outline_of context (value_ref.Attribute k i) = entry_outline k i
-outline_of context (value_ref.AtPositions f) = at_positions (faults_outline f)
-outline_of context (value_ref.Positions f) = faults_outline f
-outline_of context (value_ref.NodeIndexes xs) = outline (ListOf (IndexInto ListName.nodes)) (list_tree index_tree xs.now.items) context absent
-outline_of context (value_ref.SparseIndices x) = outline sparse_indices_kind (closed_object (sparse_indices_members x.now)) context absent
-outline_of context (value_ref.SparseValues x) = outline sparse_values_kind (closed_object (sparse_values_members x.now)) context absent
-outline_of context (value_ref.Sparse x) = outline sparse_kind (closed_object (sparse_members x.now)) context absent
-outline_of context (value_ref.Accessors xs) = outline (ListOf accessor_kind) (list_tree (λ x. closed_object (accessor_members x)) xs.now.items) context absent
-outline_of context (value_ref.Accessor x) = outline accessor_kind (closed_object (accessor_members x.now)) context absent
-outline_of context (value_ref.Views xs) = outline (ListOf view_kind) (list_tree (λ x. closed_object (view_members x)) xs.now.items) context absent
-outline_of context (value_ref.View x) = outline view_kind (closed_object (view_members x.now)) context absent
-outline_of context (value_ref.Images xs) = outline (ListOf image_kind) (list_tree (λ x. closed_object (image_members x)) xs.now.items) context absent
-outline_of context (value_ref.Image x) = outline image_kind (closed_object (image_members x.now)) context absent
-outline_of context (value_ref.Materials xs) = outline (ListOf material_kind) (list_tree (λ x. closed_object (material_members x)) xs.now.items) context absent
-outline_of context (value_ref.Samplers xs) = outline (ListOf sampler_kind) (list_tree (λ x. closed_object (sampler_members x)) xs.now.items) context absent
-outline_of context (value_ref.Sampler x) = outline sampler_kind (closed_object (sampler_members x.now)) context absent
-outline_of context (value_ref.Textures xs) = outline (ListOf texture_kind) (list_tree (λ x. closed_object (texture_members x)) xs.now.items) context absent
-outline_of context (value_ref.Texture x) = outline texture_kind (closed_object (texture_members x.now)) context absent
-outline_of context (value_ref.Root x) = outline root_kind (root_tree x.now) context absent
-outline_of context (value_ref.RootLights x) = outline lights_kind (closed_object (lights_members x.now)) context absent
-outline_of context (value_ref.RootExtensions x) = outline root_extensions_kind (root_extensions x.now) context absent
-outline_of context (value_ref.AnimationSamplers xs) = outline (ListOf animation_sampler_kind) (list_tree (λ x. closed_object (animation_sampler_members x)) xs.now.items) context absent
-outline_of context (value_ref.AnimationSampler x) = outline animation_sampler_kind (closed_object (animation_sampler_members x.now)) context absent
-outline_of context (value_ref.AnimationTarget x) = outline animation_target_kind (closed_object (animation_target_members x.now)) context absent
-outline_of context (value_ref.Animations xs) = outline (ListOf animation_kind) (list_tree (λ x. closed_object (animation_members x)) xs.now.items) context absent
-outline_of context (value_ref.Animation x) = outline animation_kind (closed_object (animation_members x.now)) context absent
-outline_of context (value_ref.Cameras xs) = outline (ListOf camera_kind) (list_tree (λ x. closed_object (camera_members x)) xs.now.items) context absent
-outline_of context (value_ref.Camera x) = outline camera_kind (closed_object (camera_members x.now)) context absent
-outline_of context (value_ref.NodeLight x) = outline light_of_node_kind (closed_object (light_of_node_members x.now)) context absent
-outline_of context (value_ref.Lights xs) = outline (ListOf light_kind) (list_tree (λ x. closed_object (light_members x)) xs.now.items) context absent
-outline_of context (value_ref.Light x) = outline light_kind (closed_object (light_members x.now)) context absent
-outline_of context (value_ref.MorphTargets xs) = outline (ListOf morph_target_kind) (list_tree (λ x. closed_object (morph_target_members x)) xs.now.items) context absent
-outline_of context (value_ref.MorphTarget x) = outline morph_target_kind (closed_object (morph_target_members x.now)) context absent
-outline_of context (value_ref.Primitives xs) = outline (ListOf primitive_kind) (list_tree (λ x. closed_object (primitive_members x)) xs.now.items) context absent
-outline_of context (value_ref.Primitive x) = outline primitive_kind (closed_object (primitive_members x.now)) context absent
-outline_of context (value_ref.Meshes xs) = outline (ListOf mesh_kind) (list_tree (λ x. closed_object (mesh_members x)) xs.now.items) context absent
-outline_of context (value_ref.Mesh x) = outline mesh_kind (closed_object (mesh_members x.now)) context absent
-outline_of context (value_ref.NodeExtensions x) = outline node_extensions_kind (node_extensions x.now) context absent
-outline_of context (value_ref.Nodes xs) = outline (ListOf node_kind) (list_tree (λ x. closed_object (node_members x)) xs.now.items) context absent
-outline_of context (value_ref.Node x) = outline node_kind (closed_object (node_members x.now)) context absent
-outline_of context (value_ref.Scenes xs) = outline (ListOf scene_kind) (list_tree (λ x. closed_object (scene_members x)) xs.now.items) context absent
-outline_of context (value_ref.Scene x) = outline scene_kind (closed_object (scene_members x.now)) context absent
-outline_of context (value_ref.Skins xs) = outline (ListOf skin_kind) (list_tree (λ x. closed_object (skin_members x)) xs.now.items) context absent
-outline_of context (value_ref.Skin x) = outline skin_kind (closed_object (skin_members x.now)) context absent
+-- the checklist of a value, in a context
+abbrev pub checklist_of : Context → ValueRef → Checklist
+checklist_of context (value_ref.Leaf e) = leaf e
+checklist_of context (value_ref.RequiredExtensions xs) = place (item_checklists (name_checklist context.rules.enabled) 0 (items_in (list_tree text_tree xs.now.items))) []
+checklist_of context (value_ref.RequiredExtension x) = name_checklist context.rules.enabled (text_tree x.now)
+checklist_of context (value_ref.Channels a) = checklist (ListOf animation_channel_kind) (list_tree (λ x. closed_object (animation_channel_members x)) a.now.channels.items) context (closed_object (animation_members a.now))
+checklist_of context (value_ref.Channel x a) = checklist animation_channel_kind (closed_object (animation_channel_members x.now)) context (closed_object (animation_members a.now))
+checklist_of context (value_ref.Material (Some m) e) = material_checklist context m (material_extensions e.now)
+checklist_of context (value_ref.Material None e) = extensions_checklist context (material_extensions e.now)
+checklist_of context (value_ref.PlainMaterial m) = material_checklist context m absent
+checklist_of context (value_ref.TextureReference s) = reference_checklist s
+checklist_of context (value_ref.OneTexture s n) = one_texture s n
+checklist_of context (value_ref.TwoTextures s r n m) = two_textures s r n m
+checklist_of context (value_ref.Attributes m) = checklist (Attributes ListName.accessors) (attributes_tree m.now) context absent
+checklist_of context (value_ref.Attribute k i) = entry_checklist k i
+checklist_of context (value_ref.AtPositions f) = at_positions (faults_checklist f)
+checklist_of context (value_ref.Positions f) = faults_checklist f
+checklist_of context (value_ref.NodeIndexes xs) = checklist (ListOf (IndexInto ListName.nodes)) (list_tree index_tree xs.now.items) context absent
+checklist_of context (value_ref.SparseIndices x) = checklist sparse_indices_kind (closed_object (sparse_indices_members x.now)) context absent
+checklist_of context (value_ref.SparseValues x) = checklist sparse_values_kind (closed_object (sparse_values_members x.now)) context absent
+checklist_of context (value_ref.Sparse x) = checklist sparse_kind (closed_object (sparse_members x.now)) context absent
+checklist_of context (value_ref.Accessors xs) = checklist (ListOf accessor_kind) (list_tree (λ x. closed_object (accessor_members x)) xs.now.items) context absent
+checklist_of context (value_ref.Accessor x) = checklist accessor_kind (closed_object (accessor_members x.now)) context absent
+checklist_of context (value_ref.Views xs) = checklist (ListOf view_kind) (list_tree (λ x. closed_object (view_members x)) xs.now.items) context absent
+checklist_of context (value_ref.View x) = checklist view_kind (closed_object (view_members x.now)) context absent
+checklist_of context (value_ref.Images xs) = checklist (ListOf image_kind) (list_tree (λ x. closed_object (image_members x)) xs.now.items) context absent
+checklist_of context (value_ref.Image x) = checklist image_kind (closed_object (image_members x.now)) context absent
+checklist_of context (value_ref.Materials xs) = checklist (ListOf material_kind) (list_tree (λ x. closed_object (material_members x)) xs.now.items) context absent
+checklist_of context (value_ref.Samplers xs) = checklist (ListOf sampler_kind) (list_tree (λ x. closed_object (sampler_members x)) xs.now.items) context absent
+checklist_of context (value_ref.Sampler x) = checklist sampler_kind (closed_object (sampler_members x.now)) context absent
+checklist_of context (value_ref.Textures xs) = checklist (ListOf texture_kind) (list_tree (λ x. closed_object (texture_members x)) xs.now.items) context absent
+checklist_of context (value_ref.Texture x) = checklist texture_kind (closed_object (texture_members x.now)) context absent
+checklist_of context (value_ref.Root x) = checklist root_kind (root_tree x.now) context absent
+checklist_of context (value_ref.RootLights x) = checklist lights_kind (closed_object (lights_members x.now)) context absent
+checklist_of context (value_ref.RootExtensions x) = checklist root_extensions_kind (root_extensions x.now) context absent
+checklist_of context (value_ref.AnimationSamplers xs) = checklist (ListOf animation_sampler_kind) (list_tree (λ x. closed_object (animation_sampler_members x)) xs.now.items) context absent
+checklist_of context (value_ref.AnimationSampler x) = checklist animation_sampler_kind (closed_object (animation_sampler_members x.now)) context absent
+checklist_of context (value_ref.AnimationTarget x) = checklist animation_target_kind (closed_object (animation_target_members x.now)) context absent
+checklist_of context (value_ref.Animations xs) = checklist (ListOf animation_kind) (list_tree (λ x. closed_object (animation_members x)) xs.now.items) context absent
+checklist_of context (value_ref.Animation x) = checklist animation_kind (closed_object (animation_members x.now)) context absent
+checklist_of context (value_ref.Cameras xs) = checklist (ListOf camera_kind) (list_tree (λ x. closed_object (camera_members x)) xs.now.items) context absent
+checklist_of context (value_ref.Camera x) = checklist camera_kind (closed_object (camera_members x.now)) context absent
+checklist_of context (value_ref.NodeLight x) = checklist light_of_node_kind (closed_object (light_of_node_members x.now)) context absent
+checklist_of context (value_ref.Lights xs) = checklist (ListOf light_kind) (list_tree (λ x. closed_object (light_members x)) xs.now.items) context absent
+checklist_of context (value_ref.Light x) = checklist light_kind (closed_object (light_members x.now)) context absent
+checklist_of context (value_ref.MorphTargets xs) = checklist (ListOf morph_target_kind) (list_tree (λ x. closed_object (morph_target_members x)) xs.now.items) context absent
+checklist_of context (value_ref.MorphTarget x) = checklist morph_target_kind (closed_object (morph_target_members x.now)) context absent
+checklist_of context (value_ref.Primitives xs) = checklist (ListOf primitive_kind) (list_tree (λ x. closed_object (primitive_members x)) xs.now.items) context absent
+checklist_of context (value_ref.Primitive x) = checklist primitive_kind (closed_object (primitive_members x.now)) context absent
+checklist_of context (value_ref.Meshes xs) = checklist (ListOf mesh_kind) (list_tree (λ x. closed_object (mesh_members x)) xs.now.items) context absent
+checklist_of context (value_ref.Mesh x) = checklist mesh_kind (closed_object (mesh_members x.now)) context absent
+checklist_of context (value_ref.NodeExtensions x) = checklist node_extensions_kind (node_extensions x.now) context absent
+checklist_of context (value_ref.Nodes xs) = checklist (ListOf node_kind) (list_tree (λ x. closed_object (node_members x)) xs.now.items) context absent
+checklist_of context (value_ref.Node x) = checklist node_kind (closed_object (node_members x.now)) context absent
+checklist_of context (value_ref.Scenes xs) = checklist (ListOf scene_kind) (list_tree (λ x. closed_object (scene_members x)) xs.now.items) context absent
+checklist_of context (value_ref.Scene x) = checklist scene_kind (closed_object (scene_members x.now)) context absent
+checklist_of context (value_ref.Skins xs) = checklist (ListOf skin_kind) (list_tree (λ x. closed_object (skin_members x)) xs.now.items) context absent
+checklist_of context (value_ref.Skin x) = checklist skin_kind (closed_object (skin_members x.now)) context absent
 
 -- a value whose moves are numbered; attributes are gone through by their keys
 abbrev pub IsNumbered : ValueRef → Type 0

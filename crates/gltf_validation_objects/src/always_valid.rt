@@ -10,8 +10,8 @@ ghost use Rattle.gltf_schema.specs.Kind.{Kind, U32, U64, Number, Numbers, Text, 
 ghost use Rattle.gltf_schema.specs.Fields.{size_tree, real_tree, reals_tree, text_tree, any_tree, kept_tree, dropped_tree};
 ghost use Rattle.gltf_schema.specs.Extensions.{kept_extensions, dropped_extensions};
 ghost use Rattle.gltf_validation_rules.specs.Context.{Context as SpecContext};
-ghost use Rattle.gltf_validation_objects.specs.Outline.{leaf};
-ghost use Rattle.gltf_validation_objects.specs.OutlineOf.{outline};
+ghost use Rattle.gltf_validation_objects.specs.Checklist.{leaf};
+ghost use Rattle.gltf_validation_objects.specs.ChecklistOf.{checklist};
 
 use crate::value_ref::ValueRef;
 use crate::visitable::Visitable;
@@ -34,9 +34,9 @@ pub trait AlwaysValid {
     /// The value as the table sees it.
     ghost tree: { Self → Tree } = { λ _. absent };
 
-    // The outline is a leaf without a fault.
-    ghost outline_is_quiet: { (x : Self) (context : SpecContext)
-        → outline kind (tree x) context absent ≡ leaf None };
+    // The checklist is a leaf without a fault.
+    ghost quiet_checklist: { (x : Self) (context : SpecContext)
+        → checklist kind (tree x) context absent ≡ leaf None };
 }
 
 impl<T: AlwaysValid> Visitable for T {
@@ -50,7 +50,7 @@ impl<T: AlwaysValid> Visitable for T {
 }
 
 impl AlwaysValid for () {
-    ghost outline_is_quiet = { λ _ _. refl };
+    ghost quiet_checklist = { λ _ _. refl };
 }
 
 impl AlwaysValid for bool {
@@ -58,7 +58,7 @@ impl AlwaysValid for bool {
 
     ghost tree = { truth };
 
-    ghost outline_is_quiet = { λ _ _. refl };
+    ghost quiet_checklist = { λ _ _. refl };
 }
 
 impl AlwaysValid for u32 {
@@ -66,15 +66,15 @@ impl AlwaysValid for u32 {
 
     ghost tree = { whole };
 
-    ghost outline_is_quiet = { λ _ _. refl };
+    ghost quiet_checklist = { λ _ _. refl };
 }
 
 impl AlwaysValid for i32 {
-    ghost outline_is_quiet = { λ _ _. refl };
+    ghost quiet_checklist = { λ _ _. refl };
 }
 
 impl AlwaysValid for Void {
-    ghost outline_is_quiet = { λ _ _. refl };
+    ghost quiet_checklist = { λ _ _. refl };
 }
 
 impl AlwaysValid for Real {
@@ -82,7 +82,7 @@ impl AlwaysValid for Real {
 
     ghost tree = { real_tree };
 
-    ghost outline_is_quiet = { λ _ _. refl };
+    ghost quiet_checklist = { λ _ _. refl };
 }
 
 impl<const N: usize> AlwaysValid for [Real; N] {
@@ -90,7 +90,7 @@ impl<const N: usize> AlwaysValid for [Real; N] {
 
     ghost tree = { reals_tree };
 
-    ghost outline_is_quiet = { λ _ _. refl };
+    ghost quiet_checklist = { λ _ _. refl };
 }
 
 /// No size is too large, because `usize` has 64 bits.
@@ -99,7 +99,7 @@ impl AlwaysValid for USize64 {
 
     ghost tree = { size_tree };
 
-    ghost outline_is_quiet = { λ _ _. refl };
+    ghost quiet_checklist = { λ _ _. refl };
 }
 
 impl AlwaysValid for String {
@@ -107,7 +107,7 @@ impl AlwaysValid for String {
 
     ghost tree = { text_tree };
 
-    ghost outline_is_quiet = { λ _ _. refl };
+    ghost quiet_checklist = { λ _ _. refl };
 }
 
 impl AlwaysValid for Value {
@@ -115,7 +115,7 @@ impl AlwaysValid for Value {
 
     ghost tree = { any_tree };
 
-    ghost outline_is_quiet = { λ _ _. refl };
+    ghost quiet_checklist = { λ _ _. refl };
 }
 
 /// The table has no rule for unknown extensions.
@@ -124,7 +124,7 @@ impl AlwaysValid for KeptExtensions {
 
     ghost tree = { kept_tree };
 
-    ghost outline_is_quiet = { λ _ _. refl };
+    ghost quiet_checklist = { λ _ _. refl };
 }
 
 impl AlwaysValid for DroppedExtensions {
@@ -132,7 +132,7 @@ impl AlwaysValid for DroppedExtensions {
 
     ghost tree = { dropped_tree };
 
-    ghost outline_is_quiet = { λ _ _. refl };
+    ghost quiet_checklist = { λ _ _. refl };
 }
 
 impl AlwaysValid for MimeType {
@@ -140,7 +140,7 @@ impl AlwaysValid for MimeType {
 
     ghost tree = { mime_type_tree };
 
-    ghost outline_is_quiet = { λ _ _. refl };
+    ghost quiet_checklist = { λ _ _. refl };
 }
 
 impl AlwaysValid for AlphaCutoff {
@@ -148,7 +148,7 @@ impl AlwaysValid for AlphaCutoff {
 
     ghost tree = { alpha_cutoff_tree };
 
-    ghost outline_is_quiet = { λ _ _. refl };
+    ghost quiet_checklist = { λ _ _. refl };
 }
 
 impl AlwaysValid for UnitQuaternion {
@@ -156,7 +156,7 @@ impl AlwaysValid for UnitQuaternion {
 
     ghost tree = { unit_quaternion_tree };
 
-    ghost outline_is_quiet = { λ _ _. refl };
+    ghost quiet_checklist = { λ _ _. refl };
 }
 
 /// It has no members.
@@ -165,5 +165,5 @@ impl AlwaysValid for Unlit {
 
     ghost tree = { unlit_tree };
 
-    ghost outline_is_quiet = { λ _ _. refl };
+    ghost quiet_checklist = { λ _ _. refl };
 }

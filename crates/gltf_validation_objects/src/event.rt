@@ -4,11 +4,11 @@ ghost use Rattle.std.specs.Prelude.{◌≡◌};
 ghost use Rattle.gltf_base.specs.Steps.{field, item as at_number, step_of};
 ghost use Rattle.gltf_schema.specs.Tree.{absent};
 ghost use Rattle.gltf_validation_rules.specs.Context.{Context as SpecContext};
-ghost use Rattle.gltf_validation_objects.specs.ValueRefs.{outline_of};
-ghost use Rattle.gltf_validation_objects.specs.Outline.{Move, down, first_move, leaf, over, quiet};
-ghost use Rattle.gltf_validation_objects.specs.OutlineOf.{outline};
+ghost use Rattle.gltf_validation_objects.specs.ValueRefs.{checklist_of};
+ghost use Rattle.gltf_validation_objects.specs.Checklist.{Move, down, first_move, leaf, over, quiet};
+ghost use Rattle.gltf_validation_objects.specs.ChecklistOf.{checklist};
 ghost use Rattle.gltf_validation_objects.specs.Moves.{IsGiven, IsMore};
-ghost use Rattle.gltf_validation_objects.specs.References.{reference_outline};
+ghost use Rattle.gltf_validation_objects.specs.References.{reference_checklist};
 
 use crate::quiet::Quiet;
 use crate::references::ReferenceState;
@@ -32,7 +32,7 @@ pub enum Event<'a> {
 /// [`Look`](crate::look::Look). Code that is generic over this trait doesn't name the values of a
 /// whole document, so its proofs stay small.
 pub trait EventBuilder<'a>: Sized {
-    /// The result describes a move of an outline, in a context. Each call promises it of every move
+    /// The result describes a move of a checklist, in a context. Each call promises it of every move
     /// that is equal to its own, which is the form that proofs of `event` use.
     ghost describes_move: { SpecContext → Move → Self → Type 0 };
 
@@ -40,13 +40,13 @@ pub trait EventBuilder<'a>: Sized {
 
     /// A member of an object.
     fn member<T: Quiet, C: HasContext>(name: &'static str, value: &'a T, context: &C) -> Self
-        ensures { (move : Move) → down (field name.now) (outline T.kind (T.tree value.now)
+        ensures { (move : Move) → down (field name.now) (checklist T.kind (T.tree value.now)
             (C.context context.now) absent) ≡ move
             → describes_move (C.context context.now) move result };
 
     /// An item of a list.
     fn item<T: Quiet, C: HasContext>(number: usize, value: &'a T, context: &C) -> Self
-        ensures { (move : Move) → down (at_number number) (outline T.kind (T.tree value.now)
+        ensures { (move : Move) → down (at_number number) (checklist T.kind (T.tree value.now)
             (C.context context.now) absent) ≡ move
             → describes_move (C.context context.now) move result };
 
@@ -62,7 +62,7 @@ pub trait EventBuilder<'a>: Sized {
 
     /// A member of an object that is a reference to a texture.
     fn reference_at(name: &'static str, state: ReferenceState) -> Self
-        ensures { (context : _) (move : Move) → down (field name.now) (reference_outline state)
+        ensures { (context : _) (move : Move) → down (field name.now) (reference_checklist state)
             ≡ move → describes_move context move result };
 
     /// A step down to a value, of which the caller says whether it is quiet.
@@ -72,9 +72,9 @@ pub trait EventBuilder<'a>: Sized {
         is_quiet: bool,
         context: &C,
     ) -> Self
-        requires { is_quiet ≡ quiet (outline_of (C.context context.now) value) }
+        requires { is_quiet ≡ quiet (checklist_of (C.context context.now) value) }
         ensures { (move : Move)
-            → down (step_of step.entry) (outline_of (C.context context.now) value.entry) ≡ move
+            → down (step_of step.entry) (checklist_of (C.context context.now) value.entry) ≡ move
             → describes_move (C.context context.now) move result };
 
     /// Nothing more.

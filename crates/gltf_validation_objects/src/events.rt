@@ -2,8 +2,8 @@
 
 ghost use Rattle.std.specs.Prelude.{◌≡◌, ◌+◌, ◌<◌, ◌^◌};
 ghost use Rattle.gltf_schema.specs.Tree.{absent};
-ghost use Rattle.gltf_validation_objects.specs.Outline.{move_at};
-ghost use Rattle.gltf_validation_objects.specs.OutlineOf.{outline};
+ghost use Rattle.gltf_validation_objects.specs.Checklist.{move_at};
+ghost use Rattle.gltf_validation_objects.specs.ChecklistOf.{checklist};
 
 use crate::event::EventBuilder;
 use crate::visitable::Visitable;
@@ -15,7 +15,7 @@ pub trait Events<'a, E: EventBuilder<'a>>: Visitable {
     /// the rows, then the places that the object's rule names.
     fn event<C: HasContext>(&'a self, number: usize, context: &C) -> E
         ensures comes { E.describes_move (C.context context.now)
-            (move_at (outline Self.kind (Self.tree self.now) (C.context context.now) absent) number)
+            (move_at (checklist Self.kind (Self.tree self.now) (C.context context.now) absent) number)
             result }
         ensures small { E.is_more result → number + 1 < 2 ^ 64 };
 }

@@ -2,8 +2,8 @@
 
 ghost use Rattle.std.specs.Prelude.{◌≡◌, ◌&&◌};
 ghost use Rattle.gltf_validation_rules.specs.Context.{Context as SpecContext};
-ghost use Rattle.gltf_validation_objects.specs.ValueRefs.{is_found, outline_of};
-ghost use Rattle.gltf_validation_objects.specs.Outline.{quiet};
+ghost use Rattle.gltf_validation_objects.specs.ValueRefs.{is_found, checklist_of};
+ghost use Rattle.gltf_validation_objects.specs.Checklist.{quiet};
 
 use crate::lists::are_positions_quiet;
 use crate::value_ref::ValueRef;
@@ -12,7 +12,7 @@ impl<'a> ValueRef<'a> {
     /// Whether this is a value that holds all its faults, and holds none.
     pub fn has_no_fault(&self) -> bool
         ensures { (context : SpecContext)
-            → result ≡ is_found self.now && quiet (outline_of context self.now) }
+            → result ≡ is_found self.now && quiet (checklist_of context self.now) }
     {
         match self {
             ValueRef::Leaf(fault) => fault.is_none(),

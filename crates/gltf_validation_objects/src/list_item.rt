@@ -6,8 +6,8 @@ ghost use Rattle.gltf_schema.specs.Fields.{index_tree, list_tree};
 ghost use Rattle.gltf_schema.specs.Kind.{IndexInto, ListOf};
 ghost use Rattle.gltf_schema.specs.Tree.{absent};
 ghost use Rattle.gltf_validation_rules.specs.Context.{Context as SpecContext};
-ghost use Rattle.gltf_validation_objects.specs.ValueRefs.{outline_of};
-ghost use Rattle.gltf_validation_objects.specs.OutlineOf.{outline};
+ghost use Rattle.gltf_validation_objects.specs.ValueRefs.{checklist_of};
+ghost use Rattle.gltf_validation_objects.specs.ChecklistOf.{checklist};
 
 use crate::quiet::{Quiet, are_quiet};
 use crate::value_ref::ValueRef;
@@ -20,8 +20,8 @@ use gltf_validation_rules::{Context, HasContext};
 pub trait ListItem: Quiet {
     /// A list as a borrowed value of a document.
     fn list_ref<'a>(items: &'a Vec<Self>) -> ValueRef<'a>
-        ensures { (context : SpecContext) → outline_of context result
-            ≡ outline (ListOf Self.kind) (list_tree Self.tree items.now.items) context absent };
+        ensures { (context : SpecContext) → checklist_of context result
+            ≡ checklist (ListOf Self.kind) (list_tree Self.tree items.now.items) context absent };
 }
 
 impl<T: ListItem> Visitable for Vec<T> {

@@ -8,8 +8,8 @@ ghost use Rattle.gltf_schema.specs.Kind.{ListOf};
 ghost use Rattle.gltf_schema.specs.Tree.{absent, items_in};
 ghost use Rattle.gltf_validation_rules.specs.Context.{context_of};
 ghost use Rattle.gltf_validation_objects.specs.Moves.{IsGiven, IsMore};
-ghost use Rattle.gltf_validation_objects.specs.Outline.{move_at, first_move, leaf, place, quiet, rest_after};
-ghost use Rattle.gltf_validation_objects.specs.OutlineOf.{at_positions, entry_outline, faults_outline, item_outlines, name_outline, outline};
+ghost use Rattle.gltf_validation_objects.specs.Checklist.{move_at, first_move, leaf, place, quiet, rest_after};
+ghost use Rattle.gltf_validation_objects.specs.ChecklistOf.{at_positions, entry_checklist, faults_checklist, item_checklists, name_checklist, checklist};
 
 use crate::event::{Event, EventBuilder};
 use crate::quiet::Quiet;
@@ -37,7 +37,7 @@ pub fn item_at<'a, T: Quiet, E: EventBuilder<'a>, C: HasContext>(
     context: &C,
 ) -> E
     ensures comes { E.describes_move (C.context context.now)
-        (move_at (outline (ListOf T.kind) (list_tree T.tree items.now.items)
+        (move_at (checklist (ListOf T.kind) (list_tree T.tree items.now.items)
         (C.context context.now) absent) number) result }
     ensures small { E.is_more result → number + 1 < 2 ^ 64 }
 {
@@ -54,7 +54,7 @@ pub fn in_attribute<'a, E: EventBuilder<'a>>(
     number: usize,
 ) -> E
     ensures comes { (context : _)
-        → E.describes_move context (move_at (entry_outline key index) number) result }
+        → E.describes_move context (move_at (entry_checklist key index) number) result }
     ensures small { E.is_more result → number + 1 < 2 ^ 64 }
 {
     match (key, index) {
@@ -70,7 +70,7 @@ pub fn in_attribute<'a, E: EventBuilder<'a>>(
 
 /// The channel of an animation at a number.
 pub fn channel_at<'a>(animation: &'a Animation, number: usize) -> Event<'a>
-    ensures comes { (context : _) → IsGiven context (move_at (outline (ListOf animation_channel_kind)
+    ensures comes { (context : _) → IsGiven context (move_at (checklist (ListOf animation_channel_kind)
         (list_tree (λ x. closed_object (animation_channel_members x)) animation.now.channels.items)
         context (closed_object (animation_members animation.now))) number) result }
     ensures small { IsMore result → number + 1 < 2 ^ 64 }
@@ -90,7 +90,7 @@ pub fn in_channel<'a, E: EventBuilder<'a>, C: HasContext>(
     context: &C,
 ) -> E
     ensures comes { E.describes_move (C.context context.now)
-        (move_at (outline animation_channel_kind
+        (move_at (checklist animation_channel_kind
         (closed_object (animation_channel_members channel.now))
         (C.context context.now) (closed_object (animation_members animation.now))) number) result }
     ensures small { E.is_more result → number + 1 < 2 ^ 64 }
@@ -104,7 +104,7 @@ pub fn in_channel<'a, E: EventBuilder<'a>, C: HasContext>(
 
 /// Whether nothing is wrong in the channels of an animation.
 pub(crate) fn are_channels_quiet<C: HasContext>(animation: &Animation, context: &C) -> bool
-    ensures { result ≡ quiet (outline (ListOf animation_channel_kind)
+    ensures { result ≡ quiet (checklist (ListOf animation_channel_kind)
         (list_tree (λ x. closed_object (animation_channel_members x)) animation.now.channels.items)
         (C.context context.now) (closed_object (animation_members animation.now))) }
 {
@@ -123,7 +123,7 @@ pub fn is_channel_quiet<C: HasContext>(
     animation: &Animation,
     context: &C,
 ) -> bool
-    ensures { result ≡ quiet (outline animation_channel_kind
+    ensures { result ≡ quiet (checklist animation_channel_kind
         (closed_object (animation_channel_members channel.now)) (C.context context.now)
         (closed_object (animation_members animation.now))) }
 {
@@ -133,7 +133,7 @@ pub fn is_channel_quiet<C: HasContext>(
 /// The event at a number of the attributes of a primitive, as its rule looks at them.
 pub fn at_attributes<'a>(faults: PositionFaults, number: usize) -> Event<'a>
     ensures comes { (context : _)
-        → IsGiven context (move_at (at_positions (faults_outline faults)) number) result }
+        → IsGiven context (move_at (at_positions (faults_checklist faults)) number) result }
     ensures small { IsMore result → number + 1 < 2 ^ 64 }
 {
     match number {
@@ -146,7 +146,7 @@ pub fn at_attributes<'a>(faults: PositionFaults, number: usize) -> Event<'a>
 /// fault if there are no positions.
 pub fn in_positions<'a, E: EventBuilder<'a>>(faults: PositionFaults, number: usize) -> E
     ensures comes { (context : _)
-        → E.describes_move context (move_at (faults_outline faults) number) result }
+        → E.describes_move context (move_at (faults_checklist faults) number) result }
     ensures small { E.is_more result → number + 1 < 2 ^ 64 }
 {
     match number {
@@ -159,16 +159,16 @@ pub fn in_positions<'a, E: EventBuilder<'a>>(faults: PositionFaults, number: usi
 
 /// Whether nothing is wrong in the positions of a primitive.
 pub(crate) fn are_positions_quiet(faults: PositionFaults) -> bool
-    ensures positions { result ≡ quiet (faults_outline faults) }
-    ensures attributes { result ≡ quiet (at_positions (faults_outline faults)) }
+    ensures positions { result ≡ quiet (faults_checklist faults) }
+    ensures attributes { result ≡ quiet (at_positions (faults_checklist faults)) }
 {
     faults.positions.is_none() && faults.min.is_none() && faults.max.is_none()
 }
 
 /// The required extension at a number.
 pub fn extension_at<'a>(names: &'a Vec<String>, number: usize) -> Event<'a>
-    ensures comes { (context : _) → IsGiven context (move_at (place (item_outlines
-        (name_outline context.rules.enabled) 0 (items_in (list_tree text_tree names.now.items))) [])
+    ensures comes { (context : _) → IsGiven context (move_at (place (item_checklists
+        (name_checklist context.rules.enabled) 0 (items_in (list_tree text_tree names.now.items))) [])
         number) result }
     ensures small { IsMore result → number + 1 < 2 ^ 64 }
 {
@@ -181,7 +181,7 @@ pub fn extension_at<'a>(names: &'a Vec<String>, number: usize) -> Event<'a>
 /// The event at a number of the name of a required extension: the name, as a step.
 pub fn in_extension<'a, C: HasContext>(name: &'a String, number: usize, context: &C) -> Event<'a>
     ensures comes { IsGiven (C.context context.now)
-        (move_at (name_outline (C.context context.now).rules.enabled (text_tree name.now)) number)
+        (move_at (name_checklist (C.context context.now).rules.enabled (text_tree name.now)) number)
         result }
     ensures small { IsMore result → number + 1 < 2 ^ 64 }
 {
@@ -196,7 +196,7 @@ pub fn in_extension<'a, C: HasContext>(name: &'a String, number: usize, context:
 
 /// Whether nothing is wrong with the name of a required extension.
 pub fn is_name_quiet<C: HasContext>(name: &String, context: &C) -> bool
-    ensures { result ≡ quiet (name_outline (C.context context.now).rules.enabled
+    ensures { result ≡ quiet (name_checklist (C.context context.now).rules.enabled
         (text_tree name.now)) }
 {
     extension_fault(context.context().rules, name).is_none()
@@ -204,8 +204,8 @@ pub fn is_name_quiet<C: HasContext>(name: &String, context: &C) -> bool
 
 /// Whether nothing is wrong with the names of the required extensions.
 pub(crate) fn are_names_quiet<C: HasContext>(names: &Vec<String>, context: &C) -> bool
-    ensures { result ≡ quiet (place (item_outlines
-        (name_outline (C.context context.now).rules.enabled) 0
+    ensures { result ≡ quiet (place (item_checklists
+        (name_checklist (C.context context.now).rules.enabled) 0
         (items_in (list_tree text_tree names.now.items))) []) }
 {
     for name in names {

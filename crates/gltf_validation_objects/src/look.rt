@@ -3,7 +3,7 @@
 ghost use Rattle.std.specs.Prelude.{◌≡◌};
 ghost use Rattle.gltf_base.specs.Steps.{Step as SpecStep};
 ghost use Rattle.gltf_validation_objects.specs.Moves.{IsSeen, IsSomething};
-ghost use Rattle.gltf_validation_objects.specs.Outline.{Outline, Move, down, quiet};
+ghost use Rattle.gltf_validation_objects.specs.Checklist.{Checklist, Move, down, quiet};
 
 use crate::event::EventBuilder;
 use crate::quiet::Quiet;
@@ -27,7 +27,7 @@ pub enum Look {
 impl Look {
     /// What a look sees of a step down to a value that is quiet or not.
     fn quiet_if(is_quiet: bool) -> Look
-        ensures { (s : _) (p : Outline) (move : Move) → is_quiet ≡ quiet p → down s p ≡ move
+        ensures { (s : _) (p : Checklist) (move : Move) → is_quiet ≡ quiet p → down s p ≡ move
             → IsSeen move result }
     {
         if is_quiet { Look::Quiet } else { Look::Faulty }

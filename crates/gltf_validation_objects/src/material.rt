@@ -5,10 +5,10 @@ ghost use Rattle.gltf_schema.specs.Fields.{closed_object};
 ghost use Rattle.gltf_schema.specs.Leaves.{checked_tree, choice_of};
 ghost use Rattle.gltf_schema.specs.Tree.{absent, tree_or_absent};
 ghost use Rattle.gltf_validation_rules.specs.Context.{Context as SpecContext, context_of};
-ghost use Rattle.gltf_validation_objects.specs.Outline.{leaf, move_at, quiet};
-ghost use Rattle.gltf_validation_objects.specs.OutlineOf.{outline};
-ghost use Rattle.gltf_validation_objects.specs.References.{extensions_outline, invalid_if, material_outline, parameters_outline};
-ghost use Rattle.gltf_validation_objects.specs.ValueRefs.{outline_of};
+ghost use Rattle.gltf_validation_objects.specs.Checklist.{leaf, move_at, quiet};
+ghost use Rattle.gltf_validation_objects.specs.ChecklistOf.{checklist};
+ghost use Rattle.gltf_validation_objects.specs.References.{extensions_checklist, invalid_if, material_checklist, parameters_checklist};
+ghost use Rattle.gltf_validation_objects.specs.ValueRefs.{checklist_of};
 ghost use Rattle.gltf_validation_objects.specs.declared.value_ref.ValueRef.TheVariants.{Material as material_ref};
 ghost use Rattle.std.specs.Prelude.{◌≡◌, ◌+◌, ◌<◌, ◌^◌};
 
@@ -42,7 +42,7 @@ pub struct MaterialFaults {
 #[tactic(auto, using(crate::proofs::Leaves::found_choice))]
 fn is_invalid<T: Choice>(choice: &Checked<T>) -> bool
     ensures { (context : SpecContext) → leaf (invalid_if result)
-        ≡ outline (choice_of T.form T.spelling T.listed) (checked_tree T.spelling choice.now) context
+        ≡ checklist (choice_of T.form T.spelling T.listed) (checked_tree T.spelling choice.now) context
         absent }
 {
     choice_fault(choice).is_some()
@@ -51,9 +51,9 @@ fn is_invalid<T: Choice>(choice: &Checked<T>) -> bool
 /// What is wrong in the members of a material.
 #[tactic(auto, unfolding(gltf_parts::specs::Material::material_rows, gltf_parts::specs::Texture::info_rows, gltf_parts::specs::MaterialExtension::material_extension_rows, gltf_parts::specs::Material::normal_texture_rows, gltf_parts::specs::Material::occlusion_texture_rows, gltf_parts::specs::Material::pbr_metallic_roughness_rows, gltf_parts::specs::MaterialExtension::pbr_specular_glossiness_rows, gltf_parts::specs::Material::material_members, gltf_parts::specs::Material::pbr_metallic_roughness_members))]
 fn material_faults(material: &Material, context: &Context<'_>) -> MaterialFaults
-    ensures { material_outline (context_of context.now) result
+    ensures { material_checklist (context_of context.now) result
         (tree_or_absent material_extensions material.now.extensions)
-        ≡ outline material_kind (closed_object (material_members material.now))
+        ≡ checklist material_kind (closed_object (material_members material.now))
         (context_of context.now) absent }
 {
     let parameters = &material.pbr_metallic_roughness;
@@ -75,7 +75,7 @@ pub fn at_material<'a, E: EventBuilder<'a>, C: HasContext>(
     context: &C,
 ) -> E
     ensures comes { E.describes_move (C.context context.now)
-        (move_at (outline_of (C.context context.now)
+        (move_at (checklist_of (C.context context.now)
         (material_ref faults extensions.entry)) number) result }
     ensures small { E.is_more result → number + 1 < 2 ^ 64 }
 {
@@ -94,7 +94,7 @@ pub fn in_material<'a, E: EventBuilder<'a>, C: HasContext>(
     context: &C,
 ) -> E
     ensures comes { E.describes_move (C.context context.now) (move_at
-        (material_outline (C.context context.now) faults
+        (material_checklist (C.context context.now) faults
         (tree_or_absent (λ e. material_extensions e.now) extensions.entry)) number) result }
     ensures small { E.is_more result → number + 1 < 2 ^ 64 }
 {
@@ -133,8 +133,8 @@ pub(crate) fn parameters_ref<'a>(
     base_color: ReferenceState,
     metallic_roughness: ReferenceState,
 ) -> ValueRef<'a>
-    ensures { (context : SpecContext) → outline_of context result
-        ≡ parameters_outline base_color metallic_roughness }
+    ensures { (context : SpecContext) → checklist_of context result
+        ≡ parameters_checklist base_color metallic_roughness }
 {
     ValueRef::TwoTextures(
         base_color,
@@ -146,7 +146,7 @@ pub(crate) fn parameters_ref<'a>(
 
 /// Whether nothing is wrong in the parameters of the metallic-roughness model.
 fn are_parameters_quiet(base_color: ReferenceState, metallic_roughness: ReferenceState) -> bool
-    ensures { result ≡ quiet (parameters_outline base_color metallic_roughness) }
+    ensures { result ≡ quiet (parameters_checklist base_color metallic_roughness) }
 {
     base_color.is_quiet() && metallic_roughness.is_quiet()
 }
@@ -157,7 +157,7 @@ pub fn is_material_quiet<C: HasContext>(
     extensions: Option<&MaterialExtensions>,
     context: &C,
 ) -> bool
-    ensures { result ≡ quiet (material_outline (C.context context.now) faults.now
+    ensures { result ≡ quiet (material_checklist (C.context context.now) faults.now
         (tree_or_absent (λ e. material_extensions e.now) extensions.entry)) }
 {
     !faults.is_alpha_mode_invalid
@@ -170,7 +170,7 @@ pub fn is_material_quiet<C: HasContext>(
 
 /// Whether nothing is wrong in the extensions of a material.
 fn are_extensions_quiet<C: HasContext>(extensions: Option<&MaterialExtensions>, context: &C) -> bool
-    ensures { result ≡ quiet (extensions_outline (C.context context.now)
+    ensures { result ≡ quiet (extensions_checklist (C.context context.now)
         (tree_or_absent (λ e. material_extensions e.now) extensions.entry)) }
 {
     match extensions {

@@ -4,8 +4,8 @@ ghost use Rattle.std.specs.Prelude.{◌≡◌};
 ghost use Rattle.gltf_schema.specs.Fields.{list_tree};
 ghost use Rattle.gltf_schema.specs.Kind.{ListOf};
 ghost use Rattle.gltf_schema.specs.Tree.{absent};
-ghost use Rattle.gltf_validation_objects.specs.Outline.{quiet};
-ghost use Rattle.gltf_validation_objects.specs.OutlineOf.{outline};
+ghost use Rattle.gltf_validation_objects.specs.Checklist.{quiet};
+ghost use Rattle.gltf_validation_objects.specs.ChecklistOf.{checklist};
 
 use crate::always_valid::AlwaysValid;
 use crate::events::Events;
@@ -25,7 +25,7 @@ use std::collections::BTreeMap;
 pub trait Quiet: Visitable {
     /// Whether nothing is wrong in the value or below it.
     fn is_quiet<C: HasContext>(&self, context: &C) -> bool
-        ensures { result ≡ quiet (outline Self.kind (Self.tree self.now) (C.context context.now)
+        ensures { result ≡ quiet (checklist Self.kind (Self.tree self.now) (C.context context.now)
             absent) };
 }
 
@@ -78,7 +78,7 @@ impl Quiet for BTreeMap<Checked<Semantic>, Index<Accessor>> {
 
 /// Whether nothing is wrong in the items of a list.
 pub(crate) fn are_quiet<T: Quiet, C: HasContext>(items: &Vec<T>, context: &C) -> bool
-    ensures { result ≡ quiet (outline (ListOf T.kind) (list_tree T.tree items.now.items)
+    ensures { result ≡ quiet (checklist (ListOf T.kind) (list_tree T.tree items.now.items)
         (C.context context.now) absent) }
 {
     for item in items {
@@ -94,7 +94,7 @@ pub(crate) fn is_object_quiet<'a, T: Events<'a, Look>, C: HasContext>(
     object: &'a T,
     context: &C,
 ) -> bool
-    ensures { result ≡ quiet (outline T.kind (T.tree object.now) (C.context context.now) absent) }
+    ensures { result ≡ quiet (checklist T.kind (T.tree object.now) (C.context context.now) absent) }
 {
     let mut number = 0;
     loop {

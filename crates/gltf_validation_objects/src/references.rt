@@ -6,9 +6,9 @@ ghost use Rattle.gltf_schema.specs.Fields.{index_tree};
 ghost use Rattle.gltf_schema.specs.Tree.{absent, tree_or_absent};
 ghost use Rattle.gltf_validation_rules.specs.Context.{Context as SpecContext, context_of};
 ghost use Rattle.gltf_validation_objects.specs.Moves.{IsGiven, IsMore};
-ghost use Rattle.gltf_validation_objects.specs.Outline.{move_at, quiet};
-ghost use Rattle.gltf_validation_objects.specs.OutlineOf.{outline};
-ghost use Rattle.gltf_validation_objects.specs.References.{index_outline, one_texture, reference_outline, two_textures};
+ghost use Rattle.gltf_validation_objects.specs.Checklist.{move_at, quiet};
+ghost use Rattle.gltf_validation_objects.specs.ChecklistOf.{checklist};
+ghost use Rattle.gltf_validation_objects.specs.References.{index_checklist, one_texture, reference_checklist, two_textures};
 
 use crate::event::{Event, EventBuilder};
 use crate::member_name::MemberName;
@@ -29,7 +29,7 @@ pub enum ReferenceState {
 impl ReferenceState {
     /// Whether nothing is wrong with the reference.
     pub(crate) fn is_quiet(self) -> bool
-        ensures { result ≡ quiet (reference_outline self) }
+        ensures { result ≡ quiet (reference_checklist self) }
     {
         match self {
             ReferenceState::Absent | ReferenceState::Resolved => true,
@@ -42,14 +42,14 @@ impl ReferenceState {
 pub(crate) trait TextureReference: Visitable {
     /// What is found at the reference.
     fn state(&self, context: &Context<'_>) -> ReferenceState
-        ensures { reference_outline result
-            ≡ outline Self.kind (Self.tree self.now) (context_of context.now) absent };
+        ensures { reference_checklist result
+            ≡ checklist Self.kind (Self.tree self.now) (context_of context.now) absent };
 }
 
 /// What is found at an index of a texture.
 pub(crate) fn index_state(index: &Index<Texture>, context: &Context<'_>) -> ReferenceState
-    ensures { reference_outline result
-        ≡ index_outline (context_of context.now) (index_tree index.now) }
+    ensures { reference_checklist result
+        ≡ index_checklist (context_of context.now) (index_tree index.now) }
 {
     match index_fault(index, context.root) {
         None => ReferenceState::Resolved,
@@ -62,7 +62,7 @@ pub(crate) fn is_reference_quiet<T: TextureReference, C: HasContext>(
     reference: &T,
     context: &C,
 ) -> bool
-    ensures { result ≡ quiet (outline T.kind (T.tree reference.now) (C.context context.now) absent) }
+    ensures { result ≡ quiet (checklist T.kind (T.tree reference.now) (C.context context.now) absent) }
 {
     reference.state(&context.context()).is_quiet()
 }
@@ -72,7 +72,7 @@ pub(crate) fn member_state<T: TextureReference>(
     reference: &Option<T>,
     context: &Context<'_>,
 ) -> ReferenceState
-    ensures { reference_outline result ≡ outline T.kind (tree_or_absent T.tree reference.now)
+    ensures { reference_checklist result ≡ checklist T.kind (tree_or_absent T.tree reference.now)
         (context_of context.now) absent }
 {
     match reference {
@@ -84,7 +84,7 @@ pub(crate) fn member_state<T: TextureReference>(
 /// The event at a number of a reference.
 pub fn in_reference<'a, E: EventBuilder<'a>>(state: ReferenceState, number: usize) -> E
     ensures comes { (context : _)
-        → E.describes_move context (move_at (reference_outline state) number) result }
+        → E.describes_move context (move_at (reference_checklist state) number) result }
     ensures small { E.is_more result → number + 1 < 2 ^ 64 }
 {
     match (number, state) {

@@ -8,8 +8,8 @@ ghost use Rattle.gltf_schema.specs.Leaves.{checked_tree, choice_of};
 ghost use Rattle.gltf_schema.specs.Tree.{Tree, absent, tree_or_absent};
 ghost use Rattle.gltf_base.specs.Lists.{ListName};
 ghost use Rattle.gltf_validation_rules.specs.Context.{context_of};
-ghost use Rattle.gltf_validation_objects.specs.ValueRefs.{outline_of};
-ghost use Rattle.gltf_validation_objects.specs.OutlineOf.{outline};
+ghost use Rattle.gltf_validation_objects.specs.ValueRefs.{checklist_of};
+ghost use Rattle.gltf_validation_objects.specs.ChecklistOf.{checklist};
 
 use crate::value_ref::ValueRef;
 use gltf_base::choice::Choice;
@@ -33,8 +33,8 @@ pub trait Visitable {
     /// The value as a borrowed value of a document. This call finds the fault of a place with
     /// nothing below.
     fn value_ref<'a>(&'a self, context: &Context<'_>) -> ValueRef<'a>
-        ensures { outline_of (context_of context.now) result
-            ≡ outline kind (tree self.now) (context_of context.now) absent };
+        ensures { checklist_of (context_of context.now) result
+            ≡ checklist kind (tree self.now) (context_of context.now) absent };
 }
 
 impl<T: Visitable> Visitable for Option<T> {

@@ -11,7 +11,7 @@ use Rattle.gltf_schema.specs.Tree as tree
 use Rattle.gltf_schema.specs.Tree.{Tree, absent, Trees, end, with_tree, items_in, members_in, entries_in}
 use Rattle.gltf_schema.specs.Kind.{Kind, IndexInto, Attributes, ListOf, Object, Rows, no_rows, row, Rule}
 use Rattle.gltf_root.specs.Lists.{count_in}
-use Rattle.gltf_sinks.specs.Report.{From}
+use Rattle.gltf_validation_rules.specs.Report.{From}
 use Rattle.gltf_validation_rules.specs.Context.{Rules, Context, under}
 use Rattle.gltf_validation_rules.specs.Faults.{choice_faults, key_faults, entries_faults, items_reports}
 use Rattle.gltf_validation_rules.specs.Rules.{object_faults}

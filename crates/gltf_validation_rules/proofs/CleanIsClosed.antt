@@ -14,7 +14,7 @@ use Rattle.gltf_schema.specs.Tree.{Tree, Trees, end, with_tree, items_in, member
 use Rattle.gltf_schema.specs.Kind.{Kind, IndexInto, SourceImage, ChannelSampler, Choice, Attributes, ListOf, Object, Rows, no_rows, row, Rule, holds_samplers}
 use Rattle.gltf_parts.specs.Texture.{no_image}
 use Rattle.gltf_root.specs.Lists.{count_in, sampler_count}
-use Rattle.gltf_sinks.specs.Report.{From, report}
+use Rattle.gltf_validation_rules.specs.Report.{From, report}
 use Rattle.gltf_validation_rules.specs.Context.{Context}
 use Rattle.gltf_validation_rules.specs.Faults.{report_if, number_faults, index_faults, source_faults, choice_faults, key_faults, entries_faults, items_reports}
 use Rattle.gltf_validation_rules.specs.Rules.{object_faults}

@@ -22,7 +22,7 @@ use Rattle.gltf_root.specs.declared.root.Root.{Root}
 use Rattle.gltf_root.specs.declared.extensions.root.Root.{Root as RootExtensions}
 use Rattle.gltf_root.specs.declared.extensions.root.KhrLightsPunctual.{KhrLightsPunctual}
 use Rattle.gltf_root.specs.declared.extensions.root.KhrMaterialsVariants.{KhrMaterialsVariants}
-use Rattle.gltf_sinks.specs.Report.{From, Report}
+use Rattle.gltf_validation_rules.specs.Report.{From, Report}
 use Rattle.gltf_validation_rules.specs.Context.{Context}
 use Rattle.gltf_validation_rules.specs.Faults.{items_reports}
 use Rattle.gltf_validation_rules.specs.Reports.{reports, member_reports}

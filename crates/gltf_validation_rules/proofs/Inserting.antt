@@ -7,7 +7,7 @@ use Rattle.gltf_schema.specs.Tree.{Tree, Trees, end, with_tree, tree_at, count_o
 use Rattle.gltf_schema.specs.Kind.{Kind, Any, ListOf, Rows, no_rows, row}
 use Rattle.gltf_root.specs.Named.{put_at}
 use Rattle.gltf_root.specs.Pushed.{with_last}
-use Rattle.gltf_sinks.specs.Report.{From, Report}
+use Rattle.gltf_validation_rules.specs.Report.{From, Report}
 use Rattle.gltf_validation_rules.specs.Context.{Context}
 use Rattle.gltf_validation_rules.specs.Inserted.{IsInserted}
 use Rattle.gltf_validation_rules.specs.Faults.{items_reports}

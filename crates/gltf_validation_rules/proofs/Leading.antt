@@ -14,7 +14,7 @@ use Rattle.gltf_base.specs.declared.validation.Error.TheVariants.{IndexOutOfBoun
 use Rattle.gltf_schema.specs.Read.{read_items}
 use Rattle.gltf_schema.specs.Tree.{Tree, Trees, end, with_tree}
 use Rattle.gltf_schema.proofs.ReadPlain.{bound, mapped}
-use Rattle.gltf_sinks.specs.Report.{From, Report, report}
+use Rattle.gltf_validation_rules.specs.Report.{From, Report, report}
 use Rattle.gltf_validation_rules.specs.Bases.{behind}
 use Rattle.gltf_validation_rules.specs.Faults.{report_if, number_faults, key_faults, entries_faults, items_reports}
 use Rattle.gltf_validation_rules.specs.Found.{HasKey, Lead, step_to, without_last, before_key, first_key, is_missing, steps_there}

@@ -29,3 +29,7 @@ pub mod PointingParts
 pub mod PointingScene
 pub mod PointerText
 pub mod KeyFound
+pub mod Walks
+pub mod Loops
+pub mod Counting
+pub mod Collecting

@@ -25,7 +25,7 @@ use Rattle.gltf_parts.specs.Texture.{no_image}
 use Rattle.gltf_root.specs.Lists.{count_in, sampler_count}
 use Rattle.gltf_root.specs.Named.{row_named}
 use Rattle.gltf_root.specs.Root.{root_rows}
-use Rattle.gltf_sinks.specs.Report.{From, report}
+use Rattle.gltf_validation_rules.specs.Report.{From, report}
 use Rattle.gltf_validation_rules.specs.Context.{Context}
 use Rattle.gltf_validation_rules.specs.Faults.{report_if, number_faults, index_faults, source_faults, stride_faults, choice_faults, items_reports}
 use Rattle.gltf_validation_rules.specs.Found.{HasKey, Lead, without_last, is_missing}

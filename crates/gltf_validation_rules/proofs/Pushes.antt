@@ -18,7 +18,7 @@ use Rattle.gltf_parts.specs.Texture.{no_image}
 use Rattle.gltf_scene.specs.Mesh.{primitive_rows}
 use Rattle.gltf_root.specs.Lists.{list_in, count_in}
 use Rattle.gltf_root.specs.Pushed.{with_last}
-use Rattle.gltf_sinks.specs.Report.{From, Report}
+use Rattle.gltf_validation_rules.specs.Report.{From, Report}
 use Rattle.gltf_validation_rules.specs.Context.{Rules, under}
 use Rattle.gltf_validation_rules.specs.Faults.{report_if, number_faults, index_faults, source_faults, key_faults, entries_faults, items_reports}
 use Rattle.gltf_validation_rules.specs.References.{Reference, item_of, missing_image, unlisted, image_of, in_index, in_entry, in_items, animation_of, references, in_members}

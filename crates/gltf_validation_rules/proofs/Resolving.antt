@@ -7,7 +7,7 @@ use Rattle.gltf_base.specs.Steps.{Step}
 use Rattle.gltf_base.specs.declared.validation.Error.TheVariants.{IndexOutOfBounds}
 use Rattle.gltf_schema.specs.Tree.{Tree, count_of, trees}
 use Rattle.gltf_validation_rules.specs.Faults.{number_faults}
-use Rattle.gltf_sinks.specs.Report.{found_at}
+use Rattle.gltf_validation_rules.specs.Report.{found_at}
 use Rattle.gltf_root.specs.Lists.{list_in, count_in}
 
 -- a list of trees is as long as the list that it is of

@@ -12,7 +12,7 @@ use Rattle.gltf_schema.specs.Tree as tree
 use Rattle.gltf_schema.specs.Tree.{Tree, Trees, end, with_tree, items_in, members_in, entries_in}
 use Rattle.gltf_schema.specs.Kind.{Kind, IndexInto, SourceImage, ChannelSampler, Stride, Choice, Attributes, ListOf, Object, Rows, no_rows, row, Rule, needs_data, needs_projection, needs_cone, needs_positions, requires_enabled}
 use Rattle.gltf_root.specs.Lists.{count_in, sampler_count}
-use Rattle.gltf_sinks.specs.Report.{From}
+use Rattle.gltf_validation_rules.specs.Report.{From}
 use Rattle.gltf_validation_rules.specs.Bases.{behind}
 use Rattle.gltf_validation_rules.specs.Context.{Context}
 use Rattle.gltf_validation_rules.specs.Faults.{report_if, number_faults, index_faults, source_faults, stride_faults, choice_faults, key_faults, entries_faults, items_reports}

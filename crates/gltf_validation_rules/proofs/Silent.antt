@@ -5,7 +5,7 @@ use Rattle.gltf_base.specs.Steps.{Step, field, item}
 use Rattle.gltf_schema.specs.Tree as tree
 use Rattle.gltf_schema.specs.Tree.{Tree, Trees, end, with_tree, items_in, members_in}
 use Rattle.gltf_schema.specs.Kind.{Kind, IndexInto, SourceImage, ChannelSampler, Stride, Choice, Attributes, ListOf, Object, Rows, no_rows, row, Rule, no_rule, needs_data, needs_projection, needs_cone, needs_positions, requires_enabled, holds_samplers}
-use Rattle.gltf_sinks.specs.Report.{From}
+use Rattle.gltf_validation_rules.specs.Report.{From}
 use Rattle.gltf_validation_rules.specs.Context.{Context}
 use Rattle.gltf_validation_rules.specs.Rules.{object_faults, rule_faults}
 use Rattle.gltf_validation_rules.specs.Faults.{items_reports}

@@ -12,7 +12,7 @@ use Rattle.gltf_root.specs.Lists.{count_in}
 use Rattle.gltf_root.specs.Pushed.{pushed, item_place, item_kind}
 use Rattle.gltf_root.specs.Root.{root_kind, root_tree}
 use Rattle.gltf_root.specs.declared.root.Root.{Root}
-use Rattle.gltf_sinks.specs.Report.{Report}
+use Rattle.gltf_validation_rules.specs.Report.{Report}
 use Rattle.gltf_validation_rules.specs.Context.{Rules, under}
 use Rattle.gltf_validation_rules.specs.Inserted.{IsInserted}
 use Rattle.gltf_validation_rules.specs.Naming.{Avoids}

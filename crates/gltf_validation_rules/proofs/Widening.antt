@@ -8,7 +8,7 @@ use Rattle.gltf_schema.specs.Tree as tree
 use Rattle.gltf_schema.specs.Tree.{Tree, Trees, end, with_tree, items_in, members_in}
 use Rattle.gltf_schema.specs.Kind.{Kind, SourceImage, ListOf, Object, Rows, no_rows, row, Rule, requires_enabled}
 use Rattle.gltf_root.specs.Lists.{count_in}
-use Rattle.gltf_sinks.specs.Report.{From}
+use Rattle.gltf_validation_rules.specs.Report.{From}
 use Rattle.gltf_validation_rules.specs.Context.{Rules, under}
 use Rattle.gltf_validation_rules.specs.Faults.{report_if, number_faults, source_faults, items_reports}
 use Rattle.gltf_validation_rules.specs.Reports.{animation_below, reports, member_reports}

@@ -6,7 +6,7 @@ use Rattle.gltf_base.specs.declared.validation.Error.{Error}
 use Rattle.gltf_base.specs.declared.validation.Error.TheVariants.{IndexOutOfBounds, Invalid, Missing}
 use Rattle.gltf_schema.specs.Tree.{Tree, index, whole, invalid, Trees, end, with_tree}
 use Rattle.gltf_parts.specs.Texture.{no_image}
-use Rattle.gltf_sinks.specs.Report.{report, From}
+use Rattle.gltf_validation_rules.specs.Report.{report, From}
 
 -- a report if something holds
 abbrev pub report_if : Bool → Error → From

@@ -7,7 +7,7 @@ use Rattle.gltf_base.specs.Names.{key_named}
 use Rattle.gltf_base.specs.Steps.{Step, field, item, key, value}
 use Rattle.gltf_base.specs.declared.validation.Error.{Error}
 use Rattle.gltf_base.specs.declared.validation.Error.TheVariants.{Missing}
-use Rattle.gltf_sinks.specs.Report.{Report}
+use Rattle.gltf_validation_rules.specs.Report.{Report}
 
 -- what is one step down in a value, if anything: a member of an object, or an item of an array; a
 -- step to a value stays there

@@ -13,3 +13,7 @@ pub mod Worked
 pub mod Bases
 pub mod Wider
 pub mod Found
+pub mod Report
+pub mod SinkOutcome
+pub mod Sinks
+pub mod Stops

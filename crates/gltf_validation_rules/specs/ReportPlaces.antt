@@ -2,7 +2,7 @@
 use Rattle.std.specs.Prelude.{List, [], ◌∷◌, Bool, true, false, ◌&&◌, nat_eq}
 use Rattle.std.specs.Str.{bytes_eq}
 use Rattle.gltf_base.specs.Steps.{Step, field, item, key, value}
-use Rattle.gltf_sinks.specs.Report.{Report}
+use Rattle.gltf_validation_rules.specs.Report.{Report}
 
 abbrev pub same_step : Step → Step → Bool
 same_step (field f) (field g) = bytes_eq f g

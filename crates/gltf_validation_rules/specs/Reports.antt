@@ -6,7 +6,7 @@ use Rattle.gltf_schema.specs.Tree.{Tree, absent, Trees, end, with_tree, items_in
 use Rattle.gltf_schema.specs.Kind.{Kind, IndexInto, SourceImage, ChannelSampler, Stride, Choice, Attributes, ListOf, Object, Rows, no_rows, row, Rule, no_rule, needs_data, needs_projection, needs_cone, needs_positions, requires_enabled, holds_samplers}
 use Rattle.gltf_root.specs.Lists.{count_in, sampler_count}
 use Rattle.gltf_root.specs.Root.{root_kind}
-use Rattle.gltf_sinks.specs.Report.{Report, From}
+use Rattle.gltf_validation_rules.specs.Report.{Report, From}
 use Rattle.gltf_validation_rules.specs.Context.{Rules, Context, under}
 use Rattle.gltf_validation_rules.specs.Faults.{index_faults, source_faults, stride_faults, choice_faults, entries_faults, items_reports}
 use Rattle.gltf_validation_rules.specs.Rules.{object_faults}

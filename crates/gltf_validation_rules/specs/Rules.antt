@@ -20,7 +20,7 @@ use Rattle.gltf_scene.specs.Light.{light_rows}
 use Rattle.gltf_root.specs.Lists.{list_in}
 use Rattle.gltf_root.specs.Named.{member_named}
 use Rattle.gltf_root.specs.Root.{root_rows}
-use Rattle.gltf_sinks.specs.Report.{From, report}
+use Rattle.gltf_validation_rules.specs.Report.{From, report}
 use Rattle.gltf_validation_rules.specs.Context.{Context}
 use Rattle.gltf_validation_rules.specs.Faults.{report_if, items_reports}
 

@@ -4,7 +4,7 @@ use Rattle.serde_json.specs.Data.{Data, number, unsigned, string, array, object,
 use Rattle.gltf_base.specs.Spelling.{Spelling}
 use Rattle.gltf_base.specs.Lists.{ListName}
 use Rattle.gltf_base.specs.Steps.{Step, field, item, key}
-use Rattle.gltf_sinks.specs.Report.{Report}
+use Rattle.gltf_validation_rules.specs.Report.{Report}
 use Rattle.gltf_validation_rules.specs.Context.{standard_rules}
 use Rattle.gltf_validation_rules.specs.Reports.{document_reports}
 use Rattle.gltf_parts.specs.Accessor.{sparse_indices_rows}

@@ -3,7 +3,7 @@
 ghost use Rattle.std.specs.Prelude.{◌≡◌, List, ◌∷◌, [], ◌++◌, codes};
 ghost use Rattle.gltf_base.specs.Steps.{Step, field};
 ghost use Rattle.gltf_parts.specs.Accessor.{accessor_members};
-ghost use Rattle.gltf_sinks.specs.Report.{found_at};
+ghost use Rattle.gltf_validation_rules.specs.Report.{found_at};
 ghost use Rattle.gltf_validation_rules.specs.Rules.{accessor_rule};
 
 use gltf_base::validation::Error;

@@ -3,7 +3,7 @@
 ghost use Rattle.std.specs.Prelude.{◌≡◌, List};
 ghost use Rattle.gltf_base.specs.Steps.{Step};
 ghost use Rattle.gltf_scene.specs.Camera.{camera_members};
-ghost use Rattle.gltf_sinks.specs.Report.{found_at};
+ghost use Rattle.gltf_validation_rules.specs.Report.{found_at};
 ghost use Rattle.gltf_validation_rules.specs.Rules.{camera_rule};
 
 use gltf_base::validation::Error;

@@ -9,7 +9,7 @@ ghost use Rattle.gltf_schema.specs.Fields.{closed_object, index_tree};
 ghost use Rattle.gltf_scene.specs.Animation.{animation_members};
 ghost use Rattle.gltf_root.specs.Lists.{count_in, sampler_count};
 ghost use Rattle.gltf_root.specs.Root.{root_tree};
-ghost use Rattle.gltf_sinks.specs.Report.{found_at};
+ghost use Rattle.gltf_validation_rules.specs.Report.{found_at};
 ghost use Rattle.gltf_validation_rules.specs.Context.{context_of};
 ghost use Rattle.gltf_validation_rules.specs.Faults.{index_faults, source_faults};
 

@@ -23,8 +23,8 @@ ghost use Rattle.gltf_base.specs.Lists.{ListName};
 ghost use Rattle.gltf_root.specs.Lists.{count_in, list_in, row_of};
 ghost use Rattle.gltf_root.specs.Pushed.{item_kind, item_place, pushed, with_last};
 ghost use Rattle.gltf_root.specs.Root.{root_kind, root_tree};
-ghost use Rattle.gltf_sinks.specs.SinkOutcome.{run};
-ghost use Rattle.gltf_sinks.specs.Sinks.{one_more};
+ghost use Rattle.gltf_validation_rules.specs.SinkOutcome.{run};
+ghost use Rattle.gltf_validation_rules.specs.Sinks.{one_more};
 ghost use Rattle.gltf_root.specs.declared.root.Root.{Root as Document};
 
 pub mod clean;

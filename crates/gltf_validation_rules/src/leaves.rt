@@ -5,7 +5,7 @@ ghost use Rattle.gltf_base.specs.Spelling.{Spelling};
 ghost use Rattle.gltf_parts.specs.Buffer.{stride_tree};
 ghost use Rattle.gltf_base.specs.Steps.{Step};
 ghost use Rattle.gltf_schema.specs.Leaves.{checked_tree};
-ghost use Rattle.gltf_sinks.specs.Report.{found_at};
+ghost use Rattle.gltf_validation_rules.specs.Report.{found_at};
 ghost use Rattle.gltf_validation_rules.specs.Faults.{choice_faults, stride_faults};
 
 use gltf_base::buffer::{MAX_BYTE_STRIDE, MIN_BYTE_STRIDE};

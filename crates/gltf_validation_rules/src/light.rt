@@ -3,7 +3,7 @@
 ghost use Rattle.std.specs.Prelude.{◌≡◌, List, ◌∷◌, [], ◌++◌, codes};
 ghost use Rattle.gltf_base.specs.Steps.{Step, field};
 ghost use Rattle.gltf_scene.specs.Light.{light_members};
-ghost use Rattle.gltf_sinks.specs.Report.{found_at};
+ghost use Rattle.gltf_validation_rules.specs.Report.{found_at};
 ghost use Rattle.gltf_validation_rules.specs.Rules.{light_rule};
 
 use gltf_base::extensions::scene::khr_lights_punctual::LightType;

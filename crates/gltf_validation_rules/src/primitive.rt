@@ -11,7 +11,7 @@ ghost use Rattle.gltf_scene.specs.Mesh.{primitive_members};
 ghost use Rattle.gltf_schema.specs.Fields.{any_tree, attributes_tree, closed_object};
 ghost use Rattle.gltf_schema.specs.Tree.{entries_in, tree_or_absent};
 ghost use Rattle.gltf_root.specs.Root.{root_tree};
-ghost use Rattle.gltf_sinks.specs.Report.{found_at};
+ghost use Rattle.gltf_validation_rules.specs.Report.{found_at};
 ghost use Rattle.gltf_validation_rules.specs.Rules.{bound_faults, bounds_faults, is_positions, is_triple, positions_faults, primitive_attributes};
 ghost use Rattle.gltf_validation_rules.specs.Positions.{found_in_positions};
 

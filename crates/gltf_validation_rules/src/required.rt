@@ -5,7 +5,7 @@ ghost use Rattle.std.specs.List.{list_any};
 ghost use Rattle.std.specs.Str.{bytes_eq};
 ghost use Rattle.gltf_base.specs.Steps.{Step, value};
 ghost use Rattle.gltf_schema.specs.Tree.{text};
-ghost use Rattle.gltf_sinks.specs.Report.{found_at};
+ghost use Rattle.gltf_validation_rules.specs.Report.{found_at};
 ghost use Rattle.gltf_validation_rules.specs.Context.{rules_of};
 ghost use Rattle.gltf_validation_rules.specs.Rules.{extension_faults};
 

@@ -1,5 +1,5 @@
-pub mod OutlineReports
-pub mod OutlineHeight
+pub mod ChecklistReports
+pub mod ChecklistHeight
 pub mod Stacks
 pub mod Begun
 pub mod Moves

@@ -1,4 +1,4 @@
--- What remains of the outlines of frames.
+-- What remains of the checklists of frames.
 use Rattle.std.specs.Prelude.{◌≡◌, ℕ, List, [], ◌∷◌, ◌++◌, map, Option, Some, None, MatchOption}
 use Rattle.std.specs.Borrow.{Bor}
 use Rattle.std.specs.List.{filter}
@@ -13,10 +13,10 @@ use Rattle.gltf_base.specs.Lists.{ListName}
 use Rattle.gltf_schema.specs.Fields.{entry_of}
 use Rattle.gltf_root.specs.Lists.{count_in}
 use Rattle.gltf_validation_rules.specs.Context.{Context}
-use Rattle.gltf_validation_objects.specs.ValueRefs.{outline_of}
+use Rattle.gltf_validation_objects.specs.ValueRefs.{checklist_of}
 use Rattle.gltf_validation_objects.specs.Moves.{move_of, IsMore}
-use Rattle.gltf_validation_objects.specs.Outline.{Outline, place, first_move, rest_after}
-use Rattle.gltf_validation_objects.specs.OutlineOf.{entry_outlines}
+use Rattle.gltf_validation_objects.specs.Checklist.{Checklist, place, first_move, rest_after}
+use Rattle.gltf_validation_objects.specs.ChecklistOf.{entry_checklists}
 use Rattle.gltf_validation_objects.specs.declared.event.Event.{Event}
 use Rattle.gltf_validation_objects.specs.declared.value_ref.ValueRef.{ValueRef}
 use Rattle.gltf_validation_objects.specs.declared.value_ref.ValueRef.TheVariants as value_ref
@@ -34,14 +34,14 @@ abbrev pub IsFirstBehind : {P : Type 0} → Option (Bor (Checked Semantic)) → 
 IsFirstBehind b es r = MatchOption r (entries_behind b (map entry_of es) ≡ [])
     (λ e. entries_behind b (map entry_of es) ≡ entry_of (e.0.now, e.1.now) ∷ entries_behind (Some e.0) (map entry_of es))
 
-abbrev pub attributes_left : {P : Type 0} → Context → BTreeMap (Checked Semantic) (IndexTo P) → Option (Bor (Checked Semantic)) → Outline
-attributes_left context m behind = place (entry_outlines (count_in ListName.accessors context.root) (entries_behind behind (map entry_of m.entries))) []
+abbrev pub attributes_left : {P : Type 0} → Context → BTreeMap (Checked Semantic) (IndexTo P) → Option (Bor (Checked Semantic)) → Checklist
+attributes_left context m behind = place (entry_checklists (count_in ListName.accessors context.root) (entries_behind behind (map entry_of m.entries))) []
 
 -- ---- all other values, whose moves are numbered
 
-abbrev pub value_left : Context → ValueRef → ℕ → Option (Bor (Checked Semantic)) → Outline
+abbrev pub value_left : Context → ValueRef → ℕ → Option (Bor (Checked Semantic)) → Checklist
 value_left context (value_ref.Attributes m) number behind = attributes_left context m.now behind
-value_left context q number behind = rest_after (outline_of context q) number
+value_left context q number behind = rest_after (checklist_of context q) number
 
 -- ---- frames
 
@@ -49,12 +49,12 @@ value_left context q number behind = rest_after (outline_of context q) number
 abbrev pub first_frame : ValueRef → Frame
 first_frame q = record { value = q; number = 0; behind = None }
 
-abbrev pub outline_left : Context → Frame → Outline
-outline_left context f = value_left context f.value f.number f.behind
+abbrev pub checklist_left : Context → Frame → Checklist
+checklist_left context f = value_left context f.value f.number f.behind
 
-abbrev pub outlines_left : Context → List Frame → List Outline
-outlines_left context fs = map (outline_left context) fs
+abbrev pub checklists_left : Context → List Frame → List Checklist
+checklists_left context fs = map (checklist_left context) fs
 
 -- the event is the first move of the last frame, which is behind it then; the frames below stay
 abbrev pub IsNextOfLast : Context → List Frame → Event → List Frame → Type 0
-IsNextOfLast context fs e gs = (front : List Frame) × (f : Frame) × (g : Frame) × (fs ≡ front ++ f ∷ []) × (gs ≡ front ++ g ∷ []) × (move_of context e ≡ first_move (outline_left context f)) × (IsMore e → outline_left context g ≡ rest_after (outline_left context f) 1)
+IsNextOfLast context fs e gs = (front : List Frame) × (f : Frame) × (g : Frame) × (fs ≡ front ++ f ∷ []) × (gs ≡ front ++ g ∷ []) × (move_of context e ≡ first_move (checklist_left context f)) × (IsMore e → checklist_left context g ≡ rest_after (checklist_left context f) 1)

@@ -3,9 +3,9 @@ use Rattle.std.specs.Prelude.{◌≡◌, ℕ, ◌-◌, ◌≤◌, List, [], ◌�
 use Rattle.gltf_base.specs.Steps.{Step, steps_of}
 use Rattle.gltf_base.specs.declared.validation.Error.{Error}
 use Rattle.gltf_root.specs.Root.{root_tree}
-use Rattle.gltf_sinks.specs.Report.{Report, report}
+use Rattle.gltf_validation_rules.specs.Report.{Report, report}
 use Rattle.gltf_validation_rules.specs.Context.{Context, rules_of, under}
-use Rattle.gltf_validation_walk.specs.Rest.{outlines_left}
+use Rattle.gltf_validation_walk.specs.Rest.{checklists_left}
 use Rattle.gltf_validation_walk.specs.Stacks.{reach, to_come_of}
 use Rattle.gltf_validation_walk.specs.declared.walk.ValueWalk.{ValueWalk}
 use Rattle.gltf_validation_walk.specs.declared.walk.Walk.{Walk}
@@ -22,13 +22,13 @@ base_count d = length d.steps.items - (length d.frames.items - 1)
 
 -- the number of steps from the base to the deepest place that is still to come
 abbrev pub depth_in : ValueWalk → ℕ
-depth_in d = reach 0 (outlines_left (context_in d) d.frames.items)
+depth_in d = reach 0 (checklists_left (context_in d) d.frames.items)
 
 abbrev pub path_in : ValueWalk → List Step
 path_in d = steps_of d.steps
 
 abbrev pub to_come_in : ValueWalk → List Report
-to_come_in d = to_come_of (steps_of d.steps) (outlines_left (context_in d) d.frames.items)
+to_come_in d = to_come_of (steps_of d.steps) (checklists_left (context_in d) d.frames.items)
 
 -- the result of `next_report`: the first of the reports to come, with its path, or `None` if there were none, with a path no
 -- longer than the base

@@ -3,7 +3,7 @@
 ghost use Rattle.std.specs.Prelude.{◌≡◌};
 ghost use Rattle.gltf_validation_rules.specs.Context.{context_of};
 ghost use Rattle.gltf_validation_objects.specs.Moves.{move_of, IsMore};
-ghost use Rattle.gltf_validation_objects.specs.Outline.{first_move, rest_after};
+ghost use Rattle.gltf_validation_objects.specs.Checklist.{first_move, rest_after};
 ghost use Rattle.gltf_validation_walk.specs.Rest.{attributes_left, IsFirstBehind};
 
 use gltf_base::mesh::Semantic;

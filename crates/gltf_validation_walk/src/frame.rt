@@ -3,16 +3,16 @@
 ghost use Rattle.std.specs.Prelude.{◌≡◌, ◌<◌, ◌∷◌, [], length};
 ghost use Rattle.gltf_validation_rules.specs.Context.{context_of};
 ghost use Rattle.gltf_validation_objects.specs.Moves.{move_of, IsMore};
-ghost use Rattle.gltf_validation_objects.specs.Outline.{first_move, rest_after};
-ghost use Rattle.gltf_validation_walk.specs.Rest.{first_frame, outline_left, IsNextOfLast};
+ghost use Rattle.gltf_validation_objects.specs.Checklist.{first_move, rest_after};
+ghost use Rattle.gltf_validation_walk.specs.Rest.{first_frame, checklist_left, IsNextOfLast};
 
 use crate::attributes::next_attribute;
+use crate::event;
 use arrayvec::ArrayVec;
 use gltf_base::mesh::Semantic;
 use gltf_base::validation::Checked;
 use gltf_validation_objects::{Event, ValueRef};
 use gltf_validation_rules::Context;
-use gltf_validation_values::event;
 
 /// A value, and where the walk is in it: in attributes behind a key, in any other value at a
 /// number.
@@ -69,10 +69,10 @@ pub(crate) fn next_of_last<'a>(
 /// The next event of a frame, which is behind that event then.
 fn next_event<'a>(frame: &mut Frame<'a>, context: &Context<'_>) -> Event<'a>
     ensures comes { move_of (context_of context.now) result
-        ≡ first_move (outline_left (context_of context.now) frame.old) }
+        ≡ first_move (checklist_left (context_of context.now) frame.old) }
     ensures rest { IsMore result
-        → outline_left (context_of context.now) frame.new
-        ≡ rest_after (outline_left (context_of context.now) frame.old) 1 }
+        → checklist_left (context_of context.now) frame.new
+        ≡ rest_after (checklist_left (context_of context.now) frame.old) 1 }
 {
     match frame.value {
         ValueRef::Attributes(attributes) => next_attribute(attributes, &mut frame.behind, context),

@@ -5,19 +5,19 @@ ghost use Rattle.gltf_base.specs.Steps.{steps_of};
 ghost use Rattle.gltf_root.specs.Root.{root_tree};
 ghost use Rattle.gltf_validation_rules.specs.Context.{rules_of, standard_rules};
 ghost use Rattle.gltf_validation_rules.specs.Reports.{document_reports, reports_by_rules};
-ghost use Rattle.gltf_validation_objects.specs.ValueRefs.{outline_of};
+ghost use Rattle.gltf_validation_objects.specs.ValueRefs.{checklist_of};
 ghost use Rattle.gltf_schema.specs.Height.{kind_height};
-ghost use Rattle.gltf_validation_objects.specs.Outline.{leaf};
+ghost use Rattle.gltf_validation_objects.specs.Checklist.{leaf};
 ghost use Rattle.gltf_validation_walk.specs.ToCome.{base_count, depth_in, to_come_in, path_in, to_come, path_of, IsNext, IsNextOf};
 
 use crate::frame::{Frame, begun_in, next_of_last};
+use crate::is_quiet;
 use crate::walk::{ValueWalk, Walk};
 use gltf_base::Steps;
 use gltf_base::validation::Error;
 use gltf_root::root::Root;
 use gltf_validation_objects::{Event, ValueRef, Visitable};
 use gltf_validation_rules::{Context, Rules};
-use gltf_validation_values::is_quiet;
 
 /// A path that has no room for one more step.
 #[derive(Clone, Copy, Debug, Drop, PartialEq, Eq)]

@@ -3,7 +3,7 @@
 ghost use Rattle.std.specs.Prelude.{◌≤◌, ◌-◌, suc, length};
 ghost use Rattle.gltf_validation_rules.specs.Context.{rules_of, under};
 ghost use Rattle.gltf_root.specs.Root.{root_tree};
-ghost use Rattle.gltf_validation_walk.specs.Rest.{outlines_left};
+ghost use Rattle.gltf_validation_walk.specs.Rest.{checklists_left};
 ghost use Rattle.gltf_validation_walk.specs.Stacks.{reach};
 
 use crate::frame::Frame;
@@ -23,7 +23,7 @@ pub struct ValueWalk<'a> {
     pub(crate) frames: ArrayVec<Frame<'a>, 16>,
     pub(crate) steps: Steps<'a>,
     ghost reach_is_bounded: { reach 0
-        (outlines_left (under (rules_of rules) (root_tree root.now)) frames.items)
+        (checklists_left (under (rules_of rules) (root_tree root.now)) frames.items)
         ≤ 10 },
     ghost frames_have_steps: { length frames.items ≤ suc (length steps.items) },
 }

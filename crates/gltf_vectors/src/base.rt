@@ -1,4 +1,7 @@
-//! Objects that are made by hand, and the textures of materials.
+//! Paths, semantics, numbers, indexes and choices, objects that are made by hand, and the textures
+//! of materials.
 
+mod choices;
 mod made;
 mod textures;
+mod values;

@@ -1,8 +1,8 @@
 //! What errors print.
 
+use crate::shows;
 use gltf_json::root::{Failed, PushError};
 use gltf_json::validation::{CleanError, Error, Refused, Stop};
-use gltf_vectors_support::shows;
 use std::alloc::{AllocError, Global};
 use std::test::Fail;
 

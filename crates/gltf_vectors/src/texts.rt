@@ -1,9 +1,9 @@
 //! Texts that are read into places, without a `Value` in between.
 
+use crate::samples::{FAULTY, NEW, SIX, WRONG_LIGHTS};
 use gltf_json::buffer::Buffer;
 use gltf_json::{Root, Value};
 use gltf_schema::read_text;
-use gltf_vectors_support::documents::{FAULTY, NEW, SIX, WRONG_LIGHTS};
 use std::alloc::{AllocError, Global};
 use std::test::Fail;
 

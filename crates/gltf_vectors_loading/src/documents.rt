@@ -1,19 +1,19 @@
 //! Forests, places and faults that are worked by hand.
 
-mod documents;
 mod hostile;
 mod refused_growths;
+mod small;
 
 use gltf_base::Index;
 use gltf_base::accessor::{AccessorType, ComponentType};
 use gltf_base::validation::Checked;
-use gltf_document::{Document, LayoutFault, forest_of, is_scene_of, span_of};
 use gltf_hierarchy::{Forest, HierarchyFault};
 use gltf_layout::{LayoutFaults, Misfit, Span, StorageFault};
+use gltf_load::{Document, LayoutFault, forest_of, is_scene_of, span_of};
 use gltf_parts::accessor::Accessor;
 use gltf_parts::buffer::{Buffer, View};
 use gltf_scene::scene::{Node, Scene};
-use gltf_vectors_support::holds;
+use gltf_vectors::holds;
 use std::alloc::{AllocError, Global};
 use std::test::Fail;
 

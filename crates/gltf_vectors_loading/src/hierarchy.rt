@@ -2,7 +2,7 @@
 
 use crate::child_lists::{ChildLists, chain, line, lists_of};
 use gltf_hierarchy::{Forest, HierarchyFault, JointFault};
-use gltf_vectors_support::{holds, shows};
+use gltf_vectors::{holds, shows};
 use std::alloc::{AllocError, Global};
 use std::fmt::Write;
 use std::test::Fail;

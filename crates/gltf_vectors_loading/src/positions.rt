@@ -1,7 +1,7 @@
 //! Lines and columns of values in JSON, worked by hand.
 
-use gltf_positions::{Position, positions_of};
-use gltf_vectors_support::holds;
+use gltf_findings_lines::{Position, positions_of};
+use gltf_vectors::holds;
 use std::alloc::{AllocError, Global};
 use std::test::Fail;
 

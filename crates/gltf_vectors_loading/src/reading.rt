@@ -3,7 +3,7 @@
 ghost use Rattle.std.specs.Prelude.{⊤, None};
 ghost use Rattle.gltf_layout.specs.Layouts.{layout_places};
 ghost use Rattle.gltf_layout.specs.Places.{ArePlaces};
-ghost use Rattle.gltf_document.specs.Documents.{stored_in};
+ghost use Rattle.gltf_load.specs.Documents.{stored_in};
 
 use gltf_base::accessor::{AccessorType, ComponentType};
 use gltf_base::animation::Property;
@@ -17,7 +17,7 @@ use gltf_scene::animation::Sampler;
 use gltf_scene::mesh::{MorphTarget, Primitive};
 use gltf_scene::scene::Node;
 use gltf_scene::skin::Skin;
-use gltf_vectors_support::holds;
+use gltf_vectors::holds;
 use std::alloc::{AllocError, Global};
 use std::test::Fail;
 

@@ -1,9 +1,8 @@
 //! Subtrees that are worked by hand.
 
 use crate::child_lists::{ChildLists, line, lists_of};
-use gltf_hierarchy::HierarchyFault;
-use gltf_subtrees::Subtrees;
-use gltf_vectors_support::holds;
+use gltf_hierarchy::{HierarchyFault, Subtrees};
+use gltf_vectors::holds;
 use std::alloc::{AllocError, Global};
 use std::test::Fail;
 

@@ -7,12 +7,12 @@ ghost use Rattle.gltf_schema.specs.Outcome.{Reads};
 ghost use Rattle.gltf_schema.specs.Plain.{is_plain};
 ghost use Rattle.gltf_schema.specs.Read.{read};
 ghost use Rattle.gltf_root.specs.Answer.{IsAnswer, IsReadAnswer, IsReading, IsRefusal, answer, byte_limit, call_limit};
-ghost use Rattle.gltf_io.specs.Device.{IsFresh};
+ghost use Rattle.gltf_base.specs.Device.{IsFresh};
 ghost use Rattle.gltf_root.specs.Root.{root_kind, root_tree};
 
 use super::Root;
 use crate::text::decode_text;
-use gltf_io::{ByteIn, read_to_end};
+use gltf_base::{ByteIn, read_to_end};
 use gltf_schema::{Error, Schema};
 use serde_json::Value;
 use simdutf8::compat::from_utf8;

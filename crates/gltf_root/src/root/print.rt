@@ -8,12 +8,12 @@ ghost use Rattle.gltf_schema.specs.Outcome.{Writes};
 ghost use Rattle.gltf_schema.specs.Plain.{is_plain};
 ghost use Rattle.gltf_schema.specs.Read.{read};
 ghost use Rattle.gltf_schema.specs.Write.{write};
-ghost use Rattle.gltf_io.specs.Device.{AppendsFront};
+ghost use Rattle.gltf_base.specs.Device.{AppendsFront};
 ghost use Rattle.gltf_root.specs.Root.{root_kind, root_tree};
 ghost use Rattle.gltf_root.specs.Written.{IsCompactOf, IsPrettyOf, IsReadBack, IsShown, IsWithheld};
 
 use super::Root;
-use gltf_io::{ByteOut, Failed, write_all};
+use gltf_base::{ByteOut, Failed, write_all};
 use gltf_schema::{Error, Printing, Schema, Tokens};
 use json::{Pretty, Writer};
 use serde_json::Value;

@@ -3,7 +3,7 @@
 ghost use Rattle.std.specs.Prelude.{◌≡◌, ◌≢◌, ℕ, List, true, IfOk, IfErr, IsSomeAnd, OnOk, Err};
 ghost use Rattle.std.specs.Io.KnownBytes.{Appends};
 ghost use Rattle.serde_json.specs.Written.{WritesValue};
-ghost use Rattle.gltf_io.specs.Device.{AppendsFront};
+ghost use Rattle.gltf_base.specs.Device.{AppendsFront};
 ghost use Rattle.gltf_root.specs.Root.{root_tree};
 ghost use Rattle.gltf_root.specs.Styled.{strict_json, IsReadBackIn, IsTextIn, style_of};
 ghost use Rattle.gltf_root.specs.Written.{IsWithheld};
@@ -12,7 +12,7 @@ ghost use Rattle.gltf_root.specs.declared.root.style.Spacing.TheVariants as spac
 
 use super::Root;
 use super::print::{FIRST_ROOM, write_out};
-use gltf_io::ByteOut;
+use gltf_base::ByteOut;
 use gltf_schema::{Error, Printing, Strict, Tokens};
 use json::{Pretty, Writer};
 use std::alloc::Global;

@@ -6,8 +6,7 @@ use super::Validate;
 use gltf_base::Steps;
 use gltf_base::validation::Checked;
 use gltf_root::root::Root;
-use gltf_sinks::{Sink, Stop, tell};
-use gltf_validation_rules::{Rules, choice_fault};
+use gltf_validation_rules::{Rules, Sink, Stop, choice_fault, tell};
 
 impl<T> Validate for Checked<T> {
     ghost own = { checked_reports };

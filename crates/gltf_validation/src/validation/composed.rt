@@ -3,16 +3,15 @@
 ghost use Rattle.std.specs.Prelude.{◌≡◌, ◌+◌};
 ghost use Rattle.gltf_schema.specs.Tree.{tree_or_absent};
 ghost use Rattle.gltf_schema.specs.Fields.{list_tree};
-ghost use Rattle.gltf_sinks.specs.SinkOutcome.{Walked};
-ghost use Rattle.gltf_sinks.specs.Report.{each_at};
+ghost use Rattle.gltf_validation_rules.specs.SinkOutcome.{Walked};
+ghost use Rattle.gltf_validation_rules.specs.Report.{each_at};
 ghost use Rattle.gltf_validation.specs.ByType.{option_reports, list_reports, list_kind, reports_in};
 
 use super::Validate;
 use super::within::within;
 use gltf_base::{Step, Steps};
 use gltf_root::root::Root;
-use gltf_sinks::{Sink, Stop};
-use gltf_validation_rules::{Context, HasContext, Rules};
+use gltf_validation_rules::{Context, HasContext, Rules, Sink, Stop};
 
 impl<T: Validate> Validate for Option<T> {
     ghost kind = { T.kind };

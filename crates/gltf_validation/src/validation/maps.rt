@@ -2,15 +2,14 @@
 
 ghost use Rattle.std.specs.Prelude.{◌≡◌, ◌+◌, ◌++◌, ◌∷◌, [], max};
 ghost use Rattle.gltf_base.specs.Steps.{key};
-ghost use Rattle.gltf_sinks.specs.SinkOutcome.{Walked};
+ghost use Rattle.gltf_validation_rules.specs.SinkOutcome.{Walked};
 ghost use Rattle.gltf_validation.specs.ByType.{reports_in, each_entry};
 
 use super::Validate;
 use super::within::within;
 use gltf_base::{KeyStep, Steps};
 use gltf_root::root::Root;
-use gltf_sinks::{Sink, Stop};
-use gltf_validation_rules::{Context, HasContext, Rules};
+use gltf_validation_rules::{Context, HasContext, Rules, Sink, Stop};
 use std::collections::BTreeMap;
 
 impl<K: KeyStep + Validate + Ord, V: Validate> Validate for BTreeMap<K, V> {

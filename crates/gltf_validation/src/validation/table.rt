@@ -6,16 +6,15 @@ ghost use Rattle.gltf_schema.proofs.Heights.{at_most};
 ghost use Rattle.gltf_schema.specs.Height.{kind_height};
 ghost use Rattle.gltf_schema.specs.Kind.{Object as object_kind};
 ghost use Rattle.gltf_schema.specs.Tree.{object};
-ghost use Rattle.gltf_sinks.specs.SinkOutcome.{HandedOver};
+ghost use Rattle.gltf_validation_rules.specs.SinkOutcome.{HandedOver};
 ghost use Rattle.gltf_validation_walk.specs.ToCome.{base_count, depth_in, to_come_in};
 
 use super::Validate;
 use gltf_base::Steps;
 use gltf_root::root::Root;
 use gltf_schema::Object;
-use gltf_sinks::{Sink, Stop};
 use gltf_validation_objects::Visitable;
-use gltf_validation_rules::Rules;
+use gltf_validation_rules::{Rules, Sink, Stop};
 use gltf_validation_walk::{StepsFull, ValueWalk};
 
 mod derived;

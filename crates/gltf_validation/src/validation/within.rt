@@ -2,13 +2,12 @@
 
 ghost use Rattle.std.specs.Prelude.{◌≡◌, ◌+◌, ◌++◌, ◌∷◌, []};
 ghost use Rattle.gltf_base.specs.Steps.{step_of};
-ghost use Rattle.gltf_sinks.specs.SinkOutcome.{Walked};
+ghost use Rattle.gltf_validation_rules.specs.SinkOutcome.{Walked};
 ghost use Rattle.gltf_validation.specs.ByType.{reports_by};
 
 use super::Validate;
 use gltf_base::{Step, Steps};
-use gltf_sinks::{Sink, Stop};
-use gltf_validation_rules::HasContext;
+use gltf_validation_rules::{HasContext, Sink, Stop};
 
 /// Validates a value one step further.
 pub(crate) fn within<'a, T: Validate, C: HasContext, S: Sink>(

@@ -13,5 +13,5 @@ impl AlwaysValid for Asset {
 
     ghost tree = { λ v. closed_object (asset_members v) };
 
-    ghost outline_is_quiet = { λ _ _. unfold asset_rows asset_members in refl };
+    ghost quiet_checklist = { λ _ _. unfold asset_rows asset_members in refl };
 }

@@ -21,7 +21,7 @@ impl AlwaysValid for Buffer {
 
     ghost tree = { λ v. closed_object (buffer_members v) };
 
-    ghost outline_is_quiet = { λ _ _. unfold buffer_rows buffer_members in refl };
+    ghost quiet_checklist = { λ _ _. unfold buffer_rows buffer_members in refl };
 }
 
 impl Visitable for View {

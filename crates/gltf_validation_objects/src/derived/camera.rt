@@ -21,7 +21,7 @@ impl AlwaysValid for Orthographic {
 
     ghost tree = { λ v. closed_object (orthographic_members v) };
 
-    ghost outline_is_quiet = { λ _ _. unfold orthographic_rows orthographic_members in refl };
+    ghost quiet_checklist = { λ _ _. unfold orthographic_rows orthographic_members in refl };
 }
 
 impl AlwaysValid for Perspective {
@@ -29,7 +29,7 @@ impl AlwaysValid for Perspective {
 
     ghost tree = { λ v. closed_object (perspective_members v) };
 
-    ghost outline_is_quiet = { λ _ _. unfold perspective_rows perspective_members in refl };
+    ghost quiet_checklist = { λ _ _. unfold perspective_rows perspective_members in refl };
 }
 
 impl Visitable for Camera {

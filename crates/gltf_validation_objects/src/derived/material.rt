@@ -92,13 +92,13 @@ impl ListItem for Material {
 }
 
 impl AlwaysValid for PbrBaseColorFactor {
-    ghost outline_is_quiet = { λ _ _. refl };
+    ghost quiet_checklist = { λ _ _. refl };
 }
 
 impl AlwaysValid for StrengthFactor {
-    ghost outline_is_quiet = { λ _ _. refl };
+    ghost quiet_checklist = { λ _ _. refl };
 }
 
 impl AlwaysValid for EmissiveFactor {
-    ghost outline_is_quiet = { λ _ _. refl };
+    ghost quiet_checklist = { λ _ _. refl };
 }

@@ -114,7 +114,7 @@ impl AlwaysValid for Ior {
 
     ghost tree = { λ v. closed_object (ior_members v) };
 
-    ghost outline_is_quiet = { λ _ _. unfold ior_rows ior_members in refl };
+    ghost quiet_checklist = { λ _ _. unfold ior_rows ior_members in refl };
 }
 
 impl AlwaysValid for EmissiveStrength {
@@ -122,8 +122,7 @@ impl AlwaysValid for EmissiveStrength {
 
     ghost tree = { λ v. closed_object (emissive_strength_members v) };
 
-    ghost outline_is_quiet = { λ _ _. unfold emissive_strength_rows emissive_strength_members in
-        refl };
+    ghost quiet_checklist = { λ _ _. unfold emissive_strength_rows emissive_strength_members in refl };
 }
 
 impl Visitable for Material {
@@ -159,41 +158,41 @@ impl Quiet for Material {
 }
 
 impl AlwaysValid for PbrDiffuseFactor {
-    ghost outline_is_quiet = { λ _ _. refl };
+    ghost quiet_checklist = { λ _ _. refl };
 }
 
 impl AlwaysValid for PbrSpecularFactor {
-    ghost outline_is_quiet = { λ _ _. refl };
+    ghost quiet_checklist = { λ _ _. refl };
 }
 
 impl AlwaysValid for TransmissionFactor {
-    ghost outline_is_quiet = { λ _ _. refl };
+    ghost quiet_checklist = { λ _ _. refl };
 }
 
 impl AlwaysValid for ThicknessFactor {
-    ghost outline_is_quiet = { λ _ _. refl };
+    ghost quiet_checklist = { λ _ _. refl };
 }
 
 impl AlwaysValid for AttenuationDistance {
-    ghost outline_is_quiet = { λ _ _. refl };
+    ghost quiet_checklist = { λ _ _. refl };
 }
 
 impl AlwaysValid for AttenuationColor {
-    ghost outline_is_quiet = { λ _ _. refl };
+    ghost quiet_checklist = { λ _ _. refl };
 }
 
 impl AlwaysValid for SpecularFactor {
-    ghost outline_is_quiet = { λ _ _. refl };
+    ghost quiet_checklist = { λ _ _. refl };
 }
 
 impl AlwaysValid for SpecularColorFactor {
-    ghost outline_is_quiet = { λ _ _. refl };
+    ghost quiet_checklist = { λ _ _. refl };
 }
 
 impl AlwaysValid for IndexOfRefraction {
-    ghost outline_is_quiet = { λ _ _. refl };
+    ghost quiet_checklist = { λ _ _. refl };
 }
 
 impl AlwaysValid for EmissiveStrengthFactor {
-    ghost outline_is_quiet = { λ _ _. refl };
+    ghost quiet_checklist = { λ _ _. refl };
 }

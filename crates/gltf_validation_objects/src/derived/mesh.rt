@@ -24,7 +24,7 @@ impl AlwaysValid for Mapping {
 
     ghost tree = { λ v. closed_object (variant_mapping_members v) };
 
-    ghost outline_is_quiet = { λ _ _. unfold variant_mapping_rows variant_mapping_members in refl };
+    ghost quiet_checklist = { λ _ _. unfold variant_mapping_rows variant_mapping_members in refl };
 }
 
 impl AlwaysValid for KhrMaterialsVariants {
@@ -32,7 +32,7 @@ impl AlwaysValid for KhrMaterialsVariants {
 
     ghost tree = { λ v. closed_object (variant_mappings_members v) };
 
-    ghost outline_is_quiet = { λ _ _. unfold variant_mappings_rows variant_mapping_rows
+    ghost quiet_checklist = { λ _ _. unfold variant_mappings_rows variant_mapping_rows
         variant_mappings_members in refl };
 }
 
@@ -41,7 +41,7 @@ impl AlwaysValid for gltf_scene::extensions::mesh::Primitive {
 
     ghost tree = { primitive_extensions };
 
-    ghost outline_is_quiet = { λ _ _. unfold primitive_extension_rows variant_mappings_rows
+    ghost quiet_checklist = { λ _ _. unfold primitive_extension_rows variant_mappings_rows
         variant_mapping_rows primitive_extension_members in refl };
 }
 

@@ -46,7 +46,7 @@ impl AlwaysValid for KhrMaterialsVariants {
 
     ghost tree = { λ v. closed_object (variants_members v) };
 
-    ghost outline_is_quiet = { λ _ _. unfold variants_rows variant_rows variants_members in refl };
+    ghost quiet_checklist = { λ _ _. unfold variants_rows variant_rows variants_members in refl };
 }
 
 impl Visitable for Root {

@@ -91,8 +91,7 @@ impl AlwaysValid for TextureTransform {
 
     ghost tree = { λ v. closed_object (texture_transform_members v) };
 
-    ghost outline_is_quiet = { λ _ _. unfold texture_transform_rows texture_transform_members in
-        refl };
+    ghost quiet_checklist = { λ _ _. unfold texture_transform_rows texture_transform_members in refl };
 }
 
 impl AlwaysValid for gltf_parts::extensions::texture::Info {
@@ -100,7 +99,7 @@ impl AlwaysValid for gltf_parts::extensions::texture::Info {
 
     ghost tree = { info_extensions };
 
-    ghost outline_is_quiet = { λ _ _. unfold info_extension_rows texture_transform_rows
+    ghost quiet_checklist = { λ _ _. unfold info_extension_rows texture_transform_rows
         info_extension_members in refl };
 }
 
@@ -127,13 +126,13 @@ impl Quiet for gltf_parts::texture::Info {
 }
 
 impl AlwaysValid for TextureTransformOffset {
-    ghost outline_is_quiet = { λ _ _. refl };
+    ghost quiet_checklist = { λ _ _. refl };
 }
 
 impl AlwaysValid for TextureTransformRotation {
-    ghost outline_is_quiet = { λ _ _. refl };
+    ghost quiet_checklist = { λ _ _. refl };
 }
 
 impl AlwaysValid for TextureTransformScale {
-    ghost outline_is_quiet = { λ _ _. refl };
+    ghost quiet_checklist = { λ _ _. refl };
 }

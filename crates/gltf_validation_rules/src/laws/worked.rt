@@ -5,7 +5,7 @@ ghost use Rattle.serde_json.specs.Data.{no_members, member, number, negative, nu
 ghost use Rattle.gltf_base.specs.Lists.{ListName};
 ghost use Rattle.gltf_base.specs.Steps.{field, item, value};
 ghost use Rattle.gltf_base.specs.declared.validation.Error.TheVariants.{IndexOutOfBounds, Invalid, Missing, Unsupported};
-ghost use Rattle.gltf_sinks.specs.Report.{report};
+ghost use Rattle.gltf_validation_rules.specs.Report.{report};
 ghost use Rattle.gltf_root.specs.Root.{root_kind};
 ghost use Rattle.gltf_schema.specs.Read.{read};
 ghost use Rattle.gltf_schema.specs.Plain.{is_plain};

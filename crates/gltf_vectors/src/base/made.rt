@@ -1,6 +1,7 @@
 //! Objects that are made by hand: what they are written as, and how they are debugged.
 
 use crate::reading::object;
+use crate::shows;
 use gltf_base::Index;
 use gltf_base::accessor::{ComponentType, IndexComponentType};
 use gltf_base::texture::MinFilter;
@@ -13,7 +14,6 @@ use gltf_json::extensions::scene::khr_lights_punctual::KhrLightsPunctual;
 use gltf_json::extras::Void;
 use gltf_json::scene::{Node, Scene};
 use gltf_json::{Error, Material, Schema, Value};
-use gltf_vectors_support::shows;
 use std::alloc::Global;
 use std::fmt::Debug;
 use std::test::Fail;

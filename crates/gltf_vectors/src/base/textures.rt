@@ -1,7 +1,7 @@
 //! The textures of materials.
 
+use crate::shows;
 use gltf_json::{Material, Schema, Value};
-use gltf_vectors_support::shows;
 use std::alloc::Global;
 use std::fmt::Write;
 use std::test::Fail;

@@ -1,10 +1,10 @@
 //! The example of `README.md`.
 
+use crate::holds;
+use crate::samples::FAULTY;
 use gltf_json::Root;
 use gltf_json::path::Steps;
 use gltf_json::validation::{Count, Validate};
-use gltf_vectors_support::documents::FAULTY;
-use gltf_vectors_support::holds;
 use std::test::Fail;
 
 /// A document with a view of its buffer, in the lines that it is written in.

@@ -1,8 +1,8 @@
 //! Where texts are refused, and what is there.
 
+use crate::samples::NEW;
+use crate::shows;
 use gltf_json::Root;
-use gltf_vectors_support::documents::NEW;
-use gltf_vectors_support::shows;
 use std::alloc::Global;
 use std::test::Fail;
 

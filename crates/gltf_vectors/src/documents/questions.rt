@@ -1,10 +1,10 @@
 //! What is asked of a document in one call.
 
+use crate::holds;
+use crate::samples::{FAULTY, NEW};
 use gltf_json::Root;
 use gltf_json::path::Steps;
 use gltf_json::validation::{Count, Rules, Validate, ValidateRoot};
-use gltf_vectors_support::documents::{FAULTY, NEW};
-use gltf_vectors_support::holds;
 use std::alloc::Global;
 use std::test::Fail;
 

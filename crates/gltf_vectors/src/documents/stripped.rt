@@ -1,7 +1,7 @@
 //! A document with extras and unknown members at several depths, and what is left of it.
 
+use crate::shows;
 use gltf_json::{Error, Root};
-use gltf_vectors_support::shows;
 use std::alloc::Global;
 use std::test::Fail;
 

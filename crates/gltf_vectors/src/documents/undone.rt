@@ -1,5 +1,7 @@
 //! Pushes that are taken back from documents without reports.
 
+use crate::holds;
+use crate::samples::NEW;
 use gltf_json::Root;
 use gltf_json::accessor::Accessor;
 use gltf_json::animation::Animation;
@@ -12,8 +14,6 @@ use gltf_json::scene::{Node, Scene};
 use gltf_json::skin::Skin;
 use gltf_json::texture::{Sampler, Texture};
 use gltf_json::validation::{Clean, Error, Rules, TopLevelItem};
-use gltf_vectors_support::documents::NEW;
-use gltf_vectors_support::holds;
 use std::alloc::Global;
 use std::test::Fail;
 

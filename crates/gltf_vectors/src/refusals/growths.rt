@@ -1,12 +1,12 @@
 //! Reading, writing, cloning and collecting where growths are refused.
 
 use super::writing::{Layout, bytes_of, is_line, write_into};
+use crate::samples::{SIX, SIX_LINES, WRONG_LIGHTS};
+use crate::{End, Tried, holds, refusal_count};
 use gltf_base::Steps;
 use gltf_json::root::Watched;
 use gltf_json::validation::{self, Collect, Stop, Validate};
 use gltf_json::{Error, Path, Root};
-use gltf_vectors_support::documents::{SIX, SIX_LINES, WRONG_LIGHTS};
-use gltf_vectors_support::{End, Tried, holds, refusal_count};
 use std::alloc::Global;
 use std::test::Fail;
 

@@ -1,10 +1,10 @@
 //! Readers that are read within limits of the caller's.
 
 use super::devices::{Blanks, Giver};
+use crate::holds;
+use crate::samples::NEW;
 use gltf_json::root::{ByteIn, Watched};
 use gltf_json::{Error, Root};
-use gltf_vectors_support::documents::NEW;
-use gltf_vectors_support::holds;
 use std::alloc::Global;
 use std::test::Fail;
 

@@ -2,12 +2,12 @@
 
 use super::writing::is_line;
 use crate::reading::object;
+use crate::samples::{FAULTY, NEW};
+use crate::{End, HeldMemory, Tried, refusal_count};
 use gltf_json::extensions::scene::khr_lights_punctual::Light;
 use gltf_json::root::{Get, PushError};
 use gltf_json::validation::{Clean, CleanError, Item, Refused, Rules};
 use gltf_json::{Buffer, Index, Root, Schema};
-use gltf_vectors_support::documents::{FAULTY, NEW};
-use gltf_vectors_support::{End, HeldMemory, Tried, refusal_count};
 use std::alloc::{AllocError, Global};
 use std::fmt::Debug;
 use std::test::Fail;

@@ -1,11 +1,11 @@
 //! Runs over devices that fail, and runs that run out of memory.
 
 use super::devices::{Giver, Taker, Wall};
+use crate::samples::{FAULTY, NEW, SIX, SIX_LINES};
+use crate::{End, Tried, holds, refusal_count};
 use gltf_json::root::{ByteIn, Watched};
 use gltf_json::{Error, Root};
 use gltf_report_lines::run;
-use gltf_vectors_support::documents::{FAULTY, NEW, SIX, SIX_LINES};
-use gltf_vectors_support::{End, Tried, holds, refusal_count};
 use std::alloc::Global;
 use std::mem;
 use std::test::Fail;

@@ -2,10 +2,10 @@
 
 use super::devices::{Counter, Interrupted, Taker, Wall};
 use super::writing::{LAYOUTS, Layout, write_into};
+use crate::holds;
+use crate::samples::{NEW, NEW_IN_LINES, PAST_32_BITS};
 use gltf_json::root::Watched;
 use gltf_json::{Error, Root};
-use gltf_vectors_support::documents::{NEW, NEW_IN_LINES, PAST_32_BITS};
-use gltf_vectors_support::holds;
 use std::alloc::Global;
 use std::test::Fail;
 

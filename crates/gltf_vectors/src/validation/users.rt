@@ -9,14 +9,14 @@ ghost use Rattle.gltf_schema.specs.Kind.{IndexInto};
 ghost use Rattle.gltf_schema.specs.Tree.{absent};
 ghost use Rattle.gltf_root.specs.Root.{root_tree};
 ghost use Rattle.gltf_validation_rules.specs.Context.{rules_of, under};
-ghost use Rattle.gltf_sinks.specs.SinkOutcome.{Walked};
+ghost use Rattle.gltf_validation_rules.specs.SinkOutcome.{Walked};
 ghost use Rattle.gltf_validation.specs.ByType.{reports_by, reports_in, each_entry, no_reports};
 
+use crate::shows;
 use gltf_base::{KeyStep, Step, Steps};
 use gltf_json::scene::Node;
 use gltf_json::validation::{Collect, Rules, Sink, Stop, Validate};
 use gltf_json::{Error, Index, Root};
-use gltf_vectors_support::shows;
 use std::alloc::Global;
 use std::collections::BTreeMap;
 use std::fmt::Write;

@@ -4,15 +4,15 @@ use super::{chain, has_faults, line, over, vectors_in};
 use gltf_base::Index;
 use gltf_base::accessor::{AccessorType, ComponentType};
 use gltf_base::validation::USize64;
-use gltf_document::{Document, LayoutFault, forest_of, joints_of, span_of};
 use gltf_hierarchy::{Forest, HierarchyFault, JointFault};
 use gltf_layout::{AccessorFault, Misfit, PlaceFault, Span, SparseFault, StorageFault, ViewFault};
+use gltf_load::{Document, LayoutFault, forest_of, joints_of, span_of};
 use gltf_parts::accessor::Accessor;
 use gltf_parts::accessor::sparse::{Indices, Sparse, Values};
 use gltf_parts::buffer::{Buffer, Stride, View};
 use gltf_scene::scene::Node;
 use gltf_scene::skin::Skin;
-use gltf_vectors_support::holds;
+use gltf_vectors::holds;
 use std::alloc::Global;
 use std::test::Fail;
 

@@ -3,13 +3,13 @@
 use super::{chain, line};
 use gltf_base::Index;
 use gltf_base::accessor::{AccessorType, ComponentType};
-use gltf_document::{Document, forest_of, joints_of};
 use gltf_hierarchy::{Forest, HierarchyFault, JointFault};
 use gltf_layout::{Layout, LayoutError};
+use gltf_load::{Document, forest_of, joints_of};
 use gltf_parts::accessor::Accessor;
 use gltf_scene::scene::Node;
 use gltf_scene::skin::Skin;
-use gltf_vectors_support::{End, Tried, holds, refusal_count};
+use gltf_vectors::{End, Tried, holds, refusal_count};
 use std::alloc::{AllocError, Global};
 use std::test::Fail;
 

@@ -4,7 +4,7 @@ use Rattle.std.specs.BTreeSet.{contains_text}
 use Rattle.gltf_findings_codes.specs.Found.{broken, found}
 use Rattle.gltf_findings_codes.specs.declared.code.Code.TheVariants.{DuplicateElements}
 use Rattle.gltf_findings_codes.specs.declared.finding.Object.TheVariants.{Document}
-use Rattle.gltf_findings_codes.specs.declared.finding.Place.TheVariants.{Entry}
+use Rattle.gltf_findings_codes.specs.declared.finding.Subject.TheVariants.{Entry}
 use Rattle.gltf_findings.specs.ExtensionNames.{is_listed, name_repeats}
 use Rattle.std.proofs.lemmas.Option.{slice_get_read}
 use Rattle.gltf_findings.proofs.Named.{more_repeats}

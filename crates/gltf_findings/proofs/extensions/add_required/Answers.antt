@@ -3,7 +3,7 @@ use Rattle.gltf_findings_codes.specs.Found.{broken, found, findings_from}
 use Rattle.gltf_findings_codes.specs.declared.code.Code.TheVariants.{UnusedExtensionRequired}
 use Rattle.gltf_findings_codes.specs.declared.name.Name.TheVariants.{ExtensionsRequired}
 use Rattle.gltf_findings_codes.specs.declared.finding.Object.TheVariants.{Document}
-use Rattle.gltf_findings_codes.specs.declared.finding.Place.TheVariants.{Entry}
+use Rattle.gltf_findings_codes.specs.declared.finding.Subject.TheVariants.{Entry}
 use Rattle.gltf_findings.specs.ExtensionNames.{is_listed, required_findings}
 use Rattle.std.proofs.lemmas.Option.{slice_get_read}
 use Rattle.gltf_findings.proofs.Named.{more_required}

@@ -1,7 +1,7 @@
 use Rattle.std.proofs.Common.{rules, ◌≡◌, ◌++◌, OnOk, subst}
 use Rattle.gltf_findings_codes.specs.Found.{findings_from}
-use Rattle.gltf_findings_scenes.specs.Nodes.{node_findings}
-use Rattle.gltf_findings_scenes.specs.Placed.{placed_findings as placed_node_findings}
+use Rattle.gltf_findings_rules.specs.Nodes.{node_findings}
+use Rattle.gltf_findings_rules.specs.Placed.{placed_findings as placed_node_findings}
 use Rattle.gltf_findings.specs.Findings.{counts_of}
 use Rattle.gltf_findings.proofs.findings.add_nodes.Goals as goal
 

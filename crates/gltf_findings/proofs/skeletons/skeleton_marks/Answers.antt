@@ -3,8 +3,8 @@ use Rattle.std.proofs.lemmas.Grind.{common_steps}
 use Rattle.std.proofs.lemmas.Result.{IfOk-weaker}
 use Rattle.std.proofs.lemmas.List.{length-map}
 use Rattle.gltf_hierarchy.specs.Forest.{IsForest}
-use Rattle.gltf_document.specs.Named.{children_named, numbers_in}
-use Rattle.gltf_subtrees.specs.Subtrees.{AreSubtrees}
+use Rattle.gltf_load.specs.Named.{children_named, numbers_in}
+use Rattle.gltf_hierarchy.specs.Subtrees.{AreSubtrees}
 use Rattle.gltf_findings.specs.Skeletons.{AreSkeletonMarks}
 use Rattle.gltf_findings.specs.Rooting.{AreMarksBy}
 use Rattle.gltf_findings.proofs.Skinned.{marks}

@@ -2,7 +2,7 @@
 use Rattle.std.proofs.Common.{◌≡◌, drop}
 use Rattle.gltf_findings_codes.specs.Marks.{mark_some}
 use Rattle.gltf_findings.specs.Uses.{camera_marks, mesh_marks, default_marks, skin_marks}
-use Rattle.gltf_findings_uses.specs.Marking.{marked_by, default_weight_marks}
+use Rattle.gltf_findings_rules.specs.Marking.{marked_by, default_weight_marks}
 use Rattle.gltf_findings.proofs.uses.node_marks.Given as goal
 
 abbrev pub invariant-loop-node : goal.invariant-loop-node

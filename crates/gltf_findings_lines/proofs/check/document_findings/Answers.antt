@@ -1,7 +1,7 @@
 -- The findings of the document itself come first.
 use Rattle.std.proofs.Common.{◌∙◌, ◌++◌, ap}
 use Rattle.gltf_findings_codes.specs.Found.{findings_from}
-use Rattle.gltf_findings_uris.specs.Objects.{buffer_findings, image_findings}
+use Rattle.gltf_findings_files.specs.Objects.{buffer_findings, image_findings}
 use Rattle.gltf_findings_lines.proofs.check.document_findings.Goals as goal
 
 pub returns : goal.returns

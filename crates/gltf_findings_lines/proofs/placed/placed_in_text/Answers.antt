@@ -2,7 +2,7 @@
 use Rattle.std.proofs.Common.{length, sym, ap, ◌∙◌, subst, string_bytes, inr, arith}
 use Rattle.std.specs.List.{AllZip}
 use Rattle.std.proofs.lemmas.List.{length-map}
-use Rattle.gltf_positions.specs.Found.{ArePositions, IsPositionOf}
+use Rattle.gltf_findings_lines.specs.Found.{ArePositions, IsPositionOf}
 use Rattle.gltf_findings_lines.specs.Placed.{HasPosition, placed_all, pointer_in}
 use Rattle.gltf_findings_lines.proofs.Placing.{all_placed, none_placed, zip_length}
 use Rattle.gltf_findings_lines.proofs.placed.placed_in_text.Goals as goal

@@ -4,7 +4,7 @@ use Rattle.gltf_validation_rules.specs.Context.{under}
 use Rattle.gltf_validation_rules.specs.Reports.{document_reports}
 use Rattle.gltf_root.specs.Root.{root_kind, root_tree}
 use Rattle.gltf_validation_rules.proofs.CleanIsClosed.{clean_is_closed}
-use Rattle.gltf_sinks.proofs.Counting.{none_counted}
+use Rattle.gltf_validation_rules.proofs.Counting.{none_counted}
 use Rattle.gltf_validation_rules.proofs.laws.clean_documents_are_closed.Goals as goal
 
 pub returns-clause-clean : goal.returns-clause-clean

@@ -2,8 +2,8 @@
 use Rattle.std.proofs.Common.{rules, arith, ◌+◌, ◌++◌, ◌∷◌, [], drop}
 use Rattle.gltf_base.specs.Steps.{item}
 use Rattle.gltf_validation.specs.ByType.{reports_in}
-use Rattle.gltf_sinks.specs.Report.{each_at}
-use Rattle.gltf_sinks.proofs.Loops.{underway-begin, underway-same, underway-more, underway-exit, underway-end, each_at-next, each_at-past}
+use Rattle.gltf_validation_rules.specs.Report.{each_at}
+use Rattle.gltf_validation_rules.proofs.Loops.{underway-begin, underway-same, underway-more, underway-exit, underway-end, each_at-next, each_at-past}
 use Rattle.gltf_validation.proofs.validation.composed.each_item.Goals as goal
 
 pub loop-i-init : goal.loop-i-init

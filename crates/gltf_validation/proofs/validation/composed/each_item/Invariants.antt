@@ -1,8 +1,8 @@
 -- The items from the number on are to come.
 use Rattle.std.proofs.Common.{drop}
 use Rattle.gltf_validation.specs.ByType.{reports_in}
-use Rattle.gltf_sinks.specs.Report.{each_at}
-use Rattle.gltf_sinks.proofs.Loops.{Underway}
+use Rattle.gltf_validation_rules.specs.Report.{each_at}
+use Rattle.gltf_validation_rules.proofs.Loops.{Underway}
 use Rattle.gltf_validation.proofs.validation.composed.each_item.Given as goal
 
 abbrev pub invariant-loop-i : goal.invariant-loop-i

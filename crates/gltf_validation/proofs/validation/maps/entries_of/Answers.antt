@@ -1,6 +1,6 @@
 -- One entry after another.
 use Rattle.std.proofs.Common.{rules, ◌≡◌}
-use Rattle.gltf_sinks.proofs.Loops.{underway-begin, underway-more, underway-exit}
+use Rattle.gltf_validation_rules.proofs.Loops.{underway-begin, underway-more, underway-exit}
 use Rattle.gltf_validation.proofs.validation.maps.entries_of.Goals as goal
 
 pub loop-key-init : goal.loop-key-init

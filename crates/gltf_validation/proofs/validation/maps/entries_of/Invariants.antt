@@ -1,6 +1,6 @@
 -- The entries that the iterator has left are to come.
 use Rattle.gltf_validation.specs.ByType.{reports_in, each_entry}
-use Rattle.gltf_sinks.proofs.Loops.{Underway}
+use Rattle.gltf_validation_rules.proofs.Loops.{Underway}
 use Rattle.gltf_validation.proofs.validation.maps.entries_of.Given as goal
 
 abbrev pub invariant-loop-key : goal.invariant-loop-key

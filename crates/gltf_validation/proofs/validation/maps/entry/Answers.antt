@@ -1,6 +1,6 @@
 -- The key's reports, and then the value's.
 use Rattle.std.proofs.Common.{arith}
-use Rattle.gltf_sinks.proofs.Walks.{walked_then, walked_stopped, walked_wider}
+use Rattle.gltf_validation_rules.proofs.Walks.{walked_then, walked_stopped, walked_wider}
 use Rattle.gltf_validation.proofs.validation.maps.entry.Goals as goal
 
 pub returns : goal.returns

@@ -1,7 +1,7 @@
 -- The leaf is quiet if it has no fault.
 use Rattle.std.proofs.Common.{◌≡◌, ◌∙◌, rules}
 use Rattle.std.specs.Option.{is_none}
-use Rattle.gltf_validation_objects.proofs.QuietOutlines.{quiet_leaf}
+use Rattle.gltf_validation_objects.proofs.QuietChecklists.{quiet_leaf}
 use Rattle.gltf_validation_objects.proofs.look.LookEventBuilder.fault_at.Goals as goal
 
 pub returns : goal.returns

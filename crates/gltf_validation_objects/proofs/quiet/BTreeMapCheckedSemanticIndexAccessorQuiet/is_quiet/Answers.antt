@@ -6,9 +6,9 @@ use Rattle.gltf_base.specs.Lists.{ListName}
 use Rattle.gltf_schema.specs.Fields.{entry_of}
 use Rattle.gltf_root.specs.Lists.{count_in}
 use Rattle.gltf_validation_rules.specs.Faults.{key_faults}
-use Rattle.gltf_validation_objects.specs.OutlineOf.{fault_of_reports}
+use Rattle.gltf_validation_objects.specs.ChecklistOf.{fault_of_reports}
 use Rattle.gltf_validation_objects.proofs.Leaves.{found_key}
-use Rattle.gltf_validation_objects.proofs.QuietOutlines.{entry_first, fault_there}
+use Rattle.gltf_validation_objects.proofs.QuietChecklists.{entry_first, fault_there}
 use Rattle.gltf_validation_objects.proofs.quiet.BTreeMapCheckedSemanticIndexAccessorQuiet.is_quiet.Goals as goal
 use Rattle.gltf_validation_objects.proofs.quiet.BTreeMapCheckedSemanticIndexAccessorQuiet.is_quiet.Goals.{then-is_some-via-then-is_some, then-is_some-via-else-is_some+then-not-is_quiet}
 

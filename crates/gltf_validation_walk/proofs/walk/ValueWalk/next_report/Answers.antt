@@ -4,14 +4,14 @@ use Rattle.std.proofs.Math.Seq.{take-append_seam}
 use Rattle.std.proofs.lemmas.List.{length-take, map-append, nil_from_length}
 use Rattle.gltf_base.specs.Steps.{Step, step_of}
 use Rattle.gltf_base.specs.declared.validation.Error.{Error}
-use Rattle.gltf_sinks.specs.Report.{report}
+use Rattle.gltf_validation_rules.specs.Report.{report}
 use Rattle.gltf_validation_rules.specs.Context.{Context}
-use Rattle.gltf_validation_objects.specs.ValueRefs.{outline_of}
+use Rattle.gltf_validation_objects.specs.ValueRefs.{checklist_of}
 use Rattle.gltf_validation_objects.specs.declared.value_ref.ValueRef.{ValueRef}
 use Rattle.gltf_validation_objects.specs.declared.value_ref.ValueRef.TheVariants as value_ref
-use Rattle.gltf_validation_walk.specs.Rest.{outline_left, outlines_left}
-use Rattle.gltf_validation_objects.specs.Outline.{height, leaf, reports_of}
-use Rattle.gltf_validation_objects.proofs.QuietOutlines.{looked_at}
+use Rattle.gltf_validation_walk.specs.Rest.{checklist_left, checklists_left}
+use Rattle.gltf_validation_objects.specs.Checklist.{height, leaf, reports_of}
+use Rattle.gltf_validation_objects.proofs.QuietChecklists.{looked_at}
 use Rattle.gltf_validation_walk.specs.Stacks.{to_come_of}
 use Rattle.gltf_validation_walk.specs.ToCome.{context_in}
 use Rattle.gltf_validation_walk.proofs.Stacks.{weight, reported_by, weight_by, weight_move, weight_least}
@@ -26,8 +26,8 @@ front_left gs hs front g d r =
 
 -- what a place with nothing below reports
 leaf_reports : (context : Context) (q : ValueRef) (e found : Option Error) (path : List Step) → q ≡ value_ref.Leaf e → e ≡ found
-    → reports_of (outline_of context q) path ≡ reports_of (leaf found) path
-leaf_reports context q e found path is there = ap (λ v. reports_of (outline_of context v) path) (is ∙ ap value_ref.Leaf there)
+    → reports_of (checklist_of context q) path ≡ reports_of (leaf found) path
+leaf_reports context q e found path is there = ap (λ v. reports_of (checklist_of context v) path) (is ∙ ap value_ref.Leaf there)
 
 -- ---- a value that is over
 
@@ -45,7 +45,7 @@ loop-self-smaller-in-End c =
     let context = context_in c.loop-self.self in
     let m = c.in-End.ensures in
     let e = m.3 ∙ ap (λ fs. fs ++ m.1 ∷ []) (sym (front_left _ _ m.0 m.2 m.4 c.pop.ensures.rest)) in
-    omega (arith, frames_weight context _ _ m.1 e, weight_least (outline_left context m.1))
+    omega (arith, frames_weight context _ _ m.1 e, weight_least (checklist_left context m.1))
 
 pub loop-self-preserved-in-End : goal.loop-self-preserved-in-End
 loop-self-preserved-in-End c =
@@ -65,7 +65,7 @@ pub invariant_of-self-in-Fault-1 : goal.invariant_of-self-in-Fault-1
 invariant_of-self-in-Fault-1 c =
     let context = context_in c.loop-self.self in
     let m = c.in-Fault.ensures in
-    let next = m.6 tt ∙ left_one (outline_left context m.1) in
+    let next = m.6 tt ∙ left_one (checklist_left context m.1) in
     record {
       reach_is_bounded = omega (arith, moved_fits context _ _ _ m.1 m.2 m.3 m.4 next, c.loop-self.self.reach_is_bounded);
       frames_have_steps = omega (arith, c.loop-self.self.frames_have_steps, frames_length _ _ _ m.3, frames_length _ _ _ m.4);
@@ -75,9 +75,9 @@ pub returns-in-Fault-clause-next : goal.returns-in-Fault-clause-next
 returns-in-Fault-clause-next c =
     let context = context_in c.loop-self.self in
     let m = c.in-Fault.ensures in
-    let next = m.6 tt ∙ left_one (outline_left context m.1) in
+    let next = m.6 tt ∙ left_one (checklist_left context m.1) in
     let steps = map step_of c.loop-self.self.steps.items in (
-      c.loop-self.invariant.same ∙ (move_made context _ _ _ m.1 m.2 c.loop-self.self.steps.items m.3 m.4 next c.loop-self.self.frames_have_steps ∙ ap (λ move. reported_by move steps ++ to_come_of steps (outlines_left context c.next_of_last.new.frames.items)) (sym m.5)),
+      c.loop-self.invariant.same ∙ (move_made context _ _ _ m.1 m.2 c.loop-self.self.steps.items m.3 m.4 next c.loop-self.self.frames_have_steps ∙ ap (λ move. reported_by move steps ++ to_come_of steps (checklists_left context c.next_of_last.new.frames.items)) (sym m.5)),
       omega (arith, c.loop-self.invariant.base, frames_length _ _ _ m.3, frames_length _ _ _ m.4),
     )
 
@@ -85,7 +85,7 @@ pub returns-in-Fault-clause-depth : goal.returns-in-Fault-clause-depth
 returns-in-Fault-clause-depth c =
     let context = context_in c.loop-self.self in
     let m = c.in-Fault.ensures in
-    let next = m.6 tt ∙ left_one (outline_left context m.1) in
+    let next = m.6 tt ∙ left_one (checklist_left context m.1) in
     omega (arith, c.loop-self.invariant.depth, moved_fits context _ _ _ m.1 m.2 m.3 m.4 next)
 
 -- ---- a place with nothing below
@@ -94,7 +94,7 @@ pub invariant_of-self-in-Enter-default-Leaf-None : goal.invariant_of-self-in-Ent
 invariant_of-self-in-Enter-default-Leaf-None c =
     let context = context_in c.loop-self.self in
     let m = c.in-Enter-default-Leaf-None.ensures in
-    let next = m.6 tt ∙ left_one (outline_left context m.1) in
+    let next = m.6 tt ∙ left_one (checklist_left context m.1) in
     record {
       reach_is_bounded = omega (arith, moved_fits context _ _ _ m.1 m.2 m.3 m.4 next, c.loop-self.self.reach_is_bounded);
       frames_have_steps = omega (arith, c.loop-self.self.frames_have_steps, frames_length _ _ _ m.3, frames_length _ _ _ m.4);
@@ -104,13 +104,13 @@ pub loop-self-smaller-in-Enter-default-Leaf-None : goal.loop-self-smaller-in-Ent
 loop-self-smaller-in-Enter-default-Leaf-None c =
     let context = context_in c.loop-self.self in
     let m = c.in-Enter-default-Leaf-None.ensures in
-    let next = m.6 tt ∙ left_one (outline_left context m.1) in
+    let next = m.6 tt ∙ left_one (checklist_left context m.1) in
     omega (
       arith,
       frames_weight context _ _ m.1 m.3,
       frames_weight context _ _ m.2 m.4,
       ap weight next,
-      weight_move (outline_left context m.1),
+      weight_move (checklist_left context m.1),
       ap weight_by m.5,
     )
 
@@ -118,10 +118,10 @@ pub loop-self-preserved-in-Enter-default-Leaf-None : goal.loop-self-preserved-in
 loop-self-preserved-in-Enter-default-Leaf-None c =
     let context = context_in c.loop-self.self in
     let m = c.in-Enter-default-Leaf-None.ensures in
-    let next = m.6 tt ∙ left_one (outline_left context m.1) in
+    let next = m.6 tt ∙ left_one (checklist_left context m.1) in
     let steps = map step_of c.loop-self.self.steps.items in
     let silent = leaf_reports context _ _ None (steps ++ step_of c.in-Enter-default-Leaf-None.field-0 ∷ []) c.in-Enter-default-Leaf-None.field-1-is c.in-Enter-default-Leaf-None.field-1-0-is in
-    let below = to_come_of steps (outlines_left context c.next_of_last.new.frames.items) in
+    let below = to_come_of steps (checklists_left context c.next_of_last.new.frames.items) in
     record {
       same = c.loop-self.invariant.same ∙ (move_made context _ _ _ m.1 m.2 c.loop-self.self.steps.items m.3 m.4 next c.loop-self.self.frames_have_steps ∙ (ap (λ move. reported_by move steps ++ below) (sym m.5) ∙ ap (λ rs. rs ++ below) silent));
       base = omega (arith, c.loop-self.invariant.base, frames_length _ _ _ m.3, frames_length _ _ _ m.4);
@@ -132,7 +132,7 @@ pub invariant_of-self-then-is_full : goal.invariant_of-self-then-is_full
 invariant_of-self-then-is_full c =
     let context = context_in c.loop-self.self in
     let m = c.in-Enter-default-Leaf-Some.ensures in
-    let next = m.6 tt ∙ left_one (outline_left context m.1) in
+    let next = m.6 tt ∙ left_one (checklist_left context m.1) in
     record {
       reach_is_bounded = omega (arith, moved_fits context _ _ _ m.1 m.2 m.3 m.4 next, c.loop-self.self.reach_is_bounded);
       frames_have_steps = omega (arith, c.loop-self.self.frames_have_steps, frames_length _ _ _ m.3, frames_length _ _ _ m.4);
@@ -142,7 +142,7 @@ pub returns-then-is_full-clause-full : goal.returns-then-is_full-clause-full
 returns-then-is_full-clause-full c =
     let context = context_in c.loop-self.self in
     let m = c.in-Enter-default-Leaf-Some.ensures in
-    let deep = down_height (outline_left context m.1) (outline_of context c.in-Enter-default-Leaf-Some.field-1) (step_of c.in-Enter-default-Leaf-Some.step) m.5 in
+    let deep = down_height (checklist_left context m.1) (checklist_of context c.in-Enter-default-Leaf-Some.field-1) (step_of c.in-Enter-default-Leaf-Some.step) m.5 in
     let full : length c.loop-self.self.steps.items ≡ 16 = search rules in
     omega (arith, c.loop-self.invariant.base, c.loop-self.invariant.depth, full, frames_length _ _ _ m.3, (popped_fits context _ _ m.1 m.3).1, deep)
 
@@ -150,7 +150,7 @@ pub returns-then-is_full-clause-depth : goal.returns-then-is_full-clause-depth
 returns-then-is_full-clause-depth c =
     let context = context_in c.loop-self.self in
     let m = c.in-Enter-default-Leaf-Some.ensures in
-    let next = m.6 tt ∙ left_one (outline_left context m.1) in
+    let next = m.6 tt ∙ left_one (checklist_left context m.1) in
     omega (arith, c.loop-self.invariant.depth, moved_fits context _ _ _ m.1 m.2 m.3 m.4 next)
 
 pub push-requires : goal.push-requires
@@ -163,9 +163,9 @@ pub invariant_of-self-in-Enter-default-Leaf-Some : goal.invariant_of-self-in-Ent
 invariant_of-self-in-Enter-default-Leaf-Some c =
     let context = context_in c.loop-self.self in
     let m = c.in-Enter-default-Leaf-Some.ensures in
-    let next = m.6 tt ∙ left_one (outline_left context m.1) in
+    let next = m.6 tt ∙ left_one (checklist_left context m.1) in
     let pushed = begun_behind _ _ _ (value_ref.Leaf None) c.push.ensures.items c.at_start.ensures in
-    let deep = down_height (outline_left context m.1) (outline_of context c.in-Enter-default-Leaf-Some.field-1) (step_of c.in-Enter-default-Leaf-Some.step) m.5 in
+    let deep = down_height (checklist_left context m.1) (checklist_of context c.in-Enter-default-Leaf-Some.field-1) (step_of c.in-Enter-default-Leaf-Some.step) m.5 in
     let low = popped_fits context _ _ m.1 m.3 in
     let within = pushed_fits context _ _ _ _ pushed (moved_fits context _ _ _ m.1 m.2 m.3 m.4 next) (omega (arith, low.1, deep, frames_length _ _ _ m.4, ap height (begun_left context (value_ref.Leaf None)))) in
     record {
@@ -177,7 +177,7 @@ pub returns-in-Enter-default-Leaf-Some-clause-next : goal.returns-in-Enter-defau
 returns-in-Enter-default-Leaf-Some-clause-next c =
     let context = context_in c.loop-self.self in
     let m = c.in-Enter-default-Leaf-Some.ensures in
-    let next = m.6 tt ∙ left_one (outline_left context m.1) in
+    let next = m.6 tt ∙ left_one (checklist_left context m.1) in
     let pushed = begun_behind _ _ _ (value_ref.Leaf None) c.push.ensures.items c.at_start.ensures in
     let error = c.in-Enter-default-Leaf-Some.error in
     let bs = c.loop-self.self.steps.items in
@@ -185,7 +185,7 @@ returns-in-Enter-default-Leaf-Some-clause-next c =
     let path = map step_of c.push-in-Enter-default-Leaf-Some.new.self.items in
     let at : steps ++ step_of c.in-Enter-default-Leaf-Some.step ∷ [] ≡ path = sym (ap (map step_of) c.push-in-Enter-default-Leaf-Some.ensures.items ∙ map-append step_of bs _) in
     let found = leaf_reports context _ _ (Some error) (steps ++ step_of c.in-Enter-default-Leaf-Some.step ∷ []) c.in-Enter-default-Leaf-Some.field-1-is c.in-Enter-default-Leaf-Some.field-1-0-is in
-    let below = to_come_of steps (outlines_left context c.next_of_last.new.frames.items) in
+    let below = to_come_of steps (checklists_left context c.next_of_last.new.frames.items) in
     let entered = part_entered context _ _ (value_ref.Leaf None) bs _ c.in-Enter-default-Leaf-Some.step pushed c.push-in-Enter-default-Leaf-Some.ensures.items
     (omega (arith, frames_length _ _ _ m.4)) (omega (arith, c.loop-self.self.frames_have_steps, frames_length _ _ _ m.3, frames_length _ _ _ m.4)) in (
       c.loop-self.invariant.same
@@ -194,7 +194,7 @@ returns-in-Enter-default-Leaf-Some-clause-next c =
           ∙ (ap (λ rs. rs ++ below) found
           ∙ (ap (λ p. report p error ∷ below) at
           ∙ (ap (λ rs. report path error ∷ rs) (sym entered)
-          ∙ ap (λ e. report path e ∷ to_come_of path (outlines_left context c.push.new.self.items)) (sym c.in-Enter-default-Leaf-Some.error-is)))))),
+          ∙ ap (λ e. report path e ∷ to_come_of path (checklists_left context c.push.new.self.items)) (sym c.in-Enter-default-Leaf-Some.error-is)))))),
       omega (arith, c.loop-self.invariant.base, frames_length _ _ _ m.3, frames_length _ _ _ m.4, frames_length _ _ _ pushed, c.push-in-Enter-default-Leaf-Some.ensures.len),
     )
 
@@ -202,9 +202,9 @@ pub returns-in-Enter-default-Leaf-Some-clause-depth : goal.returns-in-Enter-defa
 returns-in-Enter-default-Leaf-Some-clause-depth c =
     let context = context_in c.loop-self.self in
     let m = c.in-Enter-default-Leaf-Some.ensures in
-    let next = m.6 tt ∙ left_one (outline_left context m.1) in
+    let next = m.6 tt ∙ left_one (checklist_left context m.1) in
     let pushed = begun_behind _ _ _ (value_ref.Leaf None) c.push.ensures.items c.at_start.ensures in
-    let deep = down_height (outline_left context m.1) (outline_of context c.in-Enter-default-Leaf-Some.field-1) (step_of c.in-Enter-default-Leaf-Some.step) m.5 in
+    let deep = down_height (checklist_left context m.1) (checklist_of context c.in-Enter-default-Leaf-Some.field-1) (step_of c.in-Enter-default-Leaf-Some.step) m.5 in
     let low = popped_fits context _ _ m.1 m.3 in
     let within = pushed_fits context _ _ _ _ pushed (moved_fits context _ _ _ m.1 m.2 m.3 m.4 next) (omega (arith, low.1, deep, frames_length _ _ _ m.4, ap height (begun_left context (value_ref.Leaf None)))) in
     omega (arith, c.loop-self.invariant.depth, within)
@@ -215,7 +215,7 @@ pub invariant_of-self-else-not-is_quiet : goal.invariant_of-self-else-not-is_qui
 invariant_of-self-else-not-is_quiet c =
     let context = context_in c.loop-self.self in
     let m = c.in-Enter.ensures in
-    let next = m.6 tt ∙ left_one (outline_left context m.1) in
+    let next = m.6 tt ∙ left_one (checklist_left context m.1) in
     record {
       reach_is_bounded = omega (arith, moved_fits context _ _ _ m.1 m.2 m.3 m.4 next, c.loop-self.self.reach_is_bounded);
       frames_have_steps = omega (arith, c.loop-self.self.frames_have_steps, frames_length _ _ _ m.3, frames_length _ _ _ m.4);
@@ -225,13 +225,13 @@ pub loop-self-smaller : goal.loop-self-smaller
 loop-self-smaller c =
     let context = context_in c.loop-self.self in
     let m = c.in-Enter.ensures in
-    let next = m.6 tt ∙ left_one (outline_left context m.1) in
+    let next = m.6 tt ∙ left_one (checklist_left context m.1) in
     omega (
       arith,
       frames_weight context _ _ m.1 m.3,
       frames_weight context _ _ m.2 m.4,
       ap weight next,
-      weight_move (outline_left context m.1),
+      weight_move (checklist_left context m.1),
       ap weight_by m.5,
     )
 
@@ -239,11 +239,11 @@ pub loop-self-preserved : goal.loop-self-preserved
 loop-self-preserved c =
     let context = context_in c.loop-self.self in
     let m = c.in-Enter.ensures in
-    let next = m.6 tt ∙ left_one (outline_left context m.1) in
+    let next = m.6 tt ∙ left_one (checklist_left context m.1) in
     let steps = map step_of c.loop-self.self.steps.items in
     let yes : c.is_quiet.result ≡ true = search rules in
-    let silent = looked_at _ (outline_of context c.in-Enter.value) (sym c.is_quiet.ensures ∙ yes) in
-    let below = to_come_of steps (outlines_left context c.next_of_last.new.frames.items) in
+    let silent = looked_at _ (checklist_of context c.in-Enter.value) (sym c.is_quiet.ensures ∙ yes) in
+    let below = to_come_of steps (checklists_left context c.next_of_last.new.frames.items) in
     record {
       same = c.loop-self.invariant.same
           ∙ (move_made context _ _ _ m.1 m.2 c.loop-self.self.steps.items m.3 m.4 next c.loop-self.self.frames_have_steps
@@ -258,7 +258,7 @@ pub invariant_of-self-then-is_full-2 : goal.invariant_of-self-then-is_full-2
 invariant_of-self-then-is_full-2 c =
     let context = context_in c.loop-self.self in
     let m = c.in-Enter.ensures in
-    let next = m.6 tt ∙ left_one (outline_left context m.1) in
+    let next = m.6 tt ∙ left_one (checklist_left context m.1) in
     record {
       reach_is_bounded = omega (arith, moved_fits context _ _ _ m.1 m.2 m.3 m.4 next, c.loop-self.self.reach_is_bounded);
       frames_have_steps = omega (arith, c.loop-self.self.frames_have_steps, frames_length _ _ _ m.3, frames_length _ _ _ m.4);
@@ -268,7 +268,7 @@ pub returns-then-is_full-2-clause-full : goal.returns-then-is_full-2-clause-full
 returns-then-is_full-2-clause-full c =
     let context = context_in c.loop-self.self in
     let m = c.in-Enter.ensures in
-    let deep = down_height (outline_left context m.1) (outline_of context c.in-Enter.value) (step_of c.in-Enter.step) m.5 in
+    let deep = down_height (checklist_left context m.1) (checklist_of context c.in-Enter.value) (step_of c.in-Enter.step) m.5 in
     let full : length c.loop-self.self.steps.items ≡ 16 = search rules in
     omega (arith, c.loop-self.invariant.base, c.loop-self.invariant.depth, full, frames_length _ _ _ m.3, (popped_fits context _ _ m.1 m.3).1, deep)
 
@@ -276,7 +276,7 @@ pub returns-then-is_full-2-clause-depth : goal.returns-then-is_full-2-clause-dep
 returns-then-is_full-2-clause-depth c =
     let context = context_in c.loop-self.self in
     let m = c.in-Enter.ensures in
-    let next = m.6 tt ∙ left_one (outline_left context m.1) in
+    let next = m.6 tt ∙ left_one (checklist_left context m.1) in
     omega (arith, c.loop-self.invariant.depth, moved_fits context _ _ _ m.1 m.2 m.3 m.4 next)
 
 pub push-requires-then-not-is_quiet : goal.push-requires-then-not-is_quiet
@@ -289,9 +289,9 @@ pub invariant_of-self-then-not-is_quiet : goal.invariant_of-self-then-not-is_qui
 invariant_of-self-then-not-is_quiet c =
     let context = context_in c.loop-self.self in
     let m = c.in-Enter.ensures in
-    let next = m.6 tt ∙ left_one (outline_left context m.1) in
+    let next = m.6 tt ∙ left_one (checklist_left context m.1) in
     let pushed = begun_behind _ _ _ c.in-Enter.value c.push-then-not-is_quiet.ensures.items c.at_start-then-not-is_quiet.ensures in
-    let deep = down_height (outline_left context m.1) (outline_of context c.in-Enter.value) (step_of c.in-Enter.step) m.5 in
+    let deep = down_height (checklist_left context m.1) (checklist_of context c.in-Enter.value) (step_of c.in-Enter.step) m.5 in
     let low = popped_fits context _ _ m.1 m.3 in
     let within = pushed_fits context _ _ _ _ pushed (moved_fits context _ _ _ m.1 m.2 m.3 m.4 next) (omega (arith, low.1, deep, frames_length _ _ _ m.4, ap height (begun_left context c.in-Enter.value))) in
     record {
@@ -303,7 +303,7 @@ pub loop-self-smaller-then-not-is_quiet : goal.loop-self-smaller-then-not-is_qui
 loop-self-smaller-then-not-is_quiet c =
     let context = context_in c.loop-self.self in
     let m = c.in-Enter.ensures in
-    let next = m.6 tt ∙ left_one (outline_left context m.1) in
+    let next = m.6 tt ∙ left_one (checklist_left context m.1) in
     let pushed = begun_behind _ _ _ c.in-Enter.value c.push-then-not-is_quiet.ensures.items c.at_start-then-not-is_quiet.ensures in
     omega (
       arith,
@@ -312,7 +312,7 @@ loop-self-smaller-then-not-is_quiet c =
       frames_weight context _ _ _ pushed,
       ap weight next,
       ap weight (begun_left context c.in-Enter.value),
-      weight_move (outline_left context m.1),
+      weight_move (checklist_left context m.1),
       ap weight_by m.5,
     )
 
@@ -320,16 +320,16 @@ pub loop-self-preserved-then-not-is_quiet : goal.loop-self-preserved-then-not-is
 loop-self-preserved-then-not-is_quiet c =
     let context = context_in c.loop-self.self in
     let m = c.in-Enter.ensures in
-    let next = m.6 tt ∙ left_one (outline_left context m.1) in
+    let next = m.6 tt ∙ left_one (checklist_left context m.1) in
     let pushed = begun_behind _ _ _ c.in-Enter.value c.push-then-not-is_quiet.ensures.items c.at_start-then-not-is_quiet.ensures in
-    let deep = down_height (outline_left context m.1) (outline_of context c.in-Enter.value) (step_of c.in-Enter.step) m.5 in
+    let deep = down_height (checklist_left context m.1) (checklist_of context c.in-Enter.value) (step_of c.in-Enter.step) m.5 in
     let low = popped_fits context _ _ m.1 m.3 in
     let within = pushed_fits context _ _ _ _ pushed (moved_fits context _ _ _ m.1 m.2 m.3 m.4 next) (omega (arith, low.1, deep, frames_length _ _ _ m.4, ap height (begun_left context c.in-Enter.value))) in
     let steps = map step_of c.loop-self.self.steps.items in
     record {
       same = c.loop-self.invariant.same
           ∙ (move_made context _ _ _ m.1 m.2 c.loop-self.self.steps.items m.3 m.4 next c.loop-self.self.frames_have_steps
-          ∙ (ap (λ move. reported_by move steps ++ to_come_of steps (outlines_left context c.next_of_last.new.frames.items)) (sym m.5)
+          ∙ (ap (λ move. reported_by move steps ++ to_come_of steps (checklists_left context c.next_of_last.new.frames.items)) (sym m.5)
           ∙ sym (part_entered context _ _ c.in-Enter.value c.loop-self.self.steps.items _ c.in-Enter.step pushed c.push-then-not-is_quiet-2.ensures.items
           (omega (arith, frames_length _ _ _ m.4)) (omega (arith, c.loop-self.self.frames_have_steps, frames_length _ _ _ m.3, frames_length _ _ _ m.4)))));
       base = omega (arith, c.loop-self.invariant.base, frames_length _ _ _ m.3, frames_length _ _ _ m.4, frames_length _ _ _ pushed, c.push-then-not-is_quiet-2.ensures.len);
@@ -343,5 +343,5 @@ returns-clause-next c =
     let context = context_in c.loop-self.self in
     let none : c.loop-self.self.frames.items ≡ [] = nil_from_length _ (search rules) in
     let steps = map step_of c.loop-self.self.steps.items in
-    let over = ap (λ fs. to_come_of steps (outlines_left context fs)) none in
+    let over = ap (λ fs. to_come_of steps (checklists_left context fs)) none in
     (c.loop-self.invariant.same ∙ over, over, omega (arith, c.loop-self.invariant.base, ap length none))

@@ -4,7 +4,7 @@ use Rattle.gltf_base.specs.Spelling.{by_number}
 use Rattle.gltf_root.specs.Root.{root_tree}
 use Rattle.gltf_validation_rules.specs.Context.{rules_of, under}
 use Rattle.gltf_validation.proofs.ByTable.{choice-checked}
-use Rattle.gltf_sinks.proofs.Walks.{walked_same}
+use Rattle.gltf_validation_rules.proofs.Walks.{walked_same}
 use Rattle.gltf_validation.proofs.validation.choices.CheckedValidate.validate_with.Goals as goal
 
 pub returns-clause-walked : goal.returns-clause-walked

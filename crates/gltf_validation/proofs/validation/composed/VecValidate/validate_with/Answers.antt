@@ -2,7 +2,7 @@
 use Rattle.gltf_root.specs.Root.{root_tree}
 use Rattle.gltf_validation_rules.specs.Context.{rules_of, under}
 use Rattle.gltf_validation.proofs.ByTable.{list-each}
-use Rattle.gltf_sinks.proofs.Walks.{walked_same}
+use Rattle.gltf_validation_rules.proofs.Walks.{walked_same}
 use Rattle.gltf_validation.proofs.validation.composed.VecValidate.validate_with.Goals as goal
 
 pub returns-clause-walked : goal.returns-clause-walked

@@ -4,7 +4,7 @@ use Rattle.gltf_base.specs.Steps.{steps_of}
 use Rattle.gltf_root.specs.Root.{root_tree}
 use Rattle.gltf_validation_rules.specs.Context.{rules_of}
 use Rattle.gltf_validation_rules.specs.Reports.{reports_by_rules}
-use Rattle.gltf_sinks.proofs.Walks.{handed-wider}
+use Rattle.gltf_validation_rules.proofs.Walks.{handed-wider}
 use Rattle.gltf_validation_walk.specs.ToCome.{depth_in}
 use Rattle.gltf_validation.proofs.validation.table.AnyValidate.validate_with.Goals as goal
 

@@ -3,7 +3,7 @@
 use Rattle.gltf_base.specs.Steps.{field}
 use Rattle.gltf_parts.specs.Accessor.{accessor_members, accessor_rows, sparse_indices_rows, sparse_rows}
 use Rattle.gltf_validation_objects.proofs.Leaves.{found_leaf}
-use Rattle.gltf_validation_objects.specs.Outline.{down}
+use Rattle.gltf_validation_objects.specs.Checklist.{down}
 use Rattle.gltf_validation_rules.specs.Rules.{accessor_rule}
 use Rattle.std.proofs.Common.{ap}
 use Rattle.std.specs.Prelude.{codes}

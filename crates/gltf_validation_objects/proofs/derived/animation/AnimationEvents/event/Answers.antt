@@ -5,8 +5,8 @@ use Rattle.gltf_scene.specs.Animation.{animation_members, animation_rows, animat
 use Rattle.gltf_schema.specs.Fields.{closed_object}
 use Rattle.gltf_schema.specs.Tree.{absent}
 use Rattle.gltf_validation_objects.proofs.Items.{items_same}
-use Rattle.gltf_validation_objects.specs.Outline.{down, place}
-use Rattle.gltf_validation_objects.specs.OutlineOf.{outline}
+use Rattle.gltf_validation_objects.specs.Checklist.{down, place}
+use Rattle.gltf_validation_objects.specs.ChecklistOf.{checklist}
 use Rattle.std.proofs.Common.{ap}
 use Rattle.std.specs.Prelude.{[], codes, refl}
 use Rattle.gltf_validation_objects.proofs.derived.animation.AnimationEvents.event.Goals as goal
@@ -18,7 +18,7 @@ returns-in-0-clause-comes g c =
     let context = g.C.HasContext.context c.args.context.now in
     let above = closed_object (animation_members c.args.self.now) in
     rw c.in-0.is (c.member.ensures _ (ap (λ ps. down (field (codes "samplers")) (place ps []))
-    (items_same (λ t. outline animation_sampler_kind t context absent)
-    (λ t. outline animation_sampler_kind t context above)
+    (items_same (λ t. checklist animation_sampler_kind t context absent)
+    (λ t. checklist animation_sampler_kind t context above)
     (λ x. closed_object (animation_sampler_members x))
     (λ x. refl) c.args.self.now.samplers.items 0)))

@@ -1,6 +1,6 @@
 -- Each member in turn.
 use Rattle.std.proofs.Common.{lit≤, refl}
-use Rattle.gltf_sinks.proofs.Walks.{walked_then, walked_stopped}
+use Rattle.gltf_validation_rules.proofs.Walks.{walked_then, walked_stopped}
 use Rattle.gltf_vectors.proofs.validation.users.PairValidate.validate_with.Goals as goal
 
 pub returns-clause-walked : goal.returns-clause-walked

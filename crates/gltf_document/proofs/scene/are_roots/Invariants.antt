@@ -1,6 +1,0 @@
-use Rattle.gltf_hierarchy.specs.Forest.{forest_parents}
-use Rattle.gltf_document.specs.Roots.{AreRootsBefore}
-use Rattle.gltf_document.proofs.scene.are_roots.Given as goal
-
-abbrev pub invariant-loop-place : goal.invariant-loop-place
-invariant-loop-place g l = AreRootsBefore (forest_parents l.forest) l.indexes l.place

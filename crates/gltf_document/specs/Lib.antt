@@ -1,6 +1,0 @@
-pub mod Buffers
-pub mod Documents
-pub mod Glb
-pub mod Named
-pub mod Roots
-pub mod Spans

@@ -1,5 +1,0 @@
-use Rattle.gltf_elements.specs.Indices.{AreVerticesBelow}
-use Rattle.gltf_elements.proofs.indices.indices_are_vertices.Given as goal
-
-abbrev pub invariant-loop-place : goal.invariant-loop-place
-invariant-loop-place l = AreVerticesBelow l.indices.kind l.indices.elements.bytes.now l.indices.elements.span l.restarts l.vertices l.place

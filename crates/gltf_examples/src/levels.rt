@@ -1,0 +1,117 @@
+//! Validates a type of its own, with a sink of its own that promises what it takes.
+#![tactic(auto)]
+
+ghost use Rattle.std.specs.Prelude.{◌≡◌, ◌+◌, ◌++◌, ◌∷◌, [], Bool, Some, codes, true};
+ghost use Rattle.gltf_base.specs.Lists.{ListName};
+ghost use Rattle.gltf_base.specs.Steps.{field};
+ghost use Rattle.gltf_schema.specs.Fields.{index_tree};
+ghost use Rattle.gltf_schema.specs.Kind.{IndexInto};
+ghost use Rattle.gltf_root.specs.Root.{root_tree};
+ghost use Rattle.gltf_validation_rules.specs.Context.{rules_of, under};
+ghost use Rattle.gltf_validation_rules.specs.SinkOutcome.{Walked};
+ghost use Rattle.gltf_validation.specs.ByType.{reports_by, no_reports};
+
+use anyhow::Result;
+use gltf_json::path::{Step, Steps};
+use gltf_json::scene::Node;
+use gltf_json::validation::{Collect, Error, Rules, Sink, Stop, Validate};
+use gltf_json::{Index, Root};
+
+/// The node that is seen from near, and the one that is seen from far.
+#[derive(Drop)]
+struct Levels {
+    near: Index<Node>,
+    far: Index<Node>,
+}
+
+impl Validate for Levels {
+    // What is wrong with `near`, and then what is wrong with `far`.
+    ghost own = { λ levels context base.
+        reports_by (Some (IndexInto ListName.nodes)) (index_tree levels.near)
+        (no_reports levels.near) context (base ++ field (codes "near") ∷ [])
+        ++ reports_by (Some (IndexInto ListName.nodes)) (index_tree levels.far)
+        (no_reports levels.far) context (base ++ field (codes "far") ∷ []) };
+
+    // A report is one step below the value.
+    ghost depth = { 1 };
+
+    fn validate_with<'a, S: Sink>(
+        &'a self,
+        rules: &Rules<'_>,
+        root: &Root,
+        path: &mut Steps<'a>,
+        sink: &mut S,
+    ) -> Result<(), Stop<S::Refusal>> {
+        member(&self.near, "near", rules, root, path, sink)?;
+        member(&self.far, "far", rules, root, path, sink)
+    }
+}
+
+/// Validates a member, one step further.
+fn member<'a, T: Validate, S: Sink>(
+    value: &'a T,
+    name: &'static str,
+    rules: &Rules<'_>,
+    root: &Root,
+    path: &mut Steps<'a>,
+    sink: &mut S,
+) -> Result<(), Stop<S::Refusal>>
+    ensures { Walked S.next S.refuses path.old (S.state sink.old)
+        (λ base. reports_by T.kind (T.tree value.now) (T.own value.now)
+        (under (rules_of rules.now) (root_tree root.now)) (base ++ field name.now ∷ []))
+        (T.depth + 1) result path.new (S.state sink.new) }
+{
+    if path.is_full() {
+        return Err(Stop::StepsFull);
+    }
+    path.push(Step::Field(name));
+    let walked = value.validate_with(rules, root, path, sink);
+    path.pop();
+    walked
+}
+
+/// A sink that takes one report, and refuses the next with its fault.
+#[derive(Drop)]
+struct One {
+    is_full: bool,
+}
+
+impl Sink for One {
+    type Refusal = Error;
+
+    // What contracts see of it: whether it has taken a report.
+    ghost State = { Bool };
+
+    ghost state = { λ sink. sink.is_full };
+
+    ghost next = { λ _ _ _. true };
+
+    // A refusal is the fault of the report, and changes nothing.
+    ghost refuses = { λ old _ error refusal new. (refusal ≡ error) × (new ≡ old) };
+
+    fn report(&mut self, _path: &Steps<'_>, error: Error) -> Result<(), Error> {
+        if self.is_full {
+            return Err(error);
+        }
+        self.is_full = true;
+        Ok(())
+    }
+}
+
+pub fn main(rt: HostRuntime) -> Result<()> {
+    let root = Root::new(rt.alloc())?;
+    let levels = Levels {
+        near: Index::new(0),
+        far: Index::new(1),
+    };
+    let mut faults = Collect::new(rt.alloc());
+    levels.validate(&root, &mut Steps::new(), &mut faults)?;
+    for (path, error) in faults.reports() {
+        println!(rt; "{path}: {error}")?;
+    }
+    match levels.validate(&root, &mut Steps::new(), &mut One { is_full: false }) {
+        Err(Stop::Sink(error)) => println!(rt; "refused: {}", error.code())?,
+        ended => println!(rt; "{ended:?}")?,
+    }
+    Ok(())
+}

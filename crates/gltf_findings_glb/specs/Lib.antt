@@ -1,4 +1,0 @@
-pub mod Chunks
-pub mod Findings
-pub mod Found
-pub mod Rules

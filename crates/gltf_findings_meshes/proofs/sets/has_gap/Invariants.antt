@@ -1,7 +1,0 @@
--- No set before has a number that is too large.
-use Rattle.std.proofs.Common.{◌≡◌, drop, length}
-use Rattle.gltf_findings_meshes.specs.Sets.{any_from}
-use Rattle.gltf_findings_meshes.proofs.sets.has_gap.Given as goal
-
-abbrev pub invariant-loop-set : goal.invariant-loop-set
-invariant-loop-set l = any_from (length l.sets) l.sets ≡ any_from (length l.sets) (drop l.set-index l.sets)

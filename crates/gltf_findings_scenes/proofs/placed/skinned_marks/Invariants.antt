@@ -1,7 +1,0 @@
--- The meshes that are left give the other marks.
-use Rattle.std.proofs.Common.{◌≡◌, ◌++◌, drop}
-use Rattle.gltf_findings_scenes.specs.Placed.{skinned_marks}
-use Rattle.gltf_findings_scenes.proofs.placed.skinned_marks.Given as goal
-
-abbrev pub invariant-loop-mesh : goal.invariant-loop-mesh
-invariant-loop-mesh l = l.marks.items ++ skinned_marks (drop l.mesh-index l.meshes) ≡ skinned_marks l.meshes

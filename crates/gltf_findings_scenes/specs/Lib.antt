@@ -1,4 +1,0 @@
-pub mod Animations
-pub mod Nodes
-pub mod Placed
-pub mod Skins

@@ -1,3 +1,0 @@
-pub mod Containers
-pub mod Objects
-pub mod Uris

@@ -1,3 +1,0 @@
-pub mod Container
-pub mod Reading
-pub mod Writing

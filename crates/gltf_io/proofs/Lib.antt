@@ -1,2 +1,0 @@
-pub mod DeviceLemmas
-pub mod WriteLemmas

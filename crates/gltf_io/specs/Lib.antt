@@ -1,2 +1,0 @@
-pub mod Device
-pub mod Watched

@@ -1,4 +1,0 @@
-pub mod Walks
-pub mod Loops
-pub mod Counting
-pub mod Collecting

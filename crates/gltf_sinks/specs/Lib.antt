@@ -1,4 +1,0 @@
-pub mod Report
-pub mod SinkOutcome
-pub mod Sinks
-pub mod Stops

@@ -1,5 +1,0 @@
-pub mod Sharing
-pub mod Numbering
-pub mod Ranging
-pub mod Rooting
-pub mod Knowing

@@ -1,4 +1,0 @@
-//! Paths, semantics, numbers, indexes and choices.
-
-mod choices;
-mod values;

@@ -141,6 +141,10 @@ def write_page(files, entries):
 
 
 def write_codes(files):
+    severities = variants_of(CODE, "Severity")
+    for number, (_, _, severity, *_) in cases_of(TABLE, "code_entry", ENTRY):
+        if severity not in severities:
+            raise Wrong(TABLE, number, f"Severity has no variant {severity}")
     entries = [Entry(*groups) for groups in table_of(TABLE, "code_entry", ENTRY, CODE, "Code")]
     write_functions(files, entries)
     write_names(files)

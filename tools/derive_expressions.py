@@ -116,6 +116,8 @@ class Translator(Std):
             return made
         made = definition(head)
         if not made or len(made.clauses[0][0]) > len(arguments):
+            if "." not in head:
+                raise NoForm(f"no `use` line of the definition's file names `{head}`")
             raise NoForm(f"no function stands for `{short(head)}`")
         return self.unfolded(made, arguments, want)
 

@@ -34,6 +34,8 @@ class Rules:
     def lines(self, one, depth):
         """The lines of the body of a function."""
         made = definition(head(one))
+        if not made and "." not in head(one):
+            raise NoForm(f"no `ghost use` line of its file names `{one.name}`")
         if not made:
             raise NoForm("its definition is no function by clauses")
         translator = Cases(self.functions, one)
@@ -60,7 +62,9 @@ def body_of(one, lines):
     front = re.match(" *", line)[0]
     if not re.search(rf"\bfn {one.name}\b", line):
         raise Wrong(one.path, one.line, f"there is no function {one.name}")
-    first = next(k for k in range(one.line - 1, len(lines)) if lines[k] == front + "{")
+    first = next(k for k in range(one.line, len(lines)) if re.match(front + "[{}]", lines[k]))
+    if lines[first] != front + "{":
+        raise Wrong(one.path, first + 1, f"the body of {one.name} doesn't begin with a line of `{{`")
     return first, lines.index(front + "}", first), len(front) // 4 + 1
 
 

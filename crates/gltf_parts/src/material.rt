@@ -15,7 +15,6 @@ pub use gltf_base::material::{AlphaMode, VALID_ALPHA_MODES};
 use gltf_base::validation::Checked;
 use gltf_base::{Index, Listed, Real};
 use gltf_schema::{Error, Refusal, Schema, Shape, Source, Stream, Strip, Tabled, Unread};
-use json::Token;
 use serde_json::Value;
 use std::alloc::{AllocError, Global};
 
@@ -237,8 +236,8 @@ impl Schema for AlphaCutoff {
         Ok(AlphaCutoff(Real::decode_from(alloc, source)?))
     }
 
-    fn from_token<'a>(token: Token<'a>, from: &mut Stream<'a>) -> Result<AlphaCutoff, Unread> {
-        Ok(AlphaCutoff(Real::from_token(token, from)?))
+    fn from_token<'a>(from: &mut Stream<'a>) -> Result<AlphaCutoff, Unread> {
+        Ok(AlphaCutoff(Real::from_token(from)?))
     }
 
     fn decode_or_place<S: Source>(alloc: Global, source: S) -> Result<AlphaCutoff, Refusal> {

@@ -22,18 +22,15 @@ use crate::stream::{Stream, Unread};
 use crate::stripping::{Strip, strip_items};
 use crate::tokens::Tokens;
 use gltf_base::Error;
-use json::Token;
 use serde_json::Value;
 use std::alloc::{AllocError, Global};
 
 impl<T: Schema> Schema for Vec<T> {
     ghost is_never_absent = { λ _. refl };
 
-    fn from_token<'a>(token: Token<'a>, from: &mut Stream<'a>) -> Result<Vec<T>, Unread> {
-        match token {
-            Token::BeginArray => read_items(from),
-            _ => Err(Unread),
-        }
+    fn from_token<'a>(from: &mut Stream<'a>) -> Result<Vec<T>, Unread> {
+        from.reader.begin_array()?;
+        read_items(from)
     }
 
     fn decode_from<S: Source>(alloc: Global, source: S) -> Result<Vec<T>, Error> {
@@ -102,9 +99,8 @@ fn read_items<'a, T: Schema>(from: &mut Stream<'a>) -> Result<Vec<T>, Unread>
     }
     from.depth -= 1;
     let mut list = Vec::new(from.alloc);
-    'items: while !from.reader.take_end_array() {
-        let token = from.reader.next().ok_or(Unread)?;
-        T::read_onto(&mut list, token, from)?;
+    'items: while !from.reader.take_end_array()? {
+        T::read_onto(&mut list, from)?;
     }
     from.depth += 1;
     Ok(list)

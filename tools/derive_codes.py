@@ -41,14 +41,15 @@ class Entry:
 
 
 def table_of(path, name, pattern, source, enum):
-    """The lines of a table in specs/, in the order of the enum. Each variant has exactly one."""
+    """The lines of a table in specs/ with their numbers, in the order of the enum. Each variant has
+    exactly one."""
     known, found = variants_of(source, enum), {}
     for number, groups in cases_of(path, name, pattern):
         if groups[0] not in known:
             raise Wrong(path, number, f"{enum} has no variant {groups[0]}")
         if groups[0] in found:
             raise Wrong(path, number, f"{groups[0]} has a line already")
-        found[groups[0]] = groups
+        found[groups[0]] = number, groups
     for one, number in known.items():
         if one not in found:
             raise Wrong(source, number, f"{one} has no line in {path.relative_to(ROOT)}")
@@ -93,7 +94,7 @@ def write_functions(files, entries):
 def write_names(files):
     """Writes `src/name/derived.rt`."""
     rows = table_of(SPELLING, "name_text", SPELLED, NAME, "Name")
-    arms = [line for name, text in rows for line in arm(f"Name::{name}", f'"{text}"')]
+    arms = [line for _, (name, text) in rows for line in arm(f"Name::{name}", f'"{text}"')]
     files.whole(CODES / "src" / "name" / "derived.rt", [
         *header([NAME, SPELLING], "//!"), "",
         "ghost use Rattle.std.specs.Prelude.{◌≡◌};",
@@ -140,12 +141,18 @@ def write_page(files, entries):
             lines.insert(at + 1, f"{one.cells()}  |")
 
 
+def code_entries():
+    """The line of each code, in the order of the enum."""
+    severities, made = variants_of(CODE, "Severity"), []
+    for number, groups in table_of(TABLE, "code_entry", ENTRY, CODE, "Code"):
+        made.append(Entry(*groups))
+        if made[-1].severity not in severities:
+            raise Wrong(TABLE, number, f"Severity has no variant {made[-1].severity}")
+    return made
+
+
 def write_codes(files):
-    severities = variants_of(CODE, "Severity")
-    for number, (_, _, severity, *_) in cases_of(TABLE, "code_entry", ENTRY):
-        if severity not in severities:
-            raise Wrong(TABLE, number, f"Severity has no variant {severity}")
-    entries = [Entry(*groups) for groups in table_of(TABLE, "code_entry", ENTRY, CODE, "Code")]
+    entries = code_entries()
     write_functions(files, entries)
     write_names(files)
     write_list(files, entries)

@@ -10,10 +10,9 @@ status 1 and a short diff if they aren't. The rest of the page is by hand.
 import re
 
 from check_promises import PAGE, Check
+from corpus import DATA
 from settle import is_check, settle
-from sources import ROOT
 
-DATA = ROOT / "crates" / "gltf_corpus_run" / "data"
 # What the page says in front of and behind the number of cases of a file.
 CASES = {"findings": ("over ", " documents: one for each rule"), "files": ("with ", " `.glb` files"),
          "uris": ("with ", " documents for URIs"), "notices": ("with ", " for notices of each code")}

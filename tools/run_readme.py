@@ -3,7 +3,7 @@
 `python3 tools/run_readme.py` checks in a moment, without the toolchain: each Rust program is an
 example of `gltf_examples`, each output is part of what `rt ci` compares as the output of
 `gltf_examples_run`, README has at most 700 words, the examples of a row of the guide's table have
-each call of the row, and each finding has the severity and the message of docs/FINDINGS.md (in
+each call of the row, and each finding has the severity and the message of its code (in
 docs/C.md too). The guide's command that takes the library along copies it into a new folder,
 leaves an equal copy as it is, and refuses a copy that was changed.
 `--run` also runs the pages' commands in a clean copy of this repository: the first one by `rt try`,
@@ -19,6 +19,7 @@ import sys
 import tempfile
 from pathlib import Path
 
+from derive_codes import code_entries
 from settle import parser_of
 
 ROOT = Path(__file__).resolve().parent.parent
@@ -28,7 +29,6 @@ EXAMPLES = ROOT / "crates" / "gltf_examples"
 # The program that runs them: its documents, and what it must print.
 RUN = ROOT / "crates" / "gltf_examples_run"
 LINTER = Path("crates", "gltf_lint", "out", "gltf_lint")
-FINDINGS = ROOT / "docs" / "FINDINGS.md"
 # A line of the linter: the severity, the message and the code.
 FINDING = re.compile(r"(?m)^\S+:\d+:\d+: (\w+): \S+: (.*) \[([A-Z0-9_]+)\]$")
 MOST_WORDS = 700
@@ -103,8 +103,7 @@ class Pages:
 
     def check_findings(self):
         """Compares the findings that pages print with the table of their codes."""
-        rows = r"(?m)^\| `([A-Z0-9_]+)` \| (\w+) \| [^|]+ \| ([^|]+) \|"
-        said = {code: rest for code, *rest in re.findall(rows, FINDINGS.read_text())}
+        said = {one.name: [one.severity.lower(), one.message] for one in code_entries()}
         for page in (self.readme, self.lint, Page(ROOT / "docs" / "C.md")):
             for severity, message, code in re.findall(FINDING, "".join(page.blocks["text"])):
                 self.expect([severity, message] == said.get(code),

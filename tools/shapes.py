@@ -17,8 +17,8 @@ The shares of docs/PERFORMANCE.md, at the top of the repository:
         done
     done
 
-The share of the usual document is one `Root::from_slice and drop` divided by the other. The share of the floor is it divided
-by `Value::from_slice and drop` of the same file.
+The share of the usual document is one `Root::from_slice and drop` divided by the other. The share of
+the floor is it divided by `Value::from_slice and drop` of the same file.
 """
 from settle import parser_of
 

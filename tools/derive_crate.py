@@ -151,7 +151,7 @@ class CrateTexts:
         made = self.made
         fields = struct(f"let {made.name}", [f"{name}: _" for name in made.fields], " = self;")
         return block(f"impl Drop for {made.name}",
-                     ["fn drop(self) {", *indented(fields), "}"])
+                     ["#[inline(always)]", "fn drop(self) {", *indented(fields), "}"])
 
     def object(self):
         made = self.made

@@ -1,3 +1,1 @@
 pub mod Positions
-pub mod Lexemes
-pub mod NumberParts

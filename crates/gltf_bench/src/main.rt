@@ -3,20 +3,14 @@
 //! a byte of the file.
 #![tactic(auto)]
 
-mod bytes;
-mod literal;
 mod loading;
-mod number;
-mod pass;
-mod quoted;
-mod reader;
 
 use anyhow::{Context, Result};
 use gltf_base::Steps;
 use gltf_json::Root;
 use gltf_json::validation::{Count, Validate, Walk};
+use gltf_schema::{Reader, Stream};
 use json::{Scratch, is_valid};
-use pass::pass_text;
 use serde_json::Value;
 use std::time::Instant;
 use std::{env, fs, str};
@@ -57,6 +51,9 @@ const TASKS: [(Task, &str); 13] = [
 ];
 
 const ROUNDS: usize = 9;
+
+/// How deep arrays and objects may nest, as in `serde_json`.
+const MAX_DEPTH: usize = 127;
 
 const USAGE: &str =
     "usage: gltf_bench FILE\nFILE is a glTF document; gen_document.py of tools/ makes large ones.";
@@ -107,11 +104,11 @@ fn time_tokens(rt: &HostRuntime, bytes: &[u8]) -> Result<u64> {
     nanos_since(rt, &start)
 }
 
-/// A pass with a reader that asks the text for each value.
+/// A pass with the reader of `gltf_schema`, which asks the text for each value.
 fn time_values(rt: &HostRuntime, bytes: &[u8]) -> Result<u64> {
     let text = str::from_utf8(bytes)?;
     let start = Instant::now(rt)?;
-    let passed = pass_text(rt.alloc(), text);
+    let passed = Stream::new(rt.alloc(), Reader::new(text), MAX_DEPTH).skip_value();
     let nanos = nanos_since(rt, &start)?;
     passed.ok().context("the text isn't read value by value")?;
     Ok(nanos)

@@ -8,8 +8,7 @@ ghost use Rattle.serde_json.specs.Read.{read};
 ghost use Rattle.serde_json.specs.View.{view, members_view};
 ghost use Rattle.gltf_findings_members.specs.Kept.{excerpt, FindsKept, LeavesText, LeavesTokens, Takes};
 
-use gltf_schema::{Stream, Unread};
-use json::{Reader, Scratch, Token};
+use gltf_schema::{Reader, Stream, Unread};
 use serde_json::{Map, Value};
 use std::alloc::Global;
 use std::collections::BTreeSet;
@@ -25,21 +24,15 @@ pub(crate) fn excerpt_of(
     keep: &BTreeSet<String>,
     reach: usize,
     text: &str,
-    scratch: &mut Scratch<Global>,
 ) -> Option<Value>
     requires { LeavesText (contains_text keep.now) text.now reach }
     ensures { IfSome result (λ v. (d : Data) → read text.now ≡ Some d
         → view v ≡ excerpt (contains_text keep.now) d) }
 {
-    let reader = Reader::new(text, scratch).ok()?;
-    let mut from = Stream::new(alloc, reader, MAX_DEPTH - 1);
-    match from.reader.next() {
-        Some(Token::BeginObject) => {
-            let found = kept_members(keep, reach, &mut from).ok()?;
-            Some(Value::Object(found))
-        }
-        _ => None,
-    }
+    let mut from = Stream::new(alloc, Reader::new(text), MAX_DEPTH - 1);
+    from.reader.begin_object().ok()?;
+    let found = kept_members(keep, reach, &mut from).ok()?;
+    Some(Value::Object(found))
 }
 
 /// The members of an object whose brace was taken, without those whose names are not kept. Nothing
@@ -78,11 +71,10 @@ fn take_member<'a>(
     ensures depth { OnOk result (from.new.depth ≡ from.old.depth) }
 {
     if !keep.contains(name) {
-        from.reader.skip_value(from.depth)?;
+        from.skip_value()?;
         return Ok(());
     }
-    let token = from.reader.next().ok_or(Unread)?;
-    let value = from.value_after(token)?;
+    let value = from.value()?;
     let key = String::from_str(from.alloc, name)?;
     drop(found.insert(key, value)?);
     Ok(())

@@ -86,12 +86,12 @@ fn look_again(
     match &seen.used {
         Some(used) if seen.is_late => {
             if let Some(again) = look_beside(alloc, outline, rows, used, text, scratch) {
-                return conclude(alloc, outline, rows, text, again, scratch);
+                return conclude(alloc, outline, rows, text, again);
             }
         }
         _ => {}
     }
-    conclude(alloc, outline, rows, text, seen, scratch)
+    conclude(alloc, outline, rows, text, seen)
 }
 
 /// What is seen of a text, some of whose used extensions are known.
@@ -124,14 +124,7 @@ fn look_beside(
 }
 
 /// What was found by what was seen.
-fn conclude(
-    alloc: Global,
-    outline: &Outline,
-    rows: &[Member],
-    text: &str,
-    seen: Seen,
-    scratch: &mut Scratch<Global>,
-) -> FirstLook
+fn conclude(alloc: Global, outline: &Outline, rows: &[Member], text: &str, seen: Seen) -> FirstLook
     requires rows { AreRows outline.now rows.now }
     requires seen { SeesAll outline.now rows.now text.now seen }
     ensures { IsFirstLook outline.now text.now result }
@@ -146,7 +139,7 @@ fn conclude(
     let Some(keep) = names_to_keep(alloc, seen.loud, rows) else {
         return FirstLook::Nothing;
     };
-    match excerpt_of(alloc, &keep, reach, text, scratch) {
+    match excerpt_of(alloc, &keep, reach, text) {
         Some(value) => FirstLook::Excerpt(value),
         None => FirstLook::Nothing,
     }

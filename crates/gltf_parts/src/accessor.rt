@@ -51,6 +51,7 @@ pub struct Accessor {
 
 // Written by tools/derive.py: begin
 impl Drop for Accessor {
+    #[inline(always)]
     fn drop(self) {
         let Accessor {
             buffer_view: _,

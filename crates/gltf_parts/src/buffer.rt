@@ -18,7 +18,6 @@ use gltf_base::{Index, Listed};
 use gltf_schema::{
     Error, Refusal, Schema, Shape, Source, Stream, Strip, Tabled, Unread, whole_or_refused,
 };
-use json::Token;
 use serde_json::Value;
 use std::alloc::{AllocError, Global};
 
@@ -41,8 +40,8 @@ impl Schema for Stride {
         Ok(Stride(source.whole().ok_or(Error::Schema)? as usize))
     }
 
-    fn from_token<'a>(token: Token<'a>, from: &mut Stream<'a>) -> Result<Stride, Unread> {
-        Ok(Stride(USize64::from_token(token, from)?.0 as usize))
+    fn from_token<'a>(from: &mut Stream<'a>) -> Result<Stride, Unread> {
+        Ok(Stride(USize64::from_token(from)?.0 as usize))
     }
 
     fn decode_or_place<S: Source>(alloc: Global, source: S) -> Result<Stride, Refusal> {
@@ -74,6 +73,7 @@ pub struct Buffer {
 
 // Written by tools/derive.py: begin
 impl Drop for Buffer {
+    #[inline(always)]
     fn drop(self) {
         let Buffer {
             byte_length: _,
@@ -129,6 +129,7 @@ pub struct View {
 
 // Written by tools/derive.py: begin
 impl Drop for View {
+    #[inline(always)]
     fn drop(self) {
         let View {
             buffer: _,

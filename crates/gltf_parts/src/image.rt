@@ -13,7 +13,6 @@ use crate::extras::Extras;
 pub use gltf_base::image::VALID_MIME_TYPES;
 use gltf_base::{Index, Listed};
 use gltf_schema::{Error, Refusal, Schema, Shape, Source, Stream, Strip, Tabled, Unread};
-use json::Token;
 use serde_json::Value;
 use std::alloc::{AllocError, Global};
 
@@ -36,8 +35,8 @@ impl Schema for MimeType {
         Ok(MimeType(String::decode_from(alloc, source)?))
     }
 
-    fn from_token<'a>(token: Token<'a>, from: &mut Stream<'a>) -> Result<MimeType, Unread> {
-        Ok(MimeType(String::from_token(token, from)?))
+    fn from_token<'a>(from: &mut Stream<'a>) -> Result<MimeType, Unread> {
+        Ok(MimeType(String::from_token(from)?))
     }
 
     fn decode_or_place<S: Source>(alloc: Global, source: S) -> Result<MimeType, Refusal> {
@@ -71,6 +70,7 @@ pub struct Image {
 
 // Written by tools/derive.py: begin
 impl Drop for Image {
+    #[inline(always)]
     fn drop(self) {
         let Image {
             buffer_view: _,

@@ -15,7 +15,6 @@ pub use gltf_base::material::{AlphaMode, VALID_ALPHA_MODES};
 use gltf_base::validation::Checked;
 use gltf_base::{Index, Listed, Real};
 use gltf_schema::{Error, Refusal, Schema, Shape, Source, Stream, Strip, Tabled, Unread};
-use json::Token;
 use serde_json::Value;
 use std::alloc::{AllocError, Global};
 
@@ -47,6 +46,7 @@ pub struct Material {
 
 // Written by tools/derive.py: begin
 impl Drop for Material {
+    #[inline(always)]
     fn drop(self) {
         let Material {
             alpha_cutoff: _,
@@ -101,6 +101,7 @@ pub struct PbrMetallicRoughness {
 
 // Written by tools/derive.py: begin
 impl Drop for PbrMetallicRoughness {
+    #[inline(always)]
     fn drop(self) {
         let PbrMetallicRoughness {
             base_color_factor: _,
@@ -130,6 +131,7 @@ pub struct NormalTexture {
 
 // Written by tools/derive.py: begin
 impl Drop for NormalTexture {
+    #[inline(always)]
     fn drop(self) {
         let NormalTexture {
             index: _,
@@ -178,6 +180,7 @@ pub struct OcclusionTexture {
 
 // Written by tools/derive.py: begin
 impl Drop for OcclusionTexture {
+    #[inline(always)]
     fn drop(self) {
         let OcclusionTexture {
             index: _,
@@ -237,8 +240,8 @@ impl Schema for AlphaCutoff {
         Ok(AlphaCutoff(Real::decode_from(alloc, source)?))
     }
 
-    fn from_token<'a>(token: Token<'a>, from: &mut Stream<'a>) -> Result<AlphaCutoff, Unread> {
-        Ok(AlphaCutoff(Real::from_token(token, from)?))
+    fn from_token<'a>(from: &mut Stream<'a>) -> Result<AlphaCutoff, Unread> {
+        Ok(AlphaCutoff(Real::from_token(from)?))
     }
 
     fn decode_or_place<S: Source>(alloc: Global, source: S) -> Result<AlphaCutoff, Refusal> {

@@ -39,6 +39,7 @@ pub struct Sampler {
 
 // Written by tools/derive.py: begin
 impl Drop for Sampler {
+    #[inline(always)]
     fn drop(self) {
         let Sampler {
             mag_filter: _,
@@ -76,6 +77,7 @@ pub struct Texture {
 
 // Written by tools/derive.py: begin
 impl Drop for Texture {
+    #[inline(always)]
     fn drop(self) {
         let Texture {
             source: _,
@@ -123,6 +125,7 @@ pub struct Info {
 
 // Written by tools/derive.py: begin
 impl Drop for Info {
+    #[inline(always)]
     fn drop(self) {
         let Info {
             index: _,

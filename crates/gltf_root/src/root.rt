@@ -72,6 +72,7 @@ pub struct Root {
 
 // Written by tools/derive.py: begin
 impl Drop for Root {
+    #[inline(always)]
     fn drop(self) {
         let Root {
             scene: _,

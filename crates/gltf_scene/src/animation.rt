@@ -32,6 +32,7 @@ pub struct Animation {
 
 // Written by tools/derive.py: begin
 impl Drop for Animation {
+    #[inline(always)]
     fn drop(self) {
         let Animation {
             samplers: _,

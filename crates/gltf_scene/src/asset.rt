@@ -26,6 +26,7 @@ pub struct Asset {
 
 // Written by tools/derive.py: begin
 impl Drop for Asset {
+    #[inline(always)]
     fn drop(self) {
         let Asset {
             copyright: _,

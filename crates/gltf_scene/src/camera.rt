@@ -33,6 +33,7 @@ pub struct Camera {
 
 // Written by tools/derive.py: begin
 impl Drop for Camera {
+    #[inline(always)]
     fn drop(self) {
         let Camera {
             type_: _,

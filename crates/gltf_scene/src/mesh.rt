@@ -35,6 +35,7 @@ pub struct Mesh {
 
 // Written by tools/derive.py: begin
 impl Drop for Mesh {
+    #[inline(always)]
     fn drop(self) {
         let Mesh {
             name: _,

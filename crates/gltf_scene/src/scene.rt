@@ -15,7 +15,6 @@ use crate::skin::Skin;
 use gltf_base::{Index, Listed, Real};
 use gltf_parts::extras::Extras;
 use gltf_schema::{Error, Refusal, Schema, Shape, Source, Stream, Strip, Tabled, Unread};
-use json::Token;
 use serde_json::Value;
 use std::alloc::{AllocError, Global};
 
@@ -48,6 +47,7 @@ pub struct Node {
 
 // Written by tools/derive.py: begin
 impl Drop for Node {
+    #[inline(always)]
     fn drop(self) {
         let Node {
             camera: _,
@@ -106,6 +106,7 @@ pub struct Scene {
 
 // Written by tools/derive.py: begin
 impl Drop for Scene {
+    #[inline(always)]
     fn drop(self) {
         let Scene {
             name: _,
@@ -179,8 +180,8 @@ impl Schema for UnitQuaternion {
         Ok(UnitQuaternion(Schema::decode_from(alloc, source)?))
     }
 
-    fn from_token<'a>(token: Token<'a>, from: &mut Stream<'a>) -> Result<UnitQuaternion, Unread> {
-        Ok(UnitQuaternion(Schema::from_token(token, from)?))
+    fn from_token<'a>(from: &mut Stream<'a>) -> Result<UnitQuaternion, Unread> {
+        Ok(UnitQuaternion(Schema::from_token(from)?))
     }
 
     fn decode_or_place<S: Source>(alloc: Global, source: S) -> Result<UnitQuaternion, Refusal> {

@@ -31,6 +31,7 @@ pub struct Skin {
 
 // Written by tools/derive.py: begin
 impl Drop for Skin {
+    #[inline(always)]
     fn drop(self) {
         let Skin {
             inverse_bind_matrices: _,

@@ -42,3 +42,12 @@ pub mod Digits
 pub mod OneToken
 pub mod Standing
 pub mod TextOrder
+pub mod Lexing
+pub mod NextTokens
+pub mod Parts
+pub mod Quotes
+pub mod Firsts
+pub mod Literals
+pub mod Escaped
+pub mod Plains
+pub mod Wholes

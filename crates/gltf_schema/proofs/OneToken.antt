@@ -1,5 +1,8 @@
 -- Values of one token.
-use Rattle.std.proofs.Common.{◌≡◌, ◌^◌, nat_lt, true, ℕ, List, ◌∷◌, Option, Some, None, Bool, length, option_map, Result, Ok, Err, OnOk, refl, sym, ap, ◌∙◌}
+use Rattle.std.proofs.Common.{◌≡◌, ◌^◌, nat_lt, true, ℕ, List, [], ◌∷◌, Option, Some, None, Bool, length, option_map, Result, Ok, Err, OnOk, refl, false, sym, ap, ◌∙◌, subst}
+use Rattle.std.specs.Prelude.{IfOk}
+use Rattle.std.specs.Bool.{MatchBool}
+use Rattle.std.proofs.lemmas.Bool.{true≢false, false≢true}
 use Rattle.json.specs.Token.{Token}
 use Rattle.json.specs.Json as json
 use Rattle.json.specs.Json.{Parse, parse_map, value, value_with}
@@ -9,9 +12,6 @@ use Rattle.serde_json.specs.Find.{as_number}
 use Rattle.serde_json.specs.View.{view}
 use Rattle.serde_json.specs.declared.value.Value.{Value}
 use Rattle.serde_json.specs.Read.{of_json, of_items, of_members, number_of, converted}
-use Rattle.json.specs.Reads.{token_of}
-use Rattle.json.specs.declared.token.Token.{Token as Held}
-use Rattle.json.specs.declared.token.Token.TheVariants as held
 use Rattle.gltf_base.specs.Lists.{ListName}
 use Rattle.gltf_base.specs.declared.real.Real.{Real}
 use Rattle.gltf_base.specs.Spelling.{Spelling, by_number, by_name, item_spelled}
@@ -21,7 +21,8 @@ use Rattle.gltf_schema.specs.Fields.{list_tree, real_tree, reals_tree}
 use Rattle.gltf_schema.specs.Kind.{Kind, U32, U64, Number, Numbers, Text, Truth, IndexInto, ListOf, optional}
 use Rattle.gltf_schema.specs.Leaves.{checked_tree, choice_of}
 use Rattle.gltf_schema.specs.Read.{read, read_member, whole_number, small_number}
-use Rattle.gltf_schema.specs.Streamed.{HasValue, ReadsAt, ReadsOptional, IsWhole}
+use Rattle.gltf_schema.specs.Streamed.{HasValue, ReadsAt, ReadsOptional, IsWholeNext}
+use Rattle.gltf_schema.specs.Lexemes.{IsNoNull}
 use Rattle.gltf_schema.proofs.ArrayOfNumbers.{reals_read, array_of_list}
 use Rattle.gltf_schema.proofs.Choosing.{chosen_among}
 use Rattle.gltf_schema.proofs.Turns.{converted_some}
@@ -30,6 +31,18 @@ use Rattle.gltf_schema.proofs.Turns.{converted_some}
 pub on_ok : {T E : Type 0} {P Q : Type 0} (r : Result T E) → (P → Q) → OnOk r P → OnOk r Q
 on_ok (Ok x) f h = f h
 on_ok (Err e) f h = tt
+
+pub on_value : {T E : Type 0} {P Q : T → Type 0} (r : Result T E) → ((x : T) → P x → Q x) → IfOk r P → IfOk r Q
+on_value (Ok x) f h = f x h
+on_value (Err e) f h = tt
+
+pub when_true : (P Q : Type 0) (b : Bool) → b ≡ true → MatchBool b P Q → P
+when_true P Q true e m = m
+when_true P Q false e m = absurd (false≢true e)
+
+pub when_false : (P Q : Type 0) (b : Bool) → b ≡ false → MatchBool b P Q → Q
+when_false P Q true e m = absurd (true≢false e)
+when_false P Q false e m = m
 
 pub number_at : (depth : ℕ) (s : List ℕ) (ts : List Token) (x : Num) → number_of s ≡ Some x → HasValue depth (Token.number s ∷ ts) (number x) ts
 number_at depth s ts x e = ap (converted of_json) (value_is depth (Token.number s ∷ ts)) ∙ rw e refl
@@ -43,23 +56,14 @@ boolean_at depth b ts = ap (converted of_json) (value_is depth (Token.boolean b 
 pub null_at : (depth : ℕ) (ts : List Token) → HasValue depth (Token.null ∷ ts) null ts
 null_at depth ts = ap (converted of_json) (value_is depth (Token.null ∷ ts))
 
-pub whole_value : (depth : ℕ) (t : Token) (ts : List Token) (n : ℕ) → IsWhole t n → (d : Data) × HasValue depth (t ∷ ts) d ts × (whole_number d ≡ Some n)
-whole_value depth (Token.number s) ts n e = (number (unsigned n), number_at depth s ts (unsigned n) e, refl)
-whole_value depth Token.begin_object ts n e = absurd e
-whole_value depth Token.end_object ts n e = absurd e
-whole_value depth Token.begin_array ts n e = absurd e
-whole_value depth Token.end_array ts n e = absurd e
-whole_value depth (Token.key s) ts n e = absurd e
-whole_value depth (Token.string s) ts n e = absurd e
-whole_value depth (Token.boolean b) ts n e = absurd e
-whole_value depth Token.null ts n e = absurd e
-whole_value depth Token.bad ts n e = absurd e
+pub whole_value : (depth : ℕ) (ts rest : List Token) (n : ℕ) → IsWholeNext ts n rest → (d : Data) × HasValue depth ts d rest × (whole_number d ≡ Some n)
+whole_value depth ts rest n w = (number (unsigned n), subst (λ l. HasValue depth l (number (unsigned n)) rest) (sym w.1) (number_at depth w.0 rest (unsigned n) w.2), refl)
 
-pub whole_at : (depth : ℕ) (t : Token) (ts : List Token) (n : ℕ) → IsWhole t n → ReadsAt U64 (whole n) depth (t ∷ ts) ts
-whole_at depth t ts n e = let v = whole_value depth t ts n e in (v.0, v.1, ap (option_map whole) v.2)
+pub whole_at : (depth : ℕ) (ts rest : List Token) (n : ℕ) → IsWholeNext ts n rest → ReadsAt U64 (whole n) depth ts rest
+whole_at depth ts rest n w = let v = whole_value depth ts rest n w in (v.0, v.1, ap (option_map whole) v.2)
 
-pub small_at : (depth : ℕ) (t : Token) (ts : List Token) (n : ℕ) → nat_lt n (2 ^ 32) ≡ true → IsWhole t n → ReadsAt U32 (whole n) depth (t ∷ ts) ts
-small_at depth t ts n less e = let v = whole_value depth t ts n e in (v.0, v.1, rw (v.2, less) refl)
+pub small_at : (depth : ℕ) (ts rest : List Token) (n : ℕ) → nat_lt n (2 ^ 32) ≡ true → IsWholeNext ts n rest → ReadsAt U32 (whole n) depth ts rest
+small_at depth ts rest n less w = let v = whole_value depth ts rest n w in (v.0, v.1, rw (v.2, less) refl)
 
 abbrev as_index : Tree → Tree
 as_index (whole n) = index n
@@ -74,20 +78,23 @@ pub index_of_number : (named : ListName) (depth : ℕ) (ts rest : List Token) (n
 index_of_number named depth ts rest n r = (r.0, r.1, indexed (small_number r.0) ∙ ap (option_map as_index) r.2)
 
 -- an item of a choice by number
-pub choice_number_at : {X : Type 0} (spell : X → Spelling) (items : List X) (depth : ℕ) (t : Token) (ts : List Token) (n : ℕ) → IsWhole t n
-    → ReadsAt (choice_of form.Number spell items) (checked_tree spell (item_spelled spell items (by_number n))) depth (t ∷ ts) ts
-choice_number_at spell items depth t ts n e =
-    let v = whole_value depth t ts n e in
+pub choice_number_at : {X : Type 0} (spell : X → Spelling) (items : List X) (depth : ℕ) (ts rest : List Token) (n : ℕ) → IsWholeNext ts n rest
+    → ReadsAt (choice_of form.Number spell items) (checked_tree spell (item_spelled spell items (by_number n))) depth ts rest
+choice_number_at spell items depth ts rest n w =
+    let v = whole_value depth ts rest n w in
     (v.0, v.1, rw v.2 (ap Some (sym (chosen_among spell items (by_number n)))))
 
 -- and by name
-pub choice_name_at : {X : Type 0} (spell : X → Spelling) (items : List X) (depth : ℕ) (s : List ℕ) (ts : List Token)
-    → ReadsAt (choice_of form.Name spell items) (checked_tree spell (item_spelled spell items (by_name s))) depth (Token.string s ∷ ts) ts
-choice_name_at spell items depth s ts = (string s, string_at depth s ts, ap Some (sym (chosen_among spell items (by_name s))))
+pub choice_name_at : {X : Type 0} (spell : X → Spelling) (items : List X) (depth : ℕ) (s : List ℕ) (ts rest : List Token) → ts ≡ Token.string s ∷ rest
+    → ReadsAt (choice_of form.Name spell items) (checked_tree spell (item_spelled spell items (by_name s))) depth ts rest
+choice_name_at spell items depth s ts rest is =
+    subst (λ l. ReadsAt (choice_of form.Name spell items) (checked_tree spell (item_spelled spell items (by_name s))) depth l rest) (sym is)
+    (string s, string_at depth s rest, ap Some (sym (chosen_among spell items (by_name s))))
 
 -- a number, as the value that holds it
-pub real_at : (depth : ℕ) (s : List ℕ) (ts : List Token) (x : Num) (v : Value) (y : Num) → number_of s ≡ Some x → view v ≡ number x → as_number (view v) ≡ Some y → ReadsAt Number (real y) depth (Token.number s ∷ ts) ts
-real_at depth s ts x v y e is h = (number x, number_at depth s ts x e, ap (option_map real) (ap as_number (sym is) ∙ h))
+pub real_at : (depth : ℕ) (s : List ℕ) (ts rest : List Token) (x : Num) (v : Value) (y : Num) → ts ≡ Token.number s ∷ rest → number_of s ≡ Some x → view v ≡ number x → as_number (view v) ≡ Some y → ReadsAt Number (real y) depth ts rest
+real_at depth s ts rest x v y first e is h =
+    subst (λ l. ReadsAt Number (real y) depth l rest) (sym first) (number x, number_at depth s rest x e, ap (option_map real) (ap as_number (sym is) ∙ h))
 
 array_of : (d : Data) (xs : List Real) (n : ℕ) → read (ListOf Number) d ≡ Some (list_tree real_tree xs) → length xs ≡ n → read (Numbers n) d ≡ Some (reals_tree xs)
 array_of null xs n h long = absurd cc
@@ -101,11 +108,11 @@ array_of (Data.object b) xs n h long = absurd cc
 pub array_at : (depth n : ℕ) (ts rest : List Token) (xs ys : List Real) → ys ≡ xs → length xs ≡ n → ReadsAt (ListOf Number) (list_tree real_tree xs) depth ts rest → ReadsAt (Numbers n) (reals_tree ys) depth ts rest
 array_at depth n ts rest xs ys same long r = (r.0, r.1, array_of r.0 xs n r.2 long ∙ ap (λ zs. Some (reals_tree zs)) (sym same))
 
-pub truth_at : (depth : ℕ) (b : Bool) (ts : List Token) → ReadsAt Truth (truth b) depth (Token.boolean b ∷ ts) ts
-truth_at depth b ts = (boolean b, boolean_at depth b ts, refl)
+pub truth_next : (depth : ℕ) (b : Bool) (ts rest : List Token) → ts ≡ Token.boolean b ∷ rest → ReadsAt Truth (truth b) depth ts rest
+truth_next depth b ts rest is = subst (λ l. ReadsAt Truth (truth b) depth l rest) (sym is) (boolean b, boolean_at depth b rest, refl)
 
-pub text_at : (depth : ℕ) (s : List ℕ) (ts : List Token) → ReadsAt Text (text s) depth (Token.string s ∷ ts) ts
-text_at depth s ts = (string s, string_at depth s ts, refl)
+pub text_next : (depth : ℕ) (s t : List ℕ) (ts rest : List Token) → ts ≡ Token.string s ∷ rest → t ≡ s → ReadsAt Text (text t) depth ts rest
+text_next depth s t ts rest is same = subst (λ l. ReadsAt Text (text t) depth l rest) (sym is) (string s, string_at depth s rest, ap (λ x. Some (text x)) (sym same))
 
 pub absent_at : (kind : Kind) (depth : ℕ) (ts : List Token) → ReadsOptional kind absent depth (Token.null ∷ ts) ts
 absent_at kind depth ts = (null, null_at depth ts, refl)
@@ -165,20 +172,17 @@ with_mark kind t (Data.string b) h e = e
 with_mark kind t (Data.array b) h e = e
 with_mark kind t (Data.object b) h e = e
 
-pub present_at : (kind : Kind) (t : Tree) (depth : ℕ) (k : Token) (ts rest : List Token) → (k ≡ Token.null → ⊥) → ReadsAt kind t depth (k ∷ ts) rest → ReadsOptional kind t depth (k ∷ ts) rest
+present_at : (kind : Kind) (t : Tree) (depth : ℕ) (k : Token) (ts rest : List Token) → (k ≡ Token.null → ⊥) → ReadsAt kind t depth (k ∷ ts) rest → ReadsOptional kind t depth (k ∷ ts) rest
 present_at kind t depth k ts rest h r =
     let j = converted_some of_json (value depth (k ∷ ts)) r.0 rest r.1 in
     let never : r.0 ≡ null → ⊥ = λ e. h (null_token _ _ k ts rest (sym (value_is depth (k ∷ ts)) ∙ j.1 ∙ ap (λ x. Some (x, rest)) (null_of j.0 (j.2 ∙ ap Some e)))) in
     (r.0, r.1, with_mark kind t r.0 never r.2)
 
-pub held_null : (t : Held) → token_of t ≡ Token.null → t ≡ held.Null
-held_null held.BeginObject e = absurd (cc)
-held_null held.EndObject e = absurd (cc)
-held_null held.BeginArray e = absurd (cc)
-held_null held.EndArray e = absurd (cc)
-held_null (held.Key s) e = absurd (cc)
-held_null (held.String s) e = absurd (cc)
-held_null (held.Number s) e = absurd (cc)
-held_null (held.Bool b) e = absurd (cc)
-held_null held.Null e = refl
-held_null held.Bad e = absurd (cc)
+pub present_next : (kind : Kind) (t : Tree) (depth : ℕ) (ts rest : List Token) → IsNoNull ts → ReadsAt kind t depth ts rest → ReadsOptional kind t depth ts rest
+present_next kind t depth [] rest h r =
+    let none : converted of_json (value depth []) ≡ None = ap (converted of_json) (value_is depth []) in
+    absurd (none_some (sym none ∙ r.1))
+  where
+    none_some : {X : Type 0} {x : X} → None ≡ Some x → ⊥
+    none_some e = cc
+present_next kind t depth (k ∷ ts) rest h r = present_at kind t depth k ts rest (λ e. h ts (ap (λ x. x ∷ ts) e)) r

@@ -35,3 +35,5 @@ pub mod Printings
 pub mod Refused
 pub mod RowPlacing
 pub mod KindsPlacedAlike
+pub mod Lexemes
+pub mod NumberParts

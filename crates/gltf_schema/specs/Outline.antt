@@ -1,6 +1,6 @@
 -- The kinds of the table as values that a program has: a node for each says what JSON it is read
 -- from, and has the numbers of the nodes of what it holds.
-use Rattle.std.specs.Prelude.{◌≡◌, ◌++◌, ⊤, ℕ, List, [], ◌∷◌, Option, Some, slice_get, Result, Ok, Err}
+use Rattle.std.specs.Prelude.{◌≡◌, ◌++◌, ⊤, ℕ, List, [], ◌∷◌, Some, slice_get, Result, Ok, Err}
 use Rattle.gltf_base.specs.declared.choice.Form.{Form}
 use Rattle.gltf_base.specs.declared.choice.Form.TheVariants as forms
 use Rattle.gltf_schema.specs.Kind.{Mark, required, optional, always, unless, sometimes, or_null}

@@ -83,7 +83,6 @@ LeavesNext old ms ms' new = new.failed ≡ false → (old.failed ≡ false) × (
 
 -- ---- numbers
 
--- the token is a whole number
-abbrev pub IsWhole : Token → ℕ → Type 0
-IsWhole (Token.number s) n = number_of s ≡ Some (unsigned n)
-IsWhole _ n = ⊥
+-- the token that is next is a whole number
+abbrev pub IsWholeNext : List Token → ℕ → List Token → Type 0
+IsWholeNext ts n rest = (s : List ℕ) × (ts ≡ Token.number s ∷ rest) × (number_of s ≡ Some (unsigned n))

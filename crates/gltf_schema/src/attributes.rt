@@ -23,7 +23,6 @@ use crate::tabled::Tabled;
 use gltf_base::mesh::Semantic;
 use gltf_base::validation::Checked;
 use gltf_base::{Error, IndexTo, Names};
-use json::Token;
 use serde_json::{Map, Value};
 use std::alloc::{AllocError, Global};
 use std::collections::BTreeMap;
@@ -38,13 +37,10 @@ impl<P: Names> Schema for BTreeMap<Checked<Semantic>, IndexTo<P>> {
     ghost is_never_absent = { λ _. refl };
 
     fn from_token<'a>(
-        token: Token<'a>,
         from: &mut Stream<'a>,
     ) -> Result<BTreeMap<Checked<Semantic>, IndexTo<P>>, Unread> {
-        match token {
-            Token::BeginObject => read_entries(from),
-            _ => Err(Unread),
-        }
+        from.reader.begin_object()?;
+        read_entries(from)
     }
 
     fn decode_from<S: Source>(
@@ -121,8 +117,7 @@ fn read_entries<'a, P: Names>(
     let mut found = BTreeMap::new(from.alloc);
     'members: while let Some(name) = from.reader.next_key()? {
         let key = Semantic::checked(from.alloc, name)?;
-        let token = from.reader.next().ok_or(Unread)?;
-        let index = IndexTo::from_token(token, from)?;
+        let index = IndexTo::from_token(from)?;
         if found.insert(key, index)?.is_some() {
             return Err(Unread);
         }

@@ -7,8 +7,9 @@ ghost use Rattle.gltf_schema.specs.Read.{small_number as number_of_32_bits};
 ghost use Rattle.gltf_schema.specs.Fields.{any_tree, index_tree, real_tree, reals_tree, size_tree, text_tree};
 ghost use Rattle.gltf_schema.specs.Leaves.{checked_tree, choice_of, checked_tree-present};
 
-use crate::list::{decode_items, place_items};
+use crate::list::{decode_items, place_items, read_items};
 use crate::list_writing::{ByTable, encode_items, print_items};
+use crate::numeral;
 use crate::outline::{Shape, add_node, spelling_shape};
 use crate::placing::{Refusal, whole_or_refused};
 use crate::printing::Printing;
@@ -18,11 +19,9 @@ use crate::stream::{Stream, Unread};
 use crate::stripping::Strip;
 use crate::tabled::Tabled;
 use crate::tokens::Tokens;
-use crate::{numeral, whole};
 use gltf_base::choice::{Choice, Form, Spelling, item_of};
 use gltf_base::validation::{Checked, USize64};
 use gltf_base::{Error, IndexTo, Names, Real};
-use json::Token;
 use serde_json::Value;
 use std::alloc::{AllocError, Global};
 
@@ -35,8 +34,8 @@ impl Tabled for u32 {
 impl Schema for u32 {
     ghost is_never_absent = { λ _. refl };
 
-    fn from_token<'a>(token: Token<'a>, _from: &mut Stream<'a>) -> Result<u32, Unread> {
-        match u32::try_from(whole::of_token(token)?) {
+    fn from_token<'a>(from: &mut Stream<'a>) -> Result<u32, Unread> {
+        match u32::try_from(from.reader.whole()?) {
             Ok(n) => Ok(n),
             Err(_) => Err(Unread),
         }
@@ -74,8 +73,8 @@ impl Tabled for USize64 {
 impl Schema for USize64 {
     ghost is_never_absent = { λ _. refl };
 
-    fn from_token<'a>(token: Token<'a>, _from: &mut Stream<'a>) -> Result<USize64, Unread> {
-        Ok(USize64(whole::of_token(token)?))
+    fn from_token<'a>(from: &mut Stream<'a>) -> Result<USize64, Unread> {
+        Ok(USize64(from.reader.whole()?))
     }
 
     fn decode_from<S: Source>(_alloc: Global, source: S) -> Result<USize64, Error> {
@@ -110,8 +109,8 @@ impl<P: Names> Tabled for IndexTo<P> {
 impl<P: Names> Schema for IndexTo<P> {
     ghost is_never_absent = { λ _. refl };
 
-    fn from_token<'a>(token: Token<'a>, from: &mut Stream<'a>) -> Result<IndexTo<P>, Unread> {
-        Ok(IndexTo::from_number(u32::from_token(token, from)?))
+    fn from_token<'a>(from: &mut Stream<'a>) -> Result<IndexTo<P>, Unread> {
+        Ok(IndexTo::from_number(u32::from_token(from)?))
     }
 
     fn decode_from<S: Source>(_alloc: Global, source: S) -> Result<IndexTo<P>, Error> {
@@ -146,10 +145,8 @@ impl Tabled for Real {
 impl Schema for Real {
     ghost is_never_absent = { λ _. refl };
 
-    fn from_token<'a>(token: Token<'a>, _from: &mut Stream<'a>) -> Result<Real, Unread> {
-        let Token::Number(text) = token else {
-            return Err(Unread);
-        };
+    fn from_token<'a>(from: &mut Stream<'a>) -> Result<Real, Unread> {
+        let text = from.reader.number()?;
         let number = numeral::parse(text).ok_or(Unread)?;
         match Real::from_value(Value::Number(number)) {
             Ok(x) => Ok(x),
@@ -192,8 +189,9 @@ impl<const N: usize> Tabled for [Real; N] {
 impl<const N: usize> Schema for [Real; N] {
     ghost is_never_absent = { λ _. refl };
 
-    fn from_token<'a>(token: Token<'a>, from: &mut Stream<'a>) -> Result<[Real; N], Unread> {
-        let found: Vec<Real> = Vec::from_token(token, from)?;
+    fn from_token<'a>(from: &mut Stream<'a>) -> Result<[Real; N], Unread> {
+        from.reader.begin_array()?;
+        let found: Vec<Real> = read_items(from, N)?;
         match <[Real; N]>::try_from(found) {
             Ok(numbers) => Ok(numbers),
             Err(_) => Err(Unread),
@@ -246,11 +244,8 @@ impl Tabled for bool {
 impl Schema for bool {
     ghost is_never_absent = { λ _. refl };
 
-    fn from_token<'a>(token: Token<'a>, _from: &mut Stream<'a>) -> Result<bool, Unread> {
-        match token {
-            Token::Bool(b) => Ok(b),
-            _ => Err(Unread),
-        }
+    fn from_token<'a>(from: &mut Stream<'a>) -> Result<bool, Unread> {
+        from.reader.boolean()
     }
 
     fn decode_from<S: Source>(_alloc: Global, source: S) -> Result<bool, Error> {
@@ -285,11 +280,8 @@ impl Tabled for String {
 impl Schema for String {
     ghost is_never_absent = { λ _. refl };
 
-    fn from_token<'a>(token: Token<'a>, from: &mut Stream<'a>) -> Result<String, Unread> {
-        match token {
-            Token::String(text) => Ok(String::from_str(from.alloc, text)?),
-            _ => Err(Unread),
-        }
+    fn from_token<'a>(from: &mut Stream<'a>) -> Result<String, Unread> {
+        from.reader.text(from.alloc, &mut from.scratch)
     }
 
     fn decode_from<S: Source>(alloc: Global, source: S) -> Result<String, Error> {
@@ -324,8 +316,8 @@ impl Tabled for Value {
 impl Schema for Value {
     ghost is_never_absent = { λ _. refl };
 
-    fn from_token<'a>(token: Token<'a>, from: &mut Stream<'a>) -> Result<Value, Unread> {
-        from.value_after(token)
+    fn from_token<'a>(from: &mut Stream<'a>) -> Result<Value, Unread> {
+        from.value()
     }
 
     fn decode_from<S: Source>(alloc: Global, source: S) -> Result<Value, Error> {
@@ -360,37 +352,26 @@ impl<T: Choice> Tabled for Checked<T> {
 impl<T: Choice> Schema for Checked<T> {
     ghost is_never_absent = { checked_tree-present T.spelling };
 
-    fn from_token<'a>(token: Token<'a>, _from: &mut Stream<'a>) -> Result<Checked<T>, Unread> {
+    fn from_token<'a>(from: &mut Stream<'a>) -> Result<Checked<T>, Unread> {
         match T::form() {
-            Form::Number => Ok(item_of(Spelling::Number(whole::of_token(token)?))),
-            Form::Name => match token {
-                Token::String(name) => Ok(item_of(Spelling::Name(name))),
-                _ => Err(Unread),
-            },
+            Form::Number => Ok(item_of(Spelling::Number(from.reader.whole()?))),
+            Form::Name => Ok(item_of(Spelling::Name(from.reader.string()?))),
         }
     }
 
     // The provided methods that take a `Stream` would ask that `T` borrows nothing.
-    fn read_token<'a>(&mut self, token: Token<'a>, from: &mut Stream<'a>) -> Result<(), Unread> {
-        *self = Self::from_token(token, from)?;
+    fn read_token<'a>(&mut self, from: &mut Stream<'a>) -> Result<(), Unread> {
+        *self = Self::from_token(from)?;
         Ok(())
     }
 
-    fn read_some<'a>(
-        place: &mut Option<Checked<T>>,
-        token: Token<'a>,
-        from: &mut Stream<'a>,
-    ) -> Result<(), Unread> {
-        *place = Some(Self::from_token(token, from)?);
+    fn read_some<'a>(place: &mut Option<Checked<T>>, from: &mut Stream<'a>) -> Result<(), Unread> {
+        *place = Some(Self::from_token(from)?);
         Ok(())
     }
 
-    fn read_onto<'a>(
-        list: &mut Vec<Checked<T>>,
-        token: Token<'a>,
-        from: &mut Stream<'a>,
-    ) -> Result<(), Unread> {
-        let item = Self::from_token(token, from)?;
+    fn read_onto<'a>(list: &mut Vec<Checked<T>>, from: &mut Stream<'a>) -> Result<(), Unread> {
+        let item = Self::from_token(from)?;
         list.push(item)?;
         Ok(())
     }

@@ -2,10 +2,13 @@
 #![tactic(auto)]
 
 mod attributes;
+mod bytes;
 pub mod laws;
 mod leaf;
 mod list;
 mod list_writing;
+mod literal;
+mod number;
 mod numeral;
 mod omittable;
 mod outline;
@@ -13,8 +16,11 @@ mod placing;
 mod printed;
 mod printing;
 mod put;
+mod quoted;
+mod reader;
 mod reading;
 mod schema;
+mod skip;
 mod source;
 mod stream;
 mod strict;
@@ -32,6 +38,7 @@ pub use omittable::Omittable;
 pub use outline::{Member, Outline, Presence, Shape};
 pub use placing::{OwnedStep, Placing, Refusal, whole_or_refused};
 pub use printing::Printing;
+pub use reader::Reader;
 pub use reading::{ReadRows, Reading};
 pub use schema::{Object, Schema};
 pub use source::Source;

@@ -1,6 +1,6 @@
 //! Lists of a kind.
 
-ghost use Rattle.std.specs.Prelude.{◌≡◌, ◌∷◌, OnOk, IfOk, map, refl, is_some, IfErr, IsTrue};
+ghost use Rattle.std.specs.Prelude.{◌≡◌, ◌<◌, ◌∷◌, OnOk, IfOk, map, refl, is_some, IfErr, IsTrue, vec_len, vec_capacity};
 ghost use Rattle.json.specs.Token.{begin_array};
 ghost use Rattle.serde_json.specs.Find.{as_array};
 ghost use Rattle.serde_json.specs.Data.{array};
@@ -22,18 +22,15 @@ use crate::stream::{Stream, Unread};
 use crate::stripping::{Strip, strip_items};
 use crate::tokens::Tokens;
 use gltf_base::Error;
-use json::Token;
 use serde_json::Value;
 use std::alloc::{AllocError, Global};
 
 impl<T: Schema> Schema for Vec<T> {
     ghost is_never_absent = { λ _. refl };
 
-    fn from_token<'a>(token: Token<'a>, from: &mut Stream<'a>) -> Result<Vec<T>, Unread> {
-        match token {
-            Token::BeginArray => read_items(from),
-            _ => Err(Unread),
-        }
+    fn from_token<'a>(from: &mut Stream<'a>) -> Result<Vec<T>, Unread> {
+        from.reader.begin_array()?;
+        read_items(from, 0)
     }
 
     fn decode_from<S: Source>(alloc: Global, source: S) -> Result<Vec<T>, Error> {
@@ -90,8 +87,11 @@ pub(crate) fn decode_items<S: Source, T: Schema>(
     Ok(found)
 }
 
-/// Reads the items of an array whose bracket was taken.
-fn read_items<'a, T: Schema>(from: &mut Stream<'a>) -> Result<Vec<T>, Unread>
+/// Reads the items of an array whose bracket was taken, into a list with room for so many.
+pub(crate) fn read_items<'a, T: Schema>(
+    from: &mut Stream<'a>,
+    room: usize,
+) -> Result<Vec<T>, Unread>
     ensures read { IfOk result (λ v. ReadsAt (ListOf T.kind) (list_tree T.tree v.items)
         from.old.depth (begin_array ∷ from.old.reader) from.new.reader) }
     ensures depth { OnOk result (from.new.depth ≡ from.old.depth) }
@@ -101,13 +101,26 @@ fn read_items<'a, T: Schema>(from: &mut Stream<'a>) -> Result<Vec<T>, Unread>
         return Err(Unread);
     }
     from.depth -= 1;
-    let mut list = Vec::new(from.alloc);
-    'items: while !from.reader.take_end_array() {
-        let token = from.reader.next().ok_or(Unread)?;
-        T::read_onto(&mut list, token, from)?;
+    let mut list = Vec::with_capacity(from.alloc, room)?;
+    'items: while !from.reader.take_end_array()? {
+        T::read_onto(&mut list, from)?;
     }
     from.depth += 1;
     Ok(list)
+}
+
+/// Makes room for one item more. A list takes room for one item first, since most lists of objects
+/// that an object holds have one.
+#[inline(always)]
+pub(crate) fn make_room<T: Drop>(list: &mut Vec<T>) -> Result<(), AllocError>
+    ensures items { list.new.items ≡ list.old.items }
+    ensures room { OnOk result (vec_len list.new < vec_capacity list.new) }
+{
+    if list.is_empty() {
+        list.reserve_exact(1)
+    } else {
+        list.reserve(1)
+    }
 }
 
 /// Each item, in order. Fails with the place of the first item that is refused.

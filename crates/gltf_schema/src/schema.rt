@@ -1,8 +1,7 @@
 //! What is read and written by the table.
 
-ghost use Rattle.std.specs.Prelude.{◌≡◌, ◌≤◌, ◌∷◌, ℕ, Bool, true, false, Some, Err, is_some, refl};
+ghost use Rattle.std.specs.Prelude.{◌≡◌, ◌≤◌, ℕ, Bool, true, false, Some, Err, is_some, refl};
 ghost use Rattle.std.specs.Prelude.{IsTrue, IfOk, IfErr, OnOk};
-ghost use Rattle.json.specs.Reads.{token_of};
 ghost use Rattle.serde_json.specs.Find.{as_object};
 ghost use Rattle.serde_json.specs.Data.{Members, no_members};
 ghost use Rattle.serde_json.specs.View.{view, members_view};
@@ -27,6 +26,7 @@ ghost use Rattle.gltf_schema.specs.Streamed.{ReadsAt, ReadsItem};
 ghost use Rattle.gltf_schema.specs.Stripped.{stripped};
 ghost use Rattle.gltf_schema.specs.Outline.{Outlines};
 
+use crate::list::make_room;
 use crate::outline::{Shape, outline_object};
 use crate::placing::{Refusal, place_members};
 use crate::printing::Printing;
@@ -38,7 +38,6 @@ use crate::tabled::Tabled;
 use crate::tokens::Tokens;
 use crate::writing::{WriteRows, Writing};
 use gltf_base::Error;
-use json::Token;
 use serde_json::{Map, Value};
 use std::alloc::{AllocError, Global};
 
@@ -63,59 +62,51 @@ pub trait Schema: Tabled + Drop + Sized {
         Self::decode_from(alloc, value)
     }
 
-    /// Returns the value of a text that begins with a token, which was taken from the text. Fails
-    /// for whatever reason: [`Schema::decode_from`] says which.
-    fn from_token<'a>(token: Token<'a>, from: &mut Stream<'a>) -> Result<Self, Unread>
+    /// Returns the value that is next in a text. Fails for whatever reason:
+    /// [`Schema::decode_from`] says which.
+    fn from_token<'a>(from: &mut Stream<'a>) -> Result<Self, Unread>
         ensures read { IfOk result (λ x. ReadsAt Self.kind (Self.tree x) from.old.depth
-            (token_of token.entry ∷ from.old.reader) from.new.reader) }
+            from.old.reader from.new.reader) }
         ensures depth { OnOk result (from.new.depth ≡ from.old.depth) }
         ensures pass { OnOk result (from.new.pass ≡ from.old.pass) }
     {
-        let value = from.value_after(token)?;
+        let value = from.value()?;
         Ok(Self::decode_from(from.alloc, value)?)
     }
 
     /// Reads a value as [`Schema::from_token`] does into this place, which saves moving it. After
     /// an error any value may be here.
-    fn read_token<'a>(&mut self, token: Token<'a>, from: &mut Stream<'a>) -> Result<(), Unread>
+    fn read_token<'a>(&mut self, from: &mut Stream<'a>) -> Result<(), Unread>
         ensures read { OnOk result (ReadsAt Self.kind (Self.tree self.new) from.old.depth
-            (token_of token.entry ∷ from.old.reader) from.new.reader) }
+            from.old.reader from.new.reader) }
         ensures depth { OnOk result (from.new.depth ≡ from.old.depth) }
         ensures pass { OnOk result (from.new.pass ≡ from.old.pass) }
     {
-        *self = Self::from_token(token, from)?;
+        *self = Self::from_token(from)?;
         Ok(())
     }
 
     /// Reads a value as [`Schema::from_token`] does into a place that may be empty. After an error
     /// any value may be there.
-    fn read_some<'a>(
-        place: &mut Option<Self>,
-        token: Token<'a>,
-        from: &mut Stream<'a>,
-    ) -> Result<(), Unread>
+    fn read_some<'a>(place: &mut Option<Self>, from: &mut Stream<'a>) -> Result<(), Unread>
         ensures read { OnOk result (ReadsAt Self.kind (tree_or_absent Self.tree place.new)
-            from.old.depth (token_of token.entry ∷ from.old.reader) from.new.reader) }
+            from.old.depth from.old.reader from.new.reader) }
         ensures depth { OnOk result (from.new.depth ≡ from.old.depth) }
         ensures pass { OnOk result (from.new.pass ≡ from.old.pass) }
     {
-        *place = Some(Self::from_token(token, from)?);
+        *place = Some(Self::from_token(from)?);
         Ok(())
     }
 
     /// Reads a value as [`Schema::from_token`] does, and pushes it onto a list. After an error the
     /// list may have one item more.
-    fn read_onto<'a>(
-        list: &mut Vec<Self>,
-        token: Token<'a>,
-        from: &mut Stream<'a>,
-    ) -> Result<(), Unread>
+    fn read_onto<'a>(list: &mut Vec<Self>, from: &mut Stream<'a>) -> Result<(), Unread>
         ensures read { OnOk result (ReadsItem Self.kind Self.tree list.old.items list.new.items
-            from.old.depth (token_of token.entry ∷ from.old.reader) from.new.reader) }
+            from.old.depth from.old.reader from.new.reader) }
         ensures depth { OnOk result (from.new.depth ≡ from.old.depth) }
         ensures pass { OnOk result (from.new.pass ≡ from.old.pass) }
     {
-        let item = Self::from_token(token, from)?;
+        let item = Self::from_token(from)?;
         list.push(item)?;
         Ok(())
     }
@@ -267,10 +258,8 @@ impl<T: Object> Schema for T {
         }
     }
 
-    fn from_token<'a>(token: Token<'a>, from: &mut Stream<'a>) -> Result<T, Unread> {
-        let Token::BeginObject = token else {
-            return Err(Unread);
-        };
+    fn from_token<'a>(from: &mut Stream<'a>) -> Result<T, Unread> {
+        from.reader.begin_object()?;
         let mut object = T::start(from.alloc);
         // With `?` the object would be moved once more.
         match read_object(&mut object, from) {
@@ -279,34 +268,25 @@ impl<T: Object> Schema for T {
         }
     }
 
-    fn read_token<'a>(&mut self, token: Token<'a>, from: &mut Stream<'a>) -> Result<(), Unread> {
-        let Token::BeginObject = token else {
-            return Err(Unread);
-        };
+    fn read_token<'a>(&mut self, from: &mut Stream<'a>) -> Result<(), Unread> {
+        from.reader.begin_object()?;
         *self = T::start(from.alloc);
         read_object(self, from)
     }
 
-    fn read_some<'a>(
-        place: &mut Option<T>,
-        token: Token<'a>,
-        from: &mut Stream<'a>,
-    ) -> Result<(), Unread> {
-        let Token::BeginObject = token else {
-            return Err(Unread);
-        };
+    fn read_some<'a>(place: &mut Option<T>, from: &mut Stream<'a>) -> Result<(), Unread> {
+        from.reader.begin_object()?;
         read_object(place.insert(T::start(from.alloc)), from)
     }
 
-    fn read_onto<'a>(
-        list: &mut Vec<T>,
-        token: Token<'a>,
-        from: &mut Stream<'a>,
-    ) -> Result<(), Unread> {
-        let Token::BeginObject = token else {
-            return Err(Unread);
-        };
-        read_object(list.push_mut(T::start(from.alloc))?, from)
+    fn read_onto<'a>(list: &mut Vec<T>, from: &mut Stream<'a>) -> Result<(), Unread> {
+        from.reader.begin_object()?;
+        // With room, the object is moved once, and where it can't be pushed needs no code.
+        make_room(list)?;
+        match list.push_mut(T::start(from.alloc)) {
+            Ok(place) => read_object(place, from),
+            Err(_) => unreachable!(),
+        }
     }
 
     fn decode(alloc: Global, value: Value) -> Result<T, Error>

@@ -1,7 +1,7 @@
 //! Values that are read from tokens into their places.
 
-ghost use Rattle.std.specs.Prelude.{◌≡◌, ◌<◌, IfOk, ◌||◌, ◌∷◌, ℕ, false, true, None, get_or, is_err, OnOk, IsTrue, length, option_map};
-ghost use Rattle.json.specs.Reads.{token_of};
+ghost use Rattle.std.specs.Prelude.{◌≡◌, ◌<◌, IfOk, ◌||◌, ◌∷◌, ℕ, false, true, Some, None, get_or, is_err, OnOk, IsTrue, length, option_map};
+ghost use Rattle.json.specs.Json.{skip_value};
 ghost use Rattle.json.specs.Token.{begin_object};
 ghost use Rattle.serde_json.specs.Data.{Data, no_members, put};
 ghost use Rattle.serde_json.specs.View.{view, members_view};
@@ -11,11 +11,12 @@ ghost use Rattle.gltf_schema.specs.RowReading.{Starts};
 ghost use Rattle.gltf_schema.specs.KindsStreamedAlike.{source_next, sampler_next};
 ghost use Rattle.gltf_schema.specs.Streamed.{Ahead, ahead_of, is_named, TakesNext, LeavesNext, HasValue, ReadsAt, ReadsOptional};
 
+use crate::reader::Reader;
 use crate::reading::ReadRows;
 use crate::schema::{Object, Schema};
-use crate::value::{is_same, read_after, read_value};
+use crate::value::{is_same, read_value};
 use gltf_base::Error;
-use json::{Invalid, Reader, Token};
+use json::Scratch;
 use serde_json::{Map, Value};
 use std::alloc::{AllocError, AllocFailed, Global};
 
@@ -25,12 +26,6 @@ const MOST_REQUIRED: usize = 8;
 /// A value was not read from tokens. Why, is found by reading it by way of a `Value`.
 #[derive(Clone, Copy, Debug, Drop)]
 pub struct Unread;
-
-impl From<Invalid> for Unread {
-    fn from(_e: Invalid) -> Unread {
-        Unread
-    }
-}
 
 impl From<AllocError> for Unread {
     fn from(_refused: AllocError) -> Unread {
@@ -66,6 +61,8 @@ pub struct Pass<'a> {
 pub struct Stream<'a> {
     pub alloc: Global,
     pub reader: Reader<'a>,
+    // Where escapes of texts are written.
+    pub(crate) scratch: Scratch<Global>,
     // How deep arrays and objects may still nest.
     pub depth: usize,
     pass: Pass<'a>,
@@ -79,6 +76,7 @@ impl<'a> Stream<'a> {
         Stream {
             alloc,
             reader,
+            scratch: Scratch::new(alloc),
             depth,
             pass: Pass {
                 name: None,
@@ -108,8 +106,7 @@ impl<'a> Stream<'a> {
         ensures depth { OnOk result (self.new.depth ≡ self.old.depth) }
         ensures pass { OnOk result (self.new.pass ≡ self.old.pass) }
     {
-        let token = self.reader.next().ok_or(Unread)?;
-        place.read_token(token, self)
+        place.read_token(self)
     }
 
     /// Reads the value that is next, absent if it is null.
@@ -120,12 +117,11 @@ impl<'a> Stream<'a> {
         ensures depth { OnOk result (self.new.depth ≡ self.old.depth) }
         ensures pass { OnOk result (self.new.pass ≡ self.old.pass) }
     {
-        let token = self.reader.next().ok_or(Unread)?;
-        if let Token::Null = token {
+        if self.reader.take_null()? {
             *place = None;
             return Ok(());
         }
-        T::read_some(place, token, self)
+        T::read_some(place, self)
     }
 
     /// Reads the value that is next, and has it there.
@@ -136,18 +132,28 @@ impl<'a> Stream<'a> {
         ensures depth { OnOk result (self.new.depth ≡ self.old.depth) }
         ensures pass { OnOk result (self.new.pass ≡ self.old.pass) }
     {
-        let token = self.reader.next().ok_or(Unread)?;
-        T::read_some(place, token, self)
+        T::read_some(place, self)
     }
 
-    /// Returns the value that begins with a token, which was taken from the text.
-    pub fn value_after(&mut self, token: Token<'a>) -> Result<Value, Unread>
-        ensures value { IfOk result (λ v. HasValue self.old.depth
-            (token_of token.entry ∷ self.old.reader) (view v) self.new.reader) }
+    /// Returns the value that is next.
+    pub fn value(&mut self) -> Result<Value, Unread>
+        ensures value { IfOk result (λ v. HasValue self.old.depth self.old.reader (view v)
+            self.new.reader) }
         ensures depth { OnOk result (self.new.depth ≡ self.old.depth) }
         ensures pass { OnOk result (self.new.pass ≡ self.old.pass) }
     {
-        read_after(self.alloc, token, &mut self.reader, self.depth)
+        read_value(self.alloc, &mut self.scratch, &mut self.reader, self.depth)
+    }
+
+    /// Passes the value that is next. Of a number only the form is looked at.
+    pub fn skip_value(&mut self) -> Result<(), Unread>
+        ensures value { OnOk result (skip_value self.old.depth self.old.reader
+            ≡ Some self.new.reader) }
+        ensures depth { OnOk result (self.new.depth ≡ self.old.depth) }
+        ensures pass { OnOk result (self.new.pass ≡ self.old.pass) }
+    {
+        self.reader
+            .skip_value(self.alloc, &mut self.scratch, self.depth)
     }
 
     /// Passes the value that is next. Fails if `serde_json` reads none there.
@@ -157,7 +163,7 @@ impl<'a> Stream<'a> {
         ensures depth { OnOk result (self.new.depth ≡ self.old.depth) }
         ensures pass { OnOk result (self.new.pass ≡ self.old.pass) }
     {
-        let _value = read_value(self.alloc, &mut self.reader, self.depth)?;
+        let _value = read_value(self.alloc, &mut self.scratch, &mut self.reader, self.depth)?;
         Ok(())
     }
 
@@ -169,7 +175,7 @@ impl<'a> Stream<'a> {
         ensures depth { OnOk result (self.new.depth ≡ self.old.depth) }
         ensures pass { OnOk result (self.new.pass ≡ self.old.pass) }
     {
-        let value = read_value(self.alloc, &mut self.reader, self.depth)?;
+        let value = read_value(self.alloc, &mut self.scratch, &mut self.reader, self.depth)?;
         let key = String::from_str(self.alloc, name)?;
         drop(place.insert(key, value)?);
         Ok(())

@@ -5,9 +5,9 @@ ghost use Rattle.serde_json.specs.Data.{Data};
 ghost use Rattle.serde_json.specs.Read.{read as read_json};
 ghost use Rattle.gltf_schema.specs.Read.{read};
 
+use crate::reader::Reader;
 use crate::schema::Schema;
 use crate::stream::{Stream, Unread};
-use json::{Reader, Scratch};
 use std::alloc::Global;
 
 /// How deep the arrays and objects of a text may nest, as in `serde_json`.
@@ -19,13 +19,10 @@ pub fn read_text<T: Schema>(alloc: Global, text: &str) -> Result<T, Unread>
     ensures { IfOk result (λ x. (d : Data) × (read_json text.now ≡ Some d)
         × (read T.kind d ≡ Some (T.tree x))) }
 {
-    let mut scratch = Scratch::new(alloc);
-    let reader = Reader::new(text, &mut scratch)?;
-    let mut from = Stream::new(alloc, reader, MAX_DEPTH);
-    let token = from.reader.next().ok_or(Unread)?;
+    let mut from = Stream::new(alloc, Reader::new(text), MAX_DEPTH);
     // With `?` the value would be moved once more.
-    let read = T::from_token(token, &mut from);
-    if read.is_ok() && from.reader.next().is_some() {
+    let read = T::from_token(&mut from);
+    if read.is_ok() && !from.reader.is_over() {
         return Err(Unread);
     }
     read

@@ -1,16 +1,16 @@
-//! Values of JSON, made of tokens in one pass.
+//! Values of JSON, made of a text in one pass.
 
-ghost use Rattle.std.specs.Prelude.{◌≡◌, ◌<◌, ◌≤◌, ◌∷◌, length, Some, IfOk, OnOk};
+ghost use Rattle.std.specs.Prelude.{◌≡◌, ◌<◌, length, Some, IfOk, OnOk};
 ghost use Rattle.std.specs.Str.{bytes_eq};
 ghost use Rattle.json.specs.Json.{value, items, members};
-ghost use Rattle.json.specs.Reads.{token_of};
 ghost use Rattle.serde_json.specs.Data.{no_members};
 ghost use Rattle.serde_json.specs.Read.{of_json, of_items, of_members, converted};
 ghost use Rattle.serde_json.specs.View.{view, items_view, members_view};
 
 use crate::numeral;
+use crate::reader::{Reader, Start};
 use crate::stream::Unread;
-use json::{Reader, Token};
+use json::Scratch;
 use serde_json::{Map, Value};
 use std::alloc::Global;
 
@@ -20,6 +20,7 @@ use std::alloc::Global;
 #[inline(always)]
 pub(crate) fn read_value<'a>(
     alloc: Global,
+    scratch: &mut Scratch<Global>,
     reader: &mut Reader<'a>,
     depth: usize,
 ) -> Result<Value, Unread>
@@ -27,40 +28,30 @@ pub(crate) fn read_value<'a>(
         (λ v. converted of_json (value depth reader.old) ≡ Some (view v, reader.new)) }
     ensures shorter { OnOk result (length reader.new < length reader.old) }
 {
-    let token = reader.next().ok_or(Unread)?;
-    read_after(alloc, token, reader, depth)
-}
-
-/// Returns the value that begins with a token, which was taken from the text, as [`read_value`].
-#[cycle(read_value)]
-#[inline(always)]
-pub(crate) fn read_after<'a>(
-    alloc: Global,
-    token: Token<'a>,
-    reader: &mut Reader<'a>,
-    depth: usize,
-) -> Result<Value, Unread>
-    ensures ok { IfOk result (λ v. converted of_json (value depth (token_of token.entry ∷ reader.old))
-        ≡ Some (view v, reader.new)) }
-    ensures no_longer { OnOk result (length reader.new ≤ length reader.old) }
-{
-    match token {
-        Token::String(text) => Ok(Value::String(String::from_str(alloc, text)?)),
-        Token::Number(text) => Ok(Value::Number(numeral::parse(text).ok_or(Unread)?)),
-        Token::Bool(b) => Ok(Value::Bool(b)),
-        Token::Null => Ok(Value::Null),
-        Token::EndObject | Token::EndArray | Token::Key(_) | Token::Bad => Err(Unread),
-        Token::BeginArray => {
-            if depth == 0 {
-                return Err(Unread);
+    match reader.start() {
+        Start::Text => Ok(Value::String(reader.text(alloc, scratch)?)),
+        Start::Number => Ok(Value::Number(numeral::parse(reader.number()?).ok_or(Unread)?)),
+        Start::Truth => Ok(Value::Bool(reader.boolean()?)),
+        Start::Null => {
+            if reader.take_null()? {
+                Ok(Value::Null)
+            } else {
+                Err(Unread)
             }
-            Ok(Value::Array(read_items(alloc, reader, depth - 1)?))
         }
-        Token::BeginObject => {
+        Start::Array => {
             if depth == 0 {
                 return Err(Unread);
             }
-            Ok(Value::Object(read_members(alloc, reader, depth - 1)?))
+            reader.begin_array()?;
+            Ok(Value::Array(read_items(alloc, scratch, reader, depth - 1)?))
+        }
+        Start::Object => {
+            if depth == 0 {
+                return Err(Unread);
+            }
+            reader.begin_object()?;
+            Ok(Value::Object(read_members(alloc, scratch, reader, depth - 1)?))
         }
     }
 }
@@ -69,6 +60,7 @@ pub(crate) fn read_after<'a>(
 #[inline(never)]
 fn read_items<'a>(
     alloc: Global,
+    scratch: &mut Scratch<Global>,
     reader: &mut Reader<'a>,
     depth: usize,
 ) -> Result<Vec<Value>, Unread>
@@ -78,8 +70,8 @@ fn read_items<'a>(
     ensures shorter { OnOk result (length reader.new < length reader.old) }
 {
     let mut values = Vec::new(alloc);
-    'items: while !reader.take_end_array() {
-        let item = read_value(alloc, reader, depth)?;
+    'items: while !reader.take_end_array()? {
+        let item = read_value(alloc, scratch, reader, depth)?;
         values.push(item)?;
     }
     Ok(values)
@@ -89,6 +81,7 @@ fn read_items<'a>(
 #[inline(never)]
 fn read_members<'a>(
     alloc: Global,
+    scratch: &mut Scratch<Global>,
     reader: &mut Reader<'a>,
     depth: usize,
 ) -> Result<Map<String, Value>, Unread>
@@ -100,7 +93,7 @@ fn read_members<'a>(
 {
     let mut found = Map::new(alloc);
     'members: while let Some(name) = reader.next_key()? {
-        let member = read_value(alloc, reader, depth)?;
+        let member = read_value(alloc, scratch, reader, depth)?;
         drop(found.insert(String::from_str(alloc, name)?, member)?);
     }
     Ok(found)

@@ -1,27 +1,11 @@
 //! Whole numbers.
 
-ghost use Rattle.std.specs.Prelude.{◌≡◌, Some, IfOk, IfSome};
-ghost use Rattle.json.specs.Reads.{token_of};
+ghost use Rattle.std.specs.Prelude.{◌≡◌, Some, IfSome};
 ghost use Rattle.serde_json.specs.Data.{unsigned};
 ghost use Rattle.serde_json.specs.Read.{number_of};
-ghost use Rattle.gltf_schema.specs.Streamed.{IsWhole};
-
-use crate::stream::Unread;
-use json::Token;
 
 /// With as many digits every whole number has 64 bits.
-const MOST_DIGITS: usize = 19;
-
-/// Returns the whole number that a token is. Fails for every other token.
-#[inline(always)]
-pub(crate) fn of_token(token: Token<'_>) -> Result<u64, Unread>
-    ensures { IfOk result (IsWhole (token_of token.entry)) }
-{
-    let Token::Number(text) = token else {
-        return Err(Unread);
-    };
-    whole_in(text).ok_or(Unread)
-}
+pub(crate) const MOST_DIGITS: usize = 19;
 
 /// Returns the whole number that a number of JSON writes by its digits alone, or `None` if it has
 /// another byte, or more than 19 of them.

@@ -44,6 +44,7 @@ pub struct Material {
 
 // Written by tools/derive.py: begin
 impl Drop for Material {
+    #[inline(always)]
     fn drop(self) {
         let Material {
             pbr_specular_glossiness: _,

@@ -21,17 +21,17 @@ excerpted P depth text ts found r opens deep ok finds d is =
     let held = subst (λ n. FindsKept P n ts (members_view found.entries)) deep all got.0 [] got.1 in
     view-Object found ∙ ap object held ∙ ap (excerpt P) (sym got.2)
 
-pub returns-in_ok-found-in-Some-BeginObject : goal.returns-in_ok-found-in-Some-BeginObject
-returns-in_ok-found-in-Some-BeginObject c =
-    let ts = c.next.new.self in
+pub returns : goal.returns
+returns c =
+    let ts = c.begin_object.new.self in
     let opens : tokens c.args.text.now ≡ Token.begin_object ∷ ts = grind arith in
-    let found = c.in_ok-found-in-Some-BeginObject.found in
+    let found = c.in_ok-found.found in
     let ok : c.kept_members.result ≡ Ok found = grind arith in
     excerpted (contains_text c.args.keep.now) c.new-from.result.depth c.args.text.now ts found c.kept_members.result opens c.new-from.ensures.1 ok c.kept_members.ensures
 
 pub kept_members-requires : goal.kept_members-requires
 kept_members-requires c =
     let P = contains_text c.args.keep.now in
-    let ts = c.next.new.self in
+    let ts = c.begin_object.new.self in
     let opens : tokens c.args.text.now ≡ Token.begin_object ∷ ts = grind arith in
     subst (λ n. LeavesTokens P n ts c.args.reach) (sym c.new-from.ensures.1) (c.requires ts opens)

@@ -28,6 +28,7 @@ pub struct PbrSpecularGlossiness {
 
 // Written by tools/derive.py: begin
 impl Drop for PbrSpecularGlossiness {
+    #[inline(always)]
     fn drop(self) {
         let PbrSpecularGlossiness {
             diffuse_factor: _,

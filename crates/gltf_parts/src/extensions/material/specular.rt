@@ -22,6 +22,7 @@ pub struct Specular {
 
 // Written by tools/derive.py: begin
 impl Drop for Specular {
+    #[inline(always)]
     fn drop(self) {
         let Specular {
             specular_factor: _,

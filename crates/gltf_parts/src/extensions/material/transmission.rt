@@ -18,6 +18,7 @@ pub struct Transmission {
 
 // Written by tools/derive.py: begin
 impl Drop for Transmission {
+    #[inline(always)]
     fn drop(self) {
         let Transmission {
             transmission_factor: _,

@@ -25,6 +25,7 @@ pub struct Volume {
 
 // Written by tools/derive.py: begin
 impl Drop for Volume {
+    #[inline(always)]
     fn drop(self) {
         let Volume {
             thickness_factor: _,

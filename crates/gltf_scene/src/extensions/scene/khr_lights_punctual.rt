@@ -58,6 +58,7 @@ pub struct Light {
 
 // Written by tools/derive.py: begin
 impl Drop for Light {
+    #[inline(always)]
     fn drop(self) {
         let Light {
             type_: _,

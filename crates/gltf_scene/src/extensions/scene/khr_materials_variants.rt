@@ -18,6 +18,7 @@ pub struct Variant {
 
 // Written by tools/derive.py: begin
 impl Drop for Variant {
+    #[inline(always)]
     fn drop(self) {
         let Variant { name: _ } = self;
     }

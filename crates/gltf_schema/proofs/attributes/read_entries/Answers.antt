@@ -1,7 +1,6 @@
 use Rattle.std.proofs.Common.{◌≡◌, ◌-◌, ◌<◌, [], ◌∷◌, length, map, None, Some, option_map, refl, sym, ap, ap₂, ◌∙◌, rules, arith}
 use Rattle.std.specs.BTreeMap.{insert_entry}
 use Rattle.json.specs.Json.{parse_map, read_key, members, value}
-use Rattle.json.specs.Reads.{token_of}
 use Rattle.json.proofs.Grammar.{value-begin_object, read_key-shorter}
 use Rattle.serde_json.specs.Data.{object, put, no_members}
 use Rattle.serde_json.specs.Read.{of_json, converted}
@@ -38,11 +37,9 @@ members-smaller g c =
     let r = c.from_token.new.from.reader in
     let named : read_key l.from.reader ≡ Some (Some k, s) = grind arith in
     let less = read_key-shorter l.from.reader (Some k) s named in
-    let opened : s ≡ token_of c.in_ok-token.token ∷ c.next.new.self = grind arith in
     let got = c.in_ok-index.ensures.read in
     let lesser = shorter l.from.depth _ r got.0 got.1 in
-    let smaller : length r < length l.from.reader = omega (arith, less, lesser, ap length opened) in
-    smaller
+    omega (arith, less, lesser)
 
 pub members-preserved : goal.members-preserved
 members-preserved g c =
@@ -55,12 +52,11 @@ members-preserved g c =
     let r = c.from_token.new.from.reader in
     let named : read_key l.from.reader ≡ Some (Some k, s) = grind arith in
     let less = read_key-shorter l.from.reader (Some k) s named in
-    let opened : s ≡ token_of c.in_ok-token.token ∷ c.next.new.self = grind arith in
     let got = c.in_ok-index.ensures.read in
     let d = got.0 in
     let i = c.in_ok-index.index in
     let lesser = shorter l.from.depth _ r d got.1 in
-    let read : converted of_json (p s) ≡ Some (d, r) = ap₂ (λ x y. converted of_json (value x y)) (sym l.invariant.5) opened ∙ got.1 in
+    let read : converted of_json (p s) ≡ Some (d, r) = ap (λ x. converted of_json (value x s)) (sym l.invariant.5) ∙ got.1 in
     let number : small_number d ≡ Some (index_number i) = small_of d (index_number i) got.2 in
     let key_is : checked_key c.in_ok-key.key ≡ key_named k = c.in_ok-key.ensures.key in
     let before = map entry_of l.found.entries in
@@ -70,7 +66,7 @@ members-preserved g c =
     let after : map entry_of c.insert.new.self.entries ≡ insert_entry key_cmp before (key_named k) (index_number i) = e.0 ∙ ap (λ x. insert_entry key_cmp before x (index_number i)) key_is in (
       n - 1,
       put k d ms,
-      omega (arith, l.invariant.2, less, lesser, ap length opened),
+      omega (arith, l.invariant.2, less, lesser),
       l.invariant.3 ∙ member_read p ms n k l.from.reader s r d (omega (arith, l.invariant.2, less)) named read,
       one_more k d (index_number i) ms [] before number l.invariant.4 none ∙ ap Some (sym after),
       c.in_ok-index.ensures.depth ∙ l.invariant.5,

@@ -1,51 +1,48 @@
 use Rattle.std.proofs.Common.{◌≡◌, ◌-◌, ◌<◌, [], ◌∷◌, ◌++◌, length, Some, None, sym, ap, ◌∙◌, arith}
 use Rattle.json.specs.Token.{Token}
 use Rattle.json.specs.Json.{parse_map, after_end_array, read_key, items, members, value}
-use Rattle.json.specs.Reads.{token_of}
+use Rattle.gltf_schema.proofs.OneToken.{when_true}
 use Rattle.json.proofs.Grammar.{value_is, value-begin_array, value-begin_object, read_key-shorter}
-use Rattle.serde_json.specs.Data.{string, array, object, put}
+use Rattle.serde_json.specs.Data.{array, object, put}
 use Rattle.serde_json.specs.Read.{of_json, of_items, of_members, converted}
 use Rattle.serde_json.specs.View.{view, members_view}
-use Rattle.serde_json.specs.declared.value.Value.{String as Text}
 use Rattle.serde_json.proofs.Views.{view-Array, view-Object, members_view-insert_entry}
 use Rattle.gltf_schema.proofs.Values.{view-String, view-Number, view-Bool, view-Null, items_before, items_before-no_items, one_more_item}
 use Rattle.gltf_schema.proofs.Turns.{converted-array, converted-object, item_read, items_over, member_read, members_over}
 use Rattle.gltf_schema.proofs.value.+read_value.Goals as goal
 
-pub read_after-returns-in_ok-from_str-in-String-clause-ok : goal.read_after-returns-in_ok-from_str-in-String-clause-ok
-read_after-returns-in_ok-from_str-in-String-clause-ok t c =
-    let is : token_of c.args.token ≡ Token.string c.in-String.text.now = grind arith in
-    let s = c.in_ok-from_str-in-String.field-0 in
-    let seen : view (Text s) ≡ string c.in-String.text.now = view-String s ∙ ap string c.in_ok-from_str-in-String.ensures.ok in
-    ap (converted of_json) (ap (λ k. value c.args.depth (k ∷ c.args.reader.now)) is ∙ value_is c.args.depth _) ∙ ap (λ d. Some (d, c.args.reader.now)) (sym seen)
+pub read_value-returns-in_ok-text-in-Text-clause-ok : goal.read_value-returns-in_ok-text-in-Text-clause-ok
+read_value-returns-in_ok-text-in-Text-clause-ok t c =
+    let s = c.in_ok-text-in-Text.field-0 in
+    ap (converted of_json) (ap (value c.args.depth) c.in_ok-text-in-Text.ensures ∙ value_is c.args.depth _) ∙ ap (λ d. Some (d, c.text.new.self)) (sym (view-String s))
 
-pub read_after-returns-in-Bool-clause-ok : goal.read_after-returns-in-Bool-clause-ok
-read_after-returns-in-Bool-clause-ok t c =
-    let is : token_of c.args.token ≡ Token.boolean c.in-Bool.b = grind arith in
-    ap (converted of_json) (ap (λ k. value c.args.depth (k ∷ c.args.reader.now)) is ∙ value_is c.args.depth _) ∙ ap (λ d. Some (d, c.args.reader.now)) (sym (view-Bool c.in-Bool.b))
+pub read_value-returns-in_ok-boolean-in-Truth-clause-ok : goal.read_value-returns-in_ok-boolean-in-Truth-clause-ok
+read_value-returns-in_ok-boolean-in-Truth-clause-ok t c =
+    ap (converted of_json) (ap (value c.args.depth) c.in_ok-boolean-in-Truth.ensures ∙ value_is c.args.depth _) ∙ ap (λ d. Some (d, c.boolean.new.self)) (sym (view-Bool c.in_ok-boolean-in-Truth.field-0))
 
-pub read_after-returns-in-Null-clause-ok : goal.read_after-returns-in-Null-clause-ok
-read_after-returns-in-Null-clause-ok t c =
-    let is : token_of c.args.token ≡ Token.null = grind arith in
-    ap (converted of_json) (ap (λ k. value c.args.depth (k ∷ c.args.reader.now)) is ∙ value_is c.args.depth _) ∙ ap (λ d. Some (d, c.args.reader.now)) (sym view-Null)
+pub read_value-returns-then-branch-clause-ok : goal.read_value-returns-then-branch-clause-ok
+read_value-returns-then-branch-clause-ok t c =
+    let is : c.args.reader.now ≡ Token.null ∷ c.take_null.new.self = when_true _ _ c.in_ok-take_null-in-Null.field-0 c.if-branch.true c.in_ok-take_null-in-Null.ensures in
+    ap (converted of_json) (ap (value c.args.depth) is ∙ value_is c.args.depth _) ∙ ap (λ d. Some (d, c.take_null.new.self)) (sym view-Null)
 
-pub read_after-returns-in_ok-ok_or-in-Number-clause-ok : goal.read_after-returns-in_ok-ok_or-in-Number-clause-ok
-read_after-returns-in_ok-ok_or-in-Number-clause-ok t c =
-    let is : token_of c.args.token ≡ Token.number c.in-Number.text.now = grind arith in
+pub read_value-returns-in_ok-ok_or-in-Number-clause-ok : goal.read_value-returns-in_ok-ok_or-in-Number-clause-ok
+read_value-returns-in_ok-ok_or-in-Number-clause-ok t c =
     let x = c.in_ok-ok_or-in-Number.field-0 in
     let parsed : c.parse.result ≡ Some x = grind arith in
-    ap (converted of_json) (ap (λ k. value c.args.depth (k ∷ c.args.reader.now)) is ∙ value_is c.args.depth _) ∙ rw (← c.parse.ensures, parsed, view-Number x)
+    ap (converted of_json) (ap (value c.args.depth) c.in_ok-number-in-Number.ensures ∙ value_is c.args.depth _) ∙ rw (← c.parse.ensures, parsed, view-Number x)
 
-pub read_after-returns-in_ok-read_items-in-BeginArray-clause-ok : goal.read_after-returns-in_ok-read_items-in-BeginArray-clause-ok
-read_after-returns-in_ok-read_items-in-BeginArray-clause-ok t c =
-    let opened = ap (converted of_json) (ap (λ k. value c.args.depth (token_of k ∷ c.args.reader.now)) c.in-BeginArray.is ∙ value-begin_array c.args.depth c.args.reader.now (omega arith)) ∙ converted-array (items (value (c.args.depth - 1)) (length c.args.reader.now) c.args.reader.now) in
-    let found = c.in_ok-read_items-in-BeginArray in
+pub read_value-returns-in_ok-read_items-in-Array-clause-ok : goal.read_value-returns-in_ok-read_items-in-Array-clause-ok
+read_value-returns-in_ok-read_items-in-Array-clause-ok t c =
+    let s = c.begin_array.new.self in
+    let opened = ap (converted of_json) (ap (value c.args.depth) c.in_ok-begin_array-in-Array.ensures ∙ value-begin_array c.args.depth s (omega arith)) ∙ converted-array (items (value (c.args.depth - 1)) (length s) s) in
+    let found = c.in_ok-read_items-in-Array in
     opened ∙ ap (parse_map array) found.ensures.ok ∙ ap (λ d. Some (d, c.read_items.new.reader)) (sym (view-Array found.field-0))
 
-pub read_after-returns-in_ok-read_members-in-BeginObject-clause-ok : goal.read_after-returns-in_ok-read_members-in-BeginObject-clause-ok
-read_after-returns-in_ok-read_members-in-BeginObject-clause-ok t c =
-    let opened = ap (converted of_json) (ap (λ k. value c.args.depth (token_of k ∷ c.args.reader.now)) c.in-BeginObject.is ∙ value-begin_object c.args.depth c.args.reader.now (omega arith)) ∙ converted-object (members (value (c.args.depth - 1)) (length c.args.reader.now) c.args.reader.now) in
-    let found = c.in_ok-read_members-in-BeginObject in
+pub read_value-returns-in_ok-read_members-in-Object-clause-ok : goal.read_value-returns-in_ok-read_members-in-Object-clause-ok
+read_value-returns-in_ok-read_members-in-Object-clause-ok t c =
+    let s = c.begin_object.new.self in
+    let opened = ap (converted of_json) (ap (value c.args.depth) c.in_ok-begin_object-in-Object.ensures ∙ value-begin_object c.args.depth s (omega arith)) ∙ converted-object (members (value (c.args.depth - 1)) (length s) s) in
+    let found = c.in_ok-read_members-in-Object in
     opened ∙ ap (parse_map object) found.ensures.ok ∙ ap (λ d. Some (d, c.read_members.new.reader)) (sym (view-Object found.field-0))
 
 pub read_items-items-preserved : goal.read_items-items-preserved

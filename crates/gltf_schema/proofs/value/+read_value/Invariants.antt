@@ -7,16 +7,13 @@ use Rattle.gltf_schema.proofs.Values.{items_before}
 use Rattle.gltf_schema.proofs.value.+read_value.Given as goal
 
 abbrev pub decreases-read_value : goal.decreases-read_value
-decreases-read_value l = 3 * l.depth + 1
-
-abbrev pub decreases-read_after : goal.decreases-read_after
-decreases-read_after l = 3 * l.depth
+decreases-read_value l = 2 * l.depth
 
 abbrev pub decreases-read_items : goal.decreases-read_items
-decreases-read_items l = 3 * l.depth + 2
+decreases-read_items l = 2 * l.depth + 1
 
 abbrev pub decreases-read_members : goal.decreases-read_members
-decreases-read_members l = 3 * l.depth + 2
+decreases-read_members l = 2 * l.depth + 1
 
 abbrev pub invariant-read_items-items : goal.invariant-read_items-items
 invariant-read_items-items l =

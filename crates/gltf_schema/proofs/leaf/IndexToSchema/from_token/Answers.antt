@@ -1,5 +1,4 @@
-use Rattle.std.proofs.Common.{◌≡◌, ◌∷◌, sym, subst, arith}
-use Rattle.json.specs.Reads.{token_of}
+use Rattle.std.proofs.Common.{◌≡◌, sym, subst, arith}
 use Rattle.gltf_base.specs.Indexes.{index_number}
 use Rattle.gltf_schema.specs.Kind.{IndexInto}
 use Rattle.gltf_schema.specs.Tree.{index}
@@ -13,5 +12,5 @@ returns-clause-read g c =
     let from = c.args.from.now in
     let n = c.in_ok-from_token.field-0 in
     let is : index_number c.from_number.result ≡ n = grind arith in
-    subst (λ i. ReadsAt (IndexInto named) (index i) from.depth (token_of c.args.token ∷ from.reader) c.from_token.new._from.reader) (sym is)
+    subst (λ i. ReadsAt (IndexInto named) (index i) from.depth from.reader c.from_token.new.from.reader) (sym is)
     (index_of_number named from.depth _ _ n c.in_ok-from_token.ensures.read)

@@ -1,6 +1,0 @@
-use Rattle.gltf_bench.proofs.Parts.{on_some}
-use Rattle.gltf_bench.proofs.Literals.{false_at}
-use Rattle.gltf_bench.proofs.literal.false_end.Goals as goal
-
-pub returns-clause-token : goal.returns-clause-token
-returns-clause-token c = on_some c.word_end.result (λ end is. false_at c.args.text.now c.args.at end is) c.word_end.ensures

@@ -1,0 +1,10 @@
+use Rattle.std.proofs.Common.{length, ◌-◌, ◌≡◌, ◌+◌, ◌≤◌, drop}
+use Rattle.std.specs.List.{prefix_len}
+use Rattle.json.specs.Run.{is_plain}
+use Rattle.gltf_schema.proofs.quoted.last_plain_end.Given as goal
+
+abbrev pub invariant-loop-end : goal.invariant-loop-end
+invariant-loop-end l = (l.at + prefix_len is_plain (drop l.at l.text) ≡ l.end + prefix_len is_plain (drop l.end l.text)) × (l.end ≤ length l.text)
+
+abbrev pub decreases-loop-end : goal.decreases-loop-end
+decreases-loop-end l = length l.text - l.end

@@ -45,7 +45,8 @@ impl<'a, R: Files> Folder<'a, R> {
     /// Returns a folder by its path, of which an empty one is the current folder. All files that
     /// are read have at most so many bytes together.
     pub fn new(rt: &'a R, path: &'a str, most_bytes: u64) -> Folder<'a, R>
-        ensures { result.left ≡ most_bytes }
+        ensures path { result.path.now ≡ path.now }
+        ensures left { result.left ≡ most_bytes }
     {
         Folder {
             rt,

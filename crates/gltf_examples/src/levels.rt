@@ -1,20 +1,17 @@
 //! Validates a type of its own, with a sink of its own that promises what it takes.
 #![tactic(auto)]
 
-ghost use Rattle.std.specs.Prelude.{◌≡◌, ◌+◌, ◌++◌, ◌∷◌, [], Bool, Some, codes, true};
+ghost use Rattle.std.specs.Prelude.{◌≡◌, ◌++◌, ◌∷◌, [], Bool, Some, codes, true};
 ghost use Rattle.gltf_base.specs.Lists.{ListName};
 ghost use Rattle.gltf_base.specs.Steps.{field};
 ghost use Rattle.gltf_schema.specs.Fields.{index_tree};
 ghost use Rattle.gltf_schema.specs.Kind.{IndexInto};
-ghost use Rattle.gltf_root.specs.Root.{root_tree};
-ghost use Rattle.gltf_validation_rules.specs.Context.{rules_of, under};
-ghost use Rattle.gltf_validation_rules.specs.SinkOutcome.{Walked};
 ghost use Rattle.gltf_validation.specs.ByType.{reports_by, no_reports};
 
 use anyhow::Result;
-use gltf_json::path::{Step, Steps};
+use gltf_json::path::Steps;
 use gltf_json::scene::Node;
-use gltf_json::validation::{Collect, Error, Rules, Sink, Stop, Validate};
+use gltf_json::validation::{Collect, Error, Rules, Sink, Stop, Validate, validate_member};
 use gltf_json::{Index, Root};
 
 /// The node that is seen from near, and the one that is seen from far.
@@ -42,32 +39,9 @@ impl Validate for Levels {
         path: &mut Steps<'a>,
         sink: &mut S,
     ) -> Result<(), Stop<S::Refusal>> {
-        member(&self.near, "near", rules, root, path, sink)?;
-        member(&self.far, "far", rules, root, path, sink)
+        validate_member(&self.near, "near", rules, root, path, sink)?;
+        validate_member(&self.far, "far", rules, root, path, sink)
     }
-}
-
-/// Validates a member, one step further.
-fn member<'a, T: Validate, S: Sink>(
-    value: &'a T,
-    name: &'static str,
-    rules: &Rules<'_>,
-    root: &Root,
-    path: &mut Steps<'a>,
-    sink: &mut S,
-) -> Result<(), Stop<S::Refusal>>
-    ensures { Walked S.next S.refuses path.old (S.state sink.old)
-        (λ base. reports_by T.kind (T.tree value.now) (T.own value.now)
-        (under (rules_of rules.now) (root_tree root.now)) (base ++ field name.now ∷ []))
-        (T.depth + 1) result path.new (S.state sink.new) }
-{
-    if path.is_full() {
-        return Err(Stop::StepsFull);
-    }
-    path.push(Step::Field(name));
-    let walked = value.validate_with(rules, root, path, sink);
-    path.pop();
-    walked
 }
 
 /// A sink that takes one report, and refuses the next with its fault.

@@ -19,6 +19,7 @@ pub struct Subtrees {
 impl Subtrees {
     ghost use Rattle.std.specs.Prelude.{◌≡◌, ◌<◌, ◌^◌, length, slice_get, IfOk, IfErr};
     ghost use Rattle.gltf_hierarchy.specs.Forest.{IsForest, IsHierarchyFault, IsOutOfMemory};
+    ghost use Rattle.gltf_hierarchy.specs.Faults.{IsFirstFault};
     ghost use Rattle.gltf_hierarchy.specs.Subtrees.{AreSubtrees, is_at_or_below, tree_roots};
 
     /// Returns the subtrees of nodes. Fails with a fault if the nodes are no forest. It takes time
@@ -33,6 +34,8 @@ impl Subtrees {
             → IfErr result IsOutOfMemory }
         // What the fault says is true.
         ensures fault { IfErr result (IsHierarchyFault (H.children nodes.now)) }
+        // It is the first fault.
+        ensures first { IfErr result (IsFirstFault (H.children nodes.now)) }
     {
         let count = nodes.node_count();
         if count > u32::MAX as usize {

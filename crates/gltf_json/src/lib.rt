@@ -84,7 +84,7 @@ pub mod root {
 /// Validation: the faults of a document, and reports of them.
 pub mod validation {
     pub use gltf_base::validation::{Checked, Error, USize64};
-    pub use gltf_validation::validation::Validate;
+    pub use gltf_validation::validation::{Validate, validate_member};
     pub use gltf_validation::{
         Clean, CleanError, Item, Refused, Report, TopLevelItem, ValidateRoot,
     };

@@ -2,6 +2,7 @@
 
 ghost use Rattle.std.specs.Prelude.{◌≡◌, ◌<◌, ◌^◌, length, IfOk, IfErr};
 ghost use Rattle.gltf_hierarchy.specs.Forest.{IsForest, IsParentsFirst, IsHierarchyFault, IsOutOfMemory, AreDepths, forest_order, forest_parents, forest_depths};
+ghost use Rattle.gltf_hierarchy.specs.Faults.{IsFirstFault};
 ghost use Rattle.gltf_hierarchy.specs.Parents.{AreParents};
 ghost use Rattle.gltf_load.specs.Named.{children_named};
 
@@ -45,6 +46,8 @@ pub fn forest_of(alloc: Global, nodes: &[Node]) -> Result<Forest, HierarchyFault
         → IfErr result IsOutOfMemory }
     // What the fault says is true.
     ensures fault { IfErr result (IsHierarchyFault (children_named nodes.now)) }
+    // It is the first fault.
+    ensures first { IfErr result (IsFirstFault (children_named nodes.now)) }
     // What the calls of a forest return.
     ensures order { IfOk result (λ f. IsParentsFirst (children_named nodes.now) (forest_order f)) }
     ensures parents { IfOk result (λ f. AreParents (children_named nodes.now)

@@ -51,3 +51,5 @@ pub mod Literals
 pub mod Escaped
 pub mod Plains
 pub mod Wholes
+pub mod Decimals
+pub mod Words

@@ -1,6 +1,6 @@
 -- The parts of a number, from a byte of the text on.
 use Rattle.std.specs.Prelude.{◌≡◌, ◌≤◌, ◌+◌, ◌++◌, ℕ, List, length, drop, Option, Some, true}
-use Rattle.std.specs.Str.Parse.{AllDigits, digits_value}
+use Rattle.std.specs.Str.Parse.{AllDigits, digits_value_after}
 use Rattle.json.specs.Word.{ends_word}
 use Rattle.json.specs.Lex.{in_word, lex}
 use Rattle.gltf_schema.specs.Lexemes.{bytes_between}
@@ -17,6 +17,6 @@ IsPart after text at end = (after (drop at text) ≡ Some (drop end text)) × Ru
 abbrev pub IsWordAt : List ℕ → ℕ → List ℕ → ℕ → Type 0
 IsWordAt text at word end = (drop at text ≡ word ++ drop end text) × (ends_word (drop end text) ≡ true) × (end ≤ length text)
 
--- at most 19 digits are between two places, and write a number
-abbrev pub HasDigits : List ℕ → ℕ → ℕ → ℕ → Type 0
-HasDigits text at end value = (at ≤ end) × (end ≤ at + 19) × (end ≤ length text) × AllDigits 10 (bytes_between text at end) × (value ≡ digits_value 10 (bytes_between text at end))
+-- at most so many digits are between two places, and write a number behind those of another
+abbrev pub HasDigits : List ℕ → ℕ → ℕ → ℕ → ℕ → ℕ → Type 0
+HasDigits text before at most end value = (at ≤ end) × (end ≤ at + most) × (end ≤ length text) × AllDigits 10 (bytes_between text at end) × (value ≡ digits_value_after 10 before (bytes_between text at end))

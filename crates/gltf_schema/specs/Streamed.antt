@@ -3,7 +3,7 @@ use Rattle.std.specs.Prelude.{◌≡◌, ◌⊎◌, ◌+◌, ◌++◌, ℕ, List
 use Rattle.std.specs.Str.{bytes_eq}
 use Rattle.json.specs.Token.{Token}
 use Rattle.json.specs.Json.{value}
-use Rattle.serde_json.specs.Data.{unsigned, Data, Members, put}
+use Rattle.serde_json.specs.Data.{Num, unsigned, Data, Members, put}
 use Rattle.serde_json.specs.Read.{number_of, of_json, converted}
 use Rattle.gltf_schema.specs.Tree.{Tree}
 use Rattle.gltf_schema.specs.Kind.{Mark, optional, Kind}
@@ -83,6 +83,10 @@ LeavesNext old ms ms' new = new.failed ≡ false → (old.failed ≡ false) × (
 
 -- ---- numbers
 
+-- the token that is next is a number
+abbrev pub IsNumberNext : List Token → Num → List Token → Type 0
+IsNumberNext ts n rest = (s : List ℕ) × (ts ≡ Token.number s ∷ rest) × (number_of s ≡ Some n)
+
 -- the token that is next is a whole number
 abbrev pub IsWholeNext : List Token → ℕ → List Token → Type 0
-IsWholeNext ts n rest = (s : List ℕ) × (ts ≡ Token.number s ∷ rest) × (number_of s ≡ Some (unsigned n))
+IsWholeNext ts n rest = IsNumberNext ts (unsigned n) rest

@@ -9,7 +9,6 @@ ghost use Rattle.gltf_schema.specs.Leaves.{checked_tree, choice_of, checked_tree
 
 use crate::list::{decode_items, place_items, read_items};
 use crate::list_writing::{ByTable, encode_items, print_items};
-use crate::numeral;
 use crate::outline::{Shape, add_node, spelling_shape};
 use crate::placing::{Refusal, whole_or_refused};
 use crate::printing::Printing;
@@ -146,8 +145,7 @@ impl Schema for Real {
     ghost is_never_absent = { λ _. refl };
 
     fn from_token<'a>(from: &mut Stream<'a>) -> Result<Real, Unread> {
-        let text = from.reader.number()?;
-        let number = numeral::parse(text).ok_or(Unread)?;
+        let number = from.reader.numeral()?;
         match Real::from_value(Value::Number(number)) {
             Ok(x) => Ok(x),
             Err(_) => Err(Unread),

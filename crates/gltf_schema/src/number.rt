@@ -1,6 +1,6 @@
 //! Where numbers end.
 
-ghost use Rattle.std.specs.Prelude.{◌≡◌, ◌⊎◌, ◌+◌, ◌<◌, ◌≤◌, IfSome, Some, length, drop, get_or, true};
+ghost use Rattle.std.specs.Prelude.{◌≡◌, ◌⊎◌, ◌+◌, ◌-◌, ◌^◌, ◌<◌, ◌≤◌, IfSome, Some, length, drop, get_or, true};
 ghost use Rattle.std.specs.List.{prefix_len};
 ghost use Rattle.std.specs.Char.{is_ascii_digit};
 ghost use Rattle.json.specs.Token.{number};
@@ -8,10 +8,13 @@ ghost use Rattle.json.specs.Word.{after_minus, after_digits, after_whole, after_
 ghost use Rattle.gltf_schema.specs.Lexemes.{IsTokenAt, bytes_between};
 ghost use Rattle.serde_json.specs.Data.{unsigned};
 ghost use Rattle.serde_json.specs.Read.{number_of};
+ghost use Rattle.serde_json.specs.View.{number_view};
 ghost use Rattle.gltf_schema.specs.NumberParts.{HasDigits, IsPart, RunsTo};
 
 use crate::bytes::{byte_at, is_delimiter};
 use crate::whole::MOST_DIGITS;
+use fast_float::from_parts;
+use serde_json::Number;
 
 /// Where the digits end.
 #[inline(always)]
@@ -44,7 +47,7 @@ fn minus_end(text: &[u8], at: usize) -> usize
     requires { at < length text.now }
     ensures rest { drop result text.now ≡ after_minus (drop at text.now) }
     ensures runs { RunsTo text.now at result }
-    ensures within { (at ≤ result) × (result ≤ length text.now) }
+    ensures within { (at ≤ result) × (result ≤ at + 1) × (result ≤ length text.now) }
     ensures minus { (get_or text.now at 0 ≡ 45) ⊎ (result ≡ at) }
 {
     if byte_at(text, at) == b'-' {
@@ -101,18 +104,33 @@ fn exponent_end(text: &[u8], at: usize) -> Option<usize>
     }
 }
 
-/// The number that digits write, and where they end: before a byte that is no digit, or behind the
-/// nineteenth.
+/// The place so many bytes further, or the end.
 #[inline(always)]
-fn few_digits(text: &[u8], at: usize) -> (usize, u64)
-    requires { at ≤ length text.now }
-    ensures value { HasDigits text.now at result.0 result.1 }
+fn at_most(at: usize, bytes: usize, length: usize) -> usize
+    requires { at ≤ length }
+    ensures { (result ≤ at + bytes) × (result ≤ length) }
+{
+    if length - at < bytes {
+        length
+    } else {
+        at + bytes
+    }
+}
+
+/// The number that digits write behind those of another, and where they end: before a byte that is
+/// no digit, or behind so many.
+#[inline(always)]
+fn few_digits(text: &[u8], at: usize, before: u64, most: usize) -> (usize, u64)
+    requires { (at ≤ length text.now) × (most ≤ 19) × (before < 10 ^ (19 - most)) }
+    ensures value { HasDigits text.now before at most result.0 result.1 }
+    ensures small { result.1 < 10 ^ (19 - most + (result.0 - at)) }
     ensures rest { at + prefix_len is_ascii_digit (drop at text.now)
         ≡ result.0 + prefix_len is_ascii_digit (drop result.0 text.now) }
 {
+    let last = at_most(at, most, text.len());
     let mut end = at;
-    let mut value = 0;
-    while end < text.len() && end - at < MOST_DIGITS && text[end].is_ascii_digit() {
+    let mut value = before;
+    while end < last && text[end].is_ascii_digit() {
         value = value * 10 + u64::from(text[end] - b'0');
         end += 1;
     }
@@ -130,7 +148,7 @@ pub(crate) fn whole_at(text: &[u8], at: usize) -> Option<(usize, u64)>
         number_of (bytes_between text.now at r.0) ≡ Some (unsigned r.1)) }
     ensures within { IfSome result (λ r. r.0 ≤ length text.now) }
 {
-    let (end, value) = few_digits(text, at);
+    let (end, value) = few_digits(text, at, 0, MOST_DIGITS);
     if end == at || !is_delimiter(byte_at(text, end)) {
         return None;
     }
@@ -139,6 +157,34 @@ pub(crate) fn whole_at(text: &[u8], at: usize) -> Option<(usize, u64)>
         return None;
     }
     Some((end, value))
+}
+
+/// Where the number ends that begins at a place, and what it is, if it has a point, no power of ten,
+/// and at most 19 digits.
+#[inline(always)]
+pub(crate) fn decimal_at(text: &[u8], at: usize) -> Option<(usize, Number)>
+    requires { at < length text.now }
+    ensures token { IfSome result (λ r.
+        IsTokenAt text.now at (number (bytes_between text.now at r.0)) r.0) }
+    ensures value { IfSome result (λ r.
+        number_of (bytes_between text.now at r.0) ≡ Some (number_view r.1)) }
+    ensures within { IfSome result (λ r. r.0 ≤ length text.now) }
+{
+    let first = minus_end(text, at);
+    let (point, whole) = few_digits(text, first, 0, MOST_DIGITS);
+    if point == first || byte_at(text, point) != b'.' {
+        return None;
+    }
+    if byte_at(text, first) == b'0' && point != first + 1 {
+        return None;
+    }
+    let (end, digits) = few_digits(text, point + 1, whole, MOST_DIGITS - (point - first));
+    if end == point + 1 || !is_delimiter(byte_at(text, end)) {
+        return None;
+    }
+    let places = end - (point + 1);
+    let number = Number::from_f64(from_parts(first != at, digits, -(places as i64)))?;
+    Some((end, number))
 }
 
 /// Where the number ends that begins at a place.

@@ -100,7 +100,11 @@ pub(crate) fn text_end(text: &[u8], at: usize) -> Option<usize>
 {
     let mut end = plain_end(text, at + 1);
     while byte_at(text, end) == b'\\' && end + 1 < text.len() {
-        end = plain_end(text, end + 2);
+        end += 2;
+        // One escape often stands behind another.
+        if byte_at(text, end) != b'\\' {
+            end = plain_end(text, end);
+        }
     }
     if byte_at(text, end) == b'"' {
         Some(end + 1)

@@ -6,14 +6,17 @@ ghost use Rattle.json.specs.Token.{begin_object, begin_array, string, number, bo
 ghost use Rattle.json.specs.Lex.{tokens};
 ghost use Rattle.json.specs.Json.{after_end_array, read_key};
 ghost use Rattle.gltf_schema.specs.Lexemes.{begins_behind, ends_behind, IsBehindComma, IsNoNull};
-ghost use Rattle.gltf_schema.specs.Streamed.{IsWholeNext};
+ghost use Rattle.serde_json.specs.View.{number_view};
+ghost use Rattle.gltf_schema.specs.Streamed.{IsNumberNext, IsWholeNext};
 
 use crate::bytes::{byte_at, next_at};
 use crate::literal::{false_end, null_end, true_end};
-use crate::number::{number_end, whole_at};
+use crate::number::{decimal_at, number_end, whole_at};
+use crate::numeral;
 use crate::quoted::{plain_text_end, text_end, unescaped};
 use crate::stream::Unread;
 use json::Scratch;
+use serde_json::Number;
 use std::alloc::Global;
 use std::marker::Model;
 
@@ -184,12 +187,61 @@ impl<'a> Reader<'a> {
         Ok(())
     }
 
+    /// Returns the name of the member that is next, or takes the brace that ends an object and
+    /// returns `None`.
+    #[inline(always)]
+    pub(crate) fn member_name(
+        &mut self,
+        alloc: Global,
+        scratch: &mut Scratch<Global>,
+    ) -> Result<Option<String>, Unread>
+        ensures { IfOk result (λ k. read_key self.old
+            ≡ Some (option_map string_bytes k, self.new)) }
+    {
+        match self.next_key() {
+            Ok(Some(name)) => Ok(Some(String::from_str(alloc, name)?)),
+            Ok(None) => Ok(None),
+            Err(Unread) => Ok(Some(self.escaped_key(alloc, scratch)?)),
+        }
+    }
+
+    #[inline(never)]
+    pub(crate) fn escaped_key(
+        &mut self,
+        alloc: Global,
+        scratch: &mut Scratch<Global>,
+    ) -> Result<String, Unread>
+        ensures { IfOk result (λ s. read_key self.old ≡ Some (Some (string_bytes s), self.new)) }
+    {
+        let text = self.text;
+        let bytes = text.as_bytes();
+        let first = next_at(bytes, self.at);
+        let Some(at) = past_comma(bytes, first, self.before) else {
+            return Err(Unread);
+        };
+        if byte_at(bytes, at) != b'"' {
+            return Err(Unread);
+        }
+        let Some(end) = text_end(bytes, at) else {
+            return Err(Unread);
+        };
+        let next = next_at(bytes, end);
+        if byte_at(bytes, next) != b':' {
+            return Err(Unread);
+        }
+        let found = unescaped(alloc, scratch, &text[at..end])?;
+        self.at = next + 1;
+        self.before = Before::Nothing;
+        Ok(found)
+    }
+
     /// Returns the name of the member that is next, if nothing in it is escaped, or takes the brace
-    /// that ends an object and returns `None`.
+    /// that ends an object and returns `None`. Else nothing is taken.
     #[inline(always)]
     pub fn next_key(&mut self) -> Result<Option<&'a str>, Unread>
-        ensures { IfOk result (λ k. read_key self.old
+        ensures key { IfOk result (λ k. read_key self.old
             ≡ Some (option_map (λ s. s.now) k, self.new)) }
+        ensures stays { OnErr result (self.new ≡ self.old) }
     {
         let text = self.text;
         let bytes = text.as_bytes();
@@ -255,6 +307,31 @@ impl<'a> Reader<'a> {
         self.at = end;
         self.before = Before::Value;
         Ok(value)
+    }
+
+    /// Returns the number that is next, as `serde_json` reads it.
+    #[inline(always)]
+    pub(crate) fn numeral(&mut self) -> Result<Number, Unread>
+        ensures { IfOk result (λ n. IsNumberNext self.old (number_view n) self.new) }
+    {
+        let bytes = self.text.as_bytes();
+        let at = next_at(bytes, self.at);
+        if at == bytes.len() || !self.before.may_begin() {
+            return Err(Unread);
+        }
+        let Some((end, number)) = decimal_at(bytes, at) else {
+            return self.any_numeral();
+        };
+        self.at = end;
+        self.before = Before::Value;
+        Ok(number)
+    }
+
+    #[inline(never)]
+    fn any_numeral(&mut self) -> Result<Number, Unread>
+        ensures { IfOk result (λ n. IsNumberNext self.old (number_view n) self.new) }
+    {
+        numeral::parse(self.number()?).ok_or(Unread)
     }
 
     /// How the value that is next begins, by its first byte.

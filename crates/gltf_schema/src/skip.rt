@@ -1,7 +1,8 @@
 //! Values that are passed. None is made of them.
 
-ghost use Rattle.std.specs.Prelude.{◌≡◌, ◌<◌, length, Some, OnOk};
-ghost use Rattle.json.specs.Json.{skip_value};
+ghost use Rattle.std.specs.Prelude.{◌≡◌, ◌<◌, ℕ, List, length, Some, None, IfOk, OnOk};
+ghost use Rattle.std.specs.Bool.{MatchBool};
+ghost use Rattle.json.specs.Json.{read_key, skip_value};
 ghost use Rattle.json.specs.Reads.{skip_items, skip_members};
 
 use crate::reader::{Reader, Start};
@@ -90,9 +91,27 @@ impl<'a> Reader<'a> {
         ensures value { OnOk result (skip_members depth self.old ≡ Some self.new) }
         ensures shorter { OnOk result (length self.new < length self.old) }
     {
-        'members: while let Some(_name) = self.next_key()? {
+        'members: while self.skip_name(alloc, scratch)? {
             self.skip_value(alloc, scratch, depth)?;
         }
         Ok(())
+    }
+
+    /// Passes the name of the member that is next, or takes the brace that ends an object. Returns
+    /// whether there is a member.
+    #[inline(always)]
+    fn skip_name(&mut self, alloc: Global, scratch: &mut Scratch<Global>) -> Result<bool, Unread>
+        ensures { IfOk result (λ b. MatchBool b
+            ((k : List ℕ) × (read_key self.old ≡ Some (Some k, self.new)))
+            (read_key self.old ≡ Some (None, self.new))) }
+    {
+        match self.next_key() {
+            Ok(Some(_plain)) => Ok(true),
+            Ok(None) => Ok(false),
+            Err(Unread) => {
+                let _name = self.escaped_key(alloc, scratch)?;
+                Ok(true)
+            }
+        }
     }
 }

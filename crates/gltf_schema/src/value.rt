@@ -1,13 +1,13 @@
 //! Values of JSON, made of a text in one pass.
 
-ghost use Rattle.std.specs.Prelude.{◌≡◌, ◌<◌, length, Some, IfOk, OnOk};
+ghost use Rattle.std.specs.Prelude.{◌≡◌, ◌+◌, ◌<◌, ◌≤◌, length, take, drop, Some, IfOk, OnOk};
+ghost use Rattle.std.specs.Int.{w64, from_le_bytes};
 ghost use Rattle.std.specs.Str.{bytes_eq};
 ghost use Rattle.json.specs.Json.{value, items, members};
 ghost use Rattle.serde_json.specs.Data.{no_members};
 ghost use Rattle.serde_json.specs.Read.{of_json, of_items, of_members, converted};
 ghost use Rattle.serde_json.specs.View.{view, items_view, members_view};
 
-use crate::numeral;
 use crate::reader::{Reader, Start};
 use crate::stream::Unread;
 use json::Scratch;
@@ -30,7 +30,10 @@ pub(crate) fn read_value<'a>(
 {
     match reader.start() {
         Start::Text => Ok(Value::String(reader.text(alloc, scratch)?)),
-        Start::Number => Ok(Value::Number(numeral::parse(reader.number()?).ok_or(Unread)?)),
+        Start::Number => {
+            let number = reader.numeral()?;
+            Ok(Value::Number(number))
+        }
         Start::Truth => Ok(Value::Bool(reader.boolean()?)),
         Start::Null => {
             if reader.take_null()? {
@@ -92,15 +95,15 @@ fn read_members<'a>(
     ensures shorter { OnOk result (length reader.new < length reader.old) }
 {
     let mut found = Map::new(alloc);
-    'members: while let Some(name) = reader.next_key()? {
+    'members: while let Some(name) = reader.member_name(alloc, scratch)? {
         let member = read_value(alloc, scratch, reader, depth)?;
-        drop(found.insert(String::from_str(alloc, name)?, member)?);
+        drop(found.insert(name, member)?);
     }
     Ok(found)
 }
 
-/// Whether two names are the same. Names of one length mostly differ in the last byte, so the bytes
-/// are compared from the last to the first.
+/// Whether two names are the same. Names of one length mostly differ in the last bytes, so the bytes
+/// are compared from the last to the first, eight at a time while there are as many.
 #[inline(always)]
 pub(crate) fn is_same(a: &str, b: &str) -> bool
     ensures { result ≡ bytes_eq a.now b.now }
@@ -111,6 +114,12 @@ pub(crate) fn is_same(a: &str, b: &str) -> bool
         return false;
     }
     let mut i = n;
+    'words: while i >= 8 {
+        i -= 8;
+        if word_at(x, i) != word_at(y, i) {
+            return false;
+        }
+    }
     while i > 0 {
         i -= 1;
         if x[i] != y[i] {
@@ -118,4 +127,16 @@ pub(crate) fn is_same(a: &str, b: &str) -> bool
         }
     }
     true
+}
+
+/// The eight bytes from a place on, as a number.
+#[inline(always)]
+fn word_at(bytes: &[u8], at: usize) -> u64
+    requires { at + 8 ≤ length bytes.now }
+    ensures { result ≡ from_le_bytes w64 (take 8 (drop at bytes.now)) }
+{
+    match bytes[at..].first_chunk() {
+        Some(eight) => u64::from_le_bytes(*eight),
+        None => unreachable!(),
+    }
 }

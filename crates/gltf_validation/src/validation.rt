@@ -20,6 +20,7 @@ mod table;
 mod within;
 
 pub use table::{SchemaObject, SchemaType};
+pub use within::validate_member;
 
 /// A type that can be validated.
 pub trait Validate {

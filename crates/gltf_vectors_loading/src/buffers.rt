@@ -341,9 +341,30 @@ fn is_given_while_there(rt: &HostRuntime) -> Result<bool, io::Error> {
     Ok(given)
 }
 
+/// A folder inside the current one, and the path from there to its file.
+const SUBFOLDER: &str = "gltf_buffers_test";
+
+const FILE_OF_SUBFOLDER: &str = "gltf_buffers_test/gltf_buffers_test.bin";
+
+/// Whether a file of a subfolder is given by its name in that folder, and by its path in the one
+/// above, and not by its name there.
+fn is_given_in_a_subfolder(rt: &HostRuntime) -> Result<bool, io::Error> {
+    fs::create_dir(rt, SUBFOLDER)?;
+    fs::write(rt, FILE_OF_SUBFOLDER, &[1, 2, 3])?;
+    let mut inside = Folder::new(rt, SUBFOLDER, 3);
+    let mut above = Folder::new(rt, "", 3);
+    let given = matches!(ask(&mut inside, rt.alloc(), FILE), Answer::File)
+        && matches!(ask(&mut above, rt.alloc(), FILE), Answer::NoFile)
+        && matches!(ask(&mut above, rt.alloc(), FILE_OF_SUBFOLDER), Answer::File);
+    fs::remove_file(rt, FILE_OF_SUBFOLDER)?;
+    fs::remove_dir(rt, SUBFOLDER)?;
+    Ok(given)
+}
+
 #[test]
 fn a_folder_gives_files_up_to_its_limit(rt: HostRuntime) -> Result<(), Fail> {
     holds(is_given_while_there(&rt)?, "a file that is there")?;
+    holds(is_given_in_a_subfolder(&rt)?, "a file of a subfolder")?;
     holds(are_others_refused(&rt), "other files")
 }
 

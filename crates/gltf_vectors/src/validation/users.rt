@@ -1,21 +1,18 @@
 //! Types of users: a key that reports nothing, and a pair of indexes with a map of more.
 
-ghost use Rattle.std.specs.Prelude.{◌≡◌, ◌+◌, ◌++◌, ◌∷◌, [], Some, None, codes};
+ghost use Rattle.std.specs.Prelude.{◌++◌, ◌∷◌, [], Some, None, codes};
 ghost use Rattle.std.specs.String.{string_bytes};
 ghost use Rattle.gltf_base.specs.Lists.{ListName};
 ghost use Rattle.gltf_base.specs.Steps.{field};
 ghost use Rattle.gltf_schema.specs.Fields.{index_tree};
 ghost use Rattle.gltf_schema.specs.Kind.{IndexInto};
 ghost use Rattle.gltf_schema.specs.Tree.{absent};
-ghost use Rattle.gltf_root.specs.Root.{root_tree};
-ghost use Rattle.gltf_validation_rules.specs.Context.{rules_of, under};
-ghost use Rattle.gltf_validation_rules.specs.SinkOutcome.{Walked};
 ghost use Rattle.gltf_validation.specs.ByType.{reports_by, reports_in, each_entry, no_reports};
 
 use crate::shows;
 use gltf_base::{KeyStep, Step, Steps};
 use gltf_json::scene::Node;
-use gltf_json::validation::{Collect, Rules, Sink, Stop, Validate};
+use gltf_json::validation::{Collect, Rules, Sink, Stop, Validate, validate_member};
 use gltf_json::{Error, Index, Root};
 use std::alloc::Global;
 use std::collections::BTreeMap;
@@ -74,33 +71,10 @@ impl Validate for Pair {
         path: &mut Steps<'a>,
         sink: &mut S,
     ) -> Result<(), Stop<S::Refusal>> {
-        member(&self.left, "left", rules, root, path, sink)?;
-        member(&self.right, "right", rules, root, path, sink)?;
-        member(&self.tags, "tags", rules, root, path, sink)
+        validate_member(&self.left, "left", rules, root, path, sink)?;
+        validate_member(&self.right, "right", rules, root, path, sink)?;
+        validate_member(&self.tags, "tags", rules, root, path, sink)
     }
-}
-
-/// Validates a member, one step further.
-fn member<'a, T: Validate, S: Sink>(
-    value: &'a T,
-    name: &'static str,
-    rules: &Rules<'_>,
-    root: &Root,
-    path: &mut Steps<'a>,
-    sink: &mut S,
-) -> Result<(), Stop<S::Refusal>>
-    ensures { Walked S.next S.refuses path.old (S.state sink.old)
-        (λ base. reports_by T.kind (T.tree value.now) (T.own value.now)
-        (under (rules_of rules.now) (root_tree root.now)) (base ++ field name.now ∷ []))
-        (T.depth + 1) result path.new (S.state sink.new) }
-{
-    if path.is_full() {
-        return Err(Stop::StepsFull);
-    }
-    path.push(Step::Field(name));
-    let walked = value.validate_with(rules, root, path, sink);
-    path.pop();
-    walked
 }
 
 /// A pair whose indexes are all 0, one of them tagged `a`.

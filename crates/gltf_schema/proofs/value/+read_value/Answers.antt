@@ -1,11 +1,11 @@
-use Rattle.std.proofs.Common.{◌≡◌, ◌-◌, ◌<◌, [], ◌∷◌, ◌++◌, length, Some, None, sym, ap, ◌∙◌, arith}
+use Rattle.std.proofs.Common.{◌≡◌, ◌-◌, ◌<◌, [], ◌∷◌, ◌++◌, length, string_bytes, Some, None, sym, ap, ◌∙◌, arith}
 use Rattle.json.specs.Token.{Token}
 use Rattle.json.specs.Json.{parse_map, after_end_array, read_key, items, members, value}
-use Rattle.gltf_schema.proofs.OneToken.{when_true}
+use Rattle.gltf_schema.proofs.OneToken.{when_true, number_at}
 use Rattle.json.proofs.Grammar.{value_is, value-begin_array, value-begin_object, read_key-shorter}
 use Rattle.serde_json.specs.Data.{array, object, put}
 use Rattle.serde_json.specs.Read.{of_json, of_items, of_members, converted}
-use Rattle.serde_json.specs.View.{view, members_view}
+use Rattle.serde_json.specs.View.{view, members_view, number_view}
 use Rattle.serde_json.proofs.Views.{view-Array, view-Object, members_view-insert_entry}
 use Rattle.gltf_schema.proofs.Values.{view-String, view-Number, view-Bool, view-Null, items_before, items_before-no_items, one_more_item}
 use Rattle.gltf_schema.proofs.Turns.{converted-array, converted-object, item_read, items_over, member_read, members_over}
@@ -25,11 +25,11 @@ read_value-returns-then-branch-clause-ok t c =
     let is : c.args.reader.now ≡ Token.null ∷ c.take_null.new.self = when_true _ _ c.in_ok-take_null-in-Null.field-0 c.if-branch.true c.in_ok-take_null-in-Null.ensures in
     ap (converted of_json) (ap (value c.args.depth) is ∙ value_is c.args.depth _) ∙ ap (λ d. Some (d, c.take_null.new.self)) (sym view-Null)
 
-pub read_value-returns-in_ok-ok_or-in-Number-clause-ok : goal.read_value-returns-in_ok-ok_or-in-Number-clause-ok
-read_value-returns-in_ok-ok_or-in-Number-clause-ok t c =
-    let x = c.in_ok-ok_or-in-Number.field-0 in
-    let parsed : c.parse.result ≡ Some x = grind arith in
-    ap (converted of_json) (ap (value c.args.depth) c.in_ok-number-in-Number.ensures ∙ value_is c.args.depth _) ∙ rw (← c.parse.ensures, parsed, view-Number x)
+pub read_value-returns-in_ok-number-in-Number-clause-ok : goal.read_value-returns-in_ok-number-in-Number-clause-ok
+read_value-returns-in_ok-number-in-Number-clause-ok t c =
+    let n = c.in_ok-number-in-Number in
+    let rest = c.numeral.new.self in
+    ap (λ ts. converted of_json (value c.args.depth ts)) n.ensures.1 ∙ number_at c.args.depth n.ensures.0 rest (number_view n.number) n.ensures.2 ∙ ap (λ d. Some (d, rest)) (sym (view-Number n.number))
 
 pub read_value-returns-in_ok-read_items-in-Array-clause-ok : goal.read_value-returns-in_ok-read_items-in-Array-clause-ok
 read_value-returns-in_ok-read_items-in-Array-clause-ok t c =
@@ -78,17 +78,17 @@ read_members-members-preserved t c =
     let l = c.members in
     let n = l.invariant.0 in
     let old = members_view l.found.entries in
-    let k = c.in-Some.name.now in
-    let s = c.next_key.new.self in
+    let name = c.in-Some.name in
+    let k = string_bytes name in
+    let s = c.member_name.new.self in
     let named : read_key l.reader ≡ Some (Some k, s) = grind arith in
     let done = c.in_ok-member.ensures in
     let v = c.in_ok-member.member in
-    let key = c.in_ok-from_str.field-0 in
     let r = c.read_value.new.reader in
     let less = read_key-shorter l.reader (Some k) s named in
     let lesser = done.shorter in
     let put_last : members_view c.insert.new.self.entries ≡ put k (view v) old =
-    ap members_view c.in_ok-insert.ensures.entries ∙ members_view-insert_entry l.found.entries key v ∙ ap (λ x. put x (view v) old) c.in_ok-from_str.ensures.ok in (
+    ap members_view c.in_ok-insert.ensures.entries ∙ members_view-insert_entry l.found.entries name v in (
       n - 1,
       omega (arith, l.invariant.1),
       l.invariant.2 ∙ member_read p old n k l.reader s r (view v) (omega (arith, l.invariant.1)) named done.ok
@@ -102,4 +102,4 @@ read_members-returns-clause-ok t c =
     let l = c.members in
     let n = l.invariant.0 in
     let old = members_view l.found.entries in
-    l.invariant.2 ∙ members_over p old n l.reader c.next_key.new.self l.invariant.1 (grind arith)
+    l.invariant.2 ∙ members_over p old n l.reader c.member_name.new.self l.invariant.1 (grind arith)

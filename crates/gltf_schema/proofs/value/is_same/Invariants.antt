@@ -1,12 +1,15 @@
 use Rattle.std.proofs.Common.{◌≡◌, ℕ, ◌<◌, ◌≤◌, length, get_or}
+use Rattle.gltf_schema.proofs.Words.{IsSameFrom}
 use Rattle.gltf_schema.proofs.value.is_same.Given as goal
 
--- the bytes from `i` on agree
+abbrev pub invariant-words : goal.invariant-words
+invariant-words l = IsSameFrom l.x l.y l.i
+
+abbrev pub decreases-words : goal.decreases-words
+decreases-words l = l.i
+
 abbrev pub invariant-loop-i : goal.invariant-loop-i
-invariant-loop-i l = record {
-  within : l.i ≤ length l.x;
-  behind : (k : ℕ) → l.i ≤ k → k < length l.x → get_or l.x k 0 ≡ get_or l.y k 0;
-}
+invariant-loop-i l = IsSameFrom l.x l.y l.i
 
 abbrev pub decreases-loop-i : goal.decreases-loop-i
 decreases-loop-i l = l.i

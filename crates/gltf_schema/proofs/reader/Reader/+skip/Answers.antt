@@ -3,7 +3,7 @@ use Rattle.json.specs.Token.{Token}
 use Rattle.json.specs.Json.{after_end_array, read_key, value, skip_value}
 use Rattle.json.specs.Reads.{skip_items, skip_members}
 use Rattle.json.proofs.Grammar.{left, left-parse_map, value_is, value-begin_array, value-begin_object, read_key-shorter, items_end, members_end, skip_item, skip_member}
-use Rattle.gltf_schema.proofs.OneToken.{when_true}
+use Rattle.gltf_schema.proofs.OneToken.{when_true, when_false}
 use Rattle.gltf_schema.proofs.reader.Reader.+skip.Goals as goal
 
 pub skip_items-items-preserved : goal.skip_items-items-preserved
@@ -27,9 +27,10 @@ skip_members-members-preserved t c =
     let p = value c.args.depth in
     let l = c.members in
     let n = l.invariant.0 in
-    let k = c.in-Some._name.now in
-    let s = c.next_key.new.self in
-    let key : read_key l.self ≡ Some (Some k, s) = grind arith in
+    let s = c.skip_name.new.self in
+    let named = when_true _ _ c.in_ok-skip_name.field-0 c.if-branch.true c.in_ok-skip_name.ensures in
+    let k = named.0 in
+    let key : read_key l.self ≡ Some (Some k, s) = named.1 in
     let less = read_key-shorter l.self (Some k) s key in
     let lesser = c.in_ok-skip_value.ensures.shorter in
     (n - 1, omega (arith, l.invariant.1), l.invariant.2 ∙ skip_member p n l.self s _ k (omega (arith, l.invariant.1)) key c.in_ok-skip_value.ensures.value, omega (arith, l.invariant.3))
@@ -39,7 +40,7 @@ skip_members-returns-clause-value t c =
     let p = value c.args.depth in
     let l = c.members in
     let n = l.invariant.0 in
-    l.invariant.2 ∙ ap left (members_end p n l.self c.next_key.new.self l.invariant.1 (grind arith))
+    l.invariant.2 ∙ ap left (members_end p n l.self c.skip_name.new.self l.invariant.1 (when_false _ _ c.in_ok-skip_name.field-0 c.if-branch.false c.in_ok-skip_name.ensures))
 
 pub skip_value-returns-in-Ok-clause-value : goal.skip_value-returns-in-Ok-clause-value
 skip_value-returns-in-Ok-clause-value t c =

@@ -8,8 +8,8 @@ use Rattle.gltf_schema.proofs.NextTokens.{key_next, object_over}
 use Rattle.gltf_schema.proofs.Parts.{boundary_behind}
 use Rattle.gltf_schema.proofs.reader.Reader.next_key.Goals as goal
 
-pub returns-then-byte_at-eq125 : goal.returns-then-byte_at-eq125
-returns-then-byte_at-eq125 c =
+pub returns-then-byte_at-eq125-clause-key : goal.returns-then-byte_at-eq125-clause-key
+returns-then-byte_at-eq125-clause-key c =
     let a = c.self.inside in
     let d = a.text.now in
     let first = c.next_at-first.result in
@@ -25,8 +25,8 @@ range-requires-clause-start_boundary c some =
     let value : c.byte_at-2.result ≡ get_or d c.in-Some.at 32 = rw (← same) c.byte_at-2.ensures.value in
     boundary_behind d c.in-Some.at 34 (subst IsUtf8 same c.as_bytes-bytes.ensures.utf8) (omega arith) (λ z. omega arith) (omega arith)
 
-pub returns : goal.returns
-returns c =
+pub returns-clause-key : goal.returns-clause-key
+returns-clause-key c =
     let a = c.self.inside in
     let d = a.text.now in
     let first = c.next_at-first.result in

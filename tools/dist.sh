@@ -4,10 +4,10 @@
 #
 #   tools/dist.sh [FOLDER]     writes into FOLDER, or into out/ at the top
 #
-# It packs the proved builds: `rt run` in crates/gltf_lint and crates/gltf_report and `rt lib` in
-# crates/gltf_c make them, and `rt ci` too. It needs cc, ar, python3, tar, gzip and sha256sum.
-# docs/C.md says what is in the archive. The same builds and tools, at one commit, give the same
-# bytes. It doesn't ask whether the builds are current: `rt ci` at this commit makes them so.
+# It packs the proved builds. `rt run` in crates/gltf_lint and in crates/gltf_report makes the programs,
+# as `rt ci` does; `rt lib` in crates/gltf_c makes the library. It needs cc, ar, python3, tar, gzip and
+# sha256sum. docs/C.md says what is in the archive. The same builds and tools, at one commit, give the
+# same bytes. It doesn't ask whether the builds are current.
 set -euo pipefail
 export LC_ALL=C
 case ${1:-} in
